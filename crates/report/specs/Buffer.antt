@@ -1,0 +1,18 @@
+-- 01, "The report": a report in the host's buffer. Definitions only.
+use Prim.Native.Nat.{ℕ}
+use mathlib.Core.Bool.{cond}
+use mathlib.Core.List.{List, _++_}
+use lib.ListN.{length, drop, replicate}
+use lib.Dec.{leb}
+use Rattle.numset.specs.Runs.{MAX}
+
+-- what the entry hands back, and the buffer that it leaves
+pub record Handed : Type 0 where
+  pub number : ℕ
+  pub buffer : List ℕ
+
+-- the report's length, and its bytes before those that were there; or, where it does not fit, MAX and zeros throughout
+unfoldable pub inBuffer : List ℕ → List ℕ → Handed
+inBuffer out report = cond (leb (length report) (length out))
+    (record { number = length report; buffer = report ++ drop (length report) out })
+    (record { number = MAX; buffer = replicate (length out) 0 })
