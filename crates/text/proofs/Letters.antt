@@ -11,7 +11,7 @@ use lib.Dec.{leb, ltb, lit<}
 use lib.ListN.{length, getD, drop, drop-of-length-le}
 use lib.Seq.{drop-cons}
 use borrow.Author.Tests.{le-leb, lt-leb, ne-eqb, leb-true, ltb-true, ltb-false}
-use Rattle.text.specs.Words.{MAX, pick, parts, digit, letters, allDigits, said, plain, good, wordHere, nextIn, nextWord}
+use Rattle.text.specs.Words.{MAX, mostDigits, pick, parts, digit, letters, allDigits, said, plain, good, wordHere, nextIn, nextWord}
 use Rattle.text.specs.Kinds.{kindOf, kindAt}
 use Rattle.text.specs.declared.words.Read.the-variants.{Word, Refused}
 
@@ -152,11 +152,11 @@ not-digits w e = rw e
 
 not-plain : (w : List ℕ) → plain w ≡ false → good w ≡ false
 unfolding good
-not-plain w e = rw (e, and-false (leb (length w) 20), and-false (allDigits w))
+not-plain w e = rw (e, and-false (leb (length w) mostDigits), and-false (allDigits w))
 
 too-large : (w : List ℕ) → MAX < said 0 w → good w ≡ false
 unfolding good
-too-large w h = rw (lt-leb (said 0 w) MAX h, and-false (plain w), and-false (leb (length w) 20), and-false (allDigits w))
+too-large w h = rw (lt-leb (said 0 w) MAX h, and-false (plain w), and-false (leb (length w) mostDigits), and-false (allDigits w))
 
 refused : (l : List ℕ) (at : ℕ) → good (letters l) ≡ false → Refused 13 ≡ wordHere l at
 unfolding wordHere pick
@@ -200,10 +200,10 @@ first-digit b w e z = ⊎-elim (λ p. let q : 48 ≤ b = leb-true 48 b p in low 
     low : {b : ℕ} → 48 ≤ b → (b ≡ 48 → ⊥) → 48 < b
     low q z = omega arith
 
--- with no zero first, more than 20 digits say more than MAX
-few : (b : ℕ) (w : List ℕ) → 48 < b → said 0 (b ∷ w) ≤ MAX → length (b ∷ w) ≤ 20
+-- with no zero first, more digits than that say more than MAX
+few : (b : ℕ) (w : List ℕ) → 48 < b → said 0 (b ∷ w) ≤ MAX → length (b ∷ w) ≤ mostDigits
 unfolding said
-few b w h k = ⊎-elim (λ p. omega arith) (λ q. absurd (clash (pow-le-pow-right (lit< tt) q) many k (lit< tt))) (lt-or-ge (length w) 20)
+few b w h k = ⊎-elim (λ p. omega arith) (λ q. absurd (clash (pow-le-pow-right (lit< tt) q) many k (lit< tt))) (lt-or-ge (length w) mostDigits)
   where
     many : 10 ^ length w ≤ said (0 * 10 + (b - 48)) w
     many = rw (zero-add (length w)) at (scales w 0 (0 * 10 + (b - 48)) (omega arith))
@@ -245,8 +245,8 @@ module _ (s : List ℕ) (at i n d : ℕ) (g : Going s at i n) (e : d ≡ kindAt 
     is-good b w ls y =
         let l : 48 < b = first-digit b w (rw ls at all-digits) y in
         let v : said 0 (letters (drop at s)) ≤ MAX = omega (arith, says-n) in
-        let k : length (b ∷ w) ≤ 20 = few b w l (rw ls at v) in
-        rw (all-digits, says-n, le-leb n MAX f, ls, le-leb (length (b ∷ w)) 20 k, ne-eqb b 48 y)
+        let k : length (b ∷ w) ≤ mostDigits = few b w l (rw ls at v) in
+        rw (all-digits, says-n, le-leb n MAX f, ls, le-leb (length (b ∷ w)) mostDigits k, ne-eqb b 48 y)
 
     pub is-word : Word n i ≡ wordHere (drop at s) at
     is-word =

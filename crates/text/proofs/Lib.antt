@@ -1,3 +1,3 @@
-pub mod Letters
+mod Letters
 pub mod Supplies
 pub mod Digits

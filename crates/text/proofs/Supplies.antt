@@ -8,7 +8,7 @@ use lib.Dec.{leb}
 use lib.ListN.{length, getD, drop, length-drop}
 use lib.Seq.{drop-drop}
 use borrow.Author.Tests.{leb-true}
-use Rattle.text.specs.Words.{MAX, textEnds, badWord, pick, parts, letters, allDigits, said, plain, good, wordHere, nextIn, nextWord, ends, gives, begun, runs, supplied, supply, supplyFrom}
+use Rattle.text.specs.Words.{MAX, mostDigits, textEnds, badWord, pick, parts, letters, allDigits, said, plain, good, wordHere, nextIn, nextWord, ends, gives, begun, runs, supplied, supply, supplyFrom}
 use Rattle.text.specs.declared.words.Read.the-variants.{Word, Refused}
 
 -- after a word's letters the next one begins anew
@@ -33,7 +33,7 @@ letters-within (b ∷ s) = by-part (parts b) refl (letters-within s)
 -- what a good word says is at most MAX
 good-fits : (w : List ℕ) → good w ≡ true → said 0 w ≤ MAX
 unfolding good
-good-fits w e = leb-true (said 0 w) MAX (last (allDigits w) (leb (length w) 20) (plain w) (leb (said 0 w) MAX) e)
+good-fits w e = leb-true (said 0 w) MAX (last (allDigits w) (leb (length w) mostDigits) (plain w) (leb (said 0 w) MAX) e)
   where
     last : (a b c d : Bool) → (a && (b && (c && d))) ≡ true → d ≡ true
     last true true true d e = e

@@ -23,7 +23,12 @@ const BAD: u64 = 11;
 
 const TEN: u64 = 10;
 
+// The largest number that a word says, and its parts before the last digit and there.
 const MAX: u64 = 0xffff_ffff_ffff_ffff;
+
+const MAX_TENTH: u64 = MAX / TEN;
+
+const MAX_LAST: u64 = MAX % TEN;
 
 // The numbers of 01 that end the reading.
 const TEXT_ENDS: u64 = 1;
@@ -80,10 +85,10 @@ fn most_before(d: u64) -> u64
     requires { ⌜ d < 10 ⌝ }
     ensures { λ r. ⌜ r ≡ (Words·MAX - d) / 10 ⌝ }
 {
-    if MAX % TEN < d {
-        return MAX / TEN - 1;
+    if MAX_LAST < d {
+        return MAX_TENTH - 1;
     }
-    MAX / TEN
+    MAX_TENTH
 }
 
 // The word that begins at `at` with a zero, which is 0 itself or bad.
