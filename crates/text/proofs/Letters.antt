@@ -23,7 +23,7 @@ lt-or-ge : (a b : ℕ) → (a < b) ⊎ (b ≤ a)
 lt-or-ge a b = ⊎-elim (λ e. inl (ltb-true a b e)) (λ e. inr (ltb-false a b e)) (either (ltb a b))
 
 -- ---- a byte's kind
-no-part : (b : ℕ) → 48 ≤ b → parts b ≡ false
+pub no-part : (b : ℕ) → 48 ≤ b → parts b ≡ false
 unfolding parts
 no-part b h = rw (ne-eqb b 32 (λ e. omega arith), ne-eqb b 10 (λ e. omega arith))
 
