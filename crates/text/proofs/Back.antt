@@ -1,16 +1,16 @@
 -- A number's digits are a good word that says the number: what is written reads back. Assumes nothing.
-use Prim.Native.Nat.{ℕ, zero, suc, _+_, _*_, _-_, _/_, _%_, _≤_, _<_}
+use Prim.Native.Nat.{ℕ, zero, suc, _+_, _*_, _-_, _/_, _%_, _≤_}
 use mathlib.Core.Path.{_≡_, refl, sym, ap, _∙_}
-use mathlib.Core.Bool.{Bool, true, false, and-true, _&&_}
+use mathlib.Core.Bool.{Bool, true, false, false≢true}
 use mathlib.Core.List.{List, [], _∷_}
 use native.Mathlib.Omega.{arith}
 use lib.Dec.{leb, eqb}
 use lib.ListN.{length}
-use borrow.Author.Tests.{le-leb, ne-eqb, eqb-true, eqb-false, leb-true}
+use borrow.Author.Tests.{le-leb, ne-eqb, eqb-true, eqb-false}
 use Rattle.text.specs.Words.{MAX, mostDigits, textEnds, pick, parts, digit, letters, allDigits, said, plain, good, ends, gives, begun, runs, supplied, supply}
 use Rattle.text.specs.Decimals.{orElse, onto, decimal}
 use Rattle.text.proofs.Digits.{at-most-20}
-use Rattle.text.proofs.Letters.{no-part}
+use Rattle.text.proofs.Letters.{both-hold, no-part, within-digits}
 
 -- ---- the digits one by one
 says : (f n : ℕ) (l : List ℕ) → n ≤ f → said 0 (onto f n l) ≡ said n l
@@ -71,32 +71,25 @@ good-decimal n h =
     (rw (a, le-leb (length (decimal n)) mostDigits (at-most-20 n (omega arith)), p, m), v)
 
 -- ---- the digits as a text
-digit-stays : (b : ℕ) → digit b ≡ true → parts b ≡ false
-unfolding digit
-digit-stays b e = by-low (leb 48 b) refl
-  where
-    by-low : (t : Bool) → leb 48 b ≡ t → parts b ≡ false
-    by-low true f = no-part b (leb-true 48 b f)
-    by-low false f = let g : false ≡ true = rw f at e in let z : _≡_ {A = ℕ} 0 1 = cc in absurd (omega arith)
+stays : (b : ℕ) → digit b ≡ true → parts b ≡ false
+stays b e = no-part b (within-digits b e .0)
 
 -- digits alone are one word
 whole : (w : List ℕ) → allDigits w ≡ true → (letters w ≡ w) × (runs true w ≡ [])
 unfolding allDigits letters runs begun pick
 whole [] h = (refl, refl)
-whole (b ∷ w) h = by-digit (digit b) refl (λ k. whole w k)
-  where
-    by-digit : (t : Bool) → digit b ≡ t → (allDigits w ≡ true → (letters w ≡ w) × (runs true w ≡ [])) → (letters (b ∷ w) ≡ b ∷ w) × (runs true (b ∷ w) ≡ [])
-    by-digit true e r = let k = r (rw e at h) in rw (digit-stays b e) (ap (λ (l : List ℕ). b ∷ l) (k .0), k .1)
-    by-digit false e r = let g : false ≡ true = rw e at h in let z : _≡_ {A = ℕ} 0 1 = cc in absurd (omega arith)
+whole (b ∷ w) h =
+    let k = both-hold (digit b) (allDigits w) h in
+    let r = whole w (k .1) in
+    rw (stays b (k .0)) (ap (λ (l : List ℕ). b ∷ l) (r .0), r .1)
 
 one-word : (w : List ℕ) → allDigits w ≡ true → good w ≡ true → supply w ≡ gives (said 0 w) (ends textEnds)
 unfolding good allDigits plain supply supplied runs begun pick letters
-one-word [] a h = let z : _≡_ {A = ℕ} 0 1 = cc in absurd (omega arith)
-one-word (b ∷ w) a h = by-digit (digit b) refl
-  where
-    by-digit : (t : Bool) → digit b ≡ t → supply (b ∷ w) ≡ gives (said 0 (b ∷ w)) (ends textEnds)
-    by-digit true e = let k = whole w (rw e at a) in rw (digit-stays b e, k .0, k .1, h)
-    by-digit false e = let g : false ≡ true = rw e at a in let z : _≡_ {A = ℕ} 0 1 = cc in absurd (omega arith)
+one-word [] a h = absurd (false≢true h)
+one-word (b ∷ w) a h =
+    let k = both-hold (digit b) (allDigits w) a in
+    let r = whole w (k .1) in
+    rw (stays b (k .0), r .0, r .1, h)
 
 -- the digits of a number, as a text, give that number and end
 pub reads-back : (n : ℕ) → n ≤ MAX → supply (decimal n) ≡ gives n (ends textEnds)

@@ -6,11 +6,6 @@ use native.Mathlib.Omega.{arith}
 use borrow.Author.Needs.{needs}
 use Rattle.text_try.proofs.show_words.Statement.{statement}
 use Rattle.text_try.proofs.show_words.Tie as tie
-use Rattle.text_try.proofs.show_words.Reads as reads
-use Rattle.text_try.proofs.show_words.Lts as lts
-use Rattle.text.proofs.next_word.Reads as next-word-reads
-use Rattle.text_try.proofs.show_end.Reads as show-end-reads
-use Rattle.text_try.proofs.show_word.Reads as show-word-reads
 
 abbrev Inv-loop : tie.InvT-loop
 Inv-loop input at₀ at = at ≤ length input
