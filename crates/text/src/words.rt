@@ -3,7 +3,7 @@ ghost use mathlib.Core.Path.{_≡_};
 ghost use mathlib.Core.Bool.{false};
 ghost use Prim.Native.Nat.{_-_, _/_, _<_};
 ghost use lib.ListN.{length, getD, drop};
-ghost use Rattle.text.specs.Words.{MAX as Words·MAX, parts as Words·parts, wordHere, nextWord};
+ghost use Rattle.text.specs.Words.{MAX as Words·MAX, digit0, parts as Words·parts, wordHere, nextWord};
 ghost use Rattle.text.specs.Kinds.{kindOf, kindAt};
 
 // Words are parted by these two bytes.
@@ -93,7 +93,7 @@ fn most_before(d: u64) -> u64
 
 // The word that begins at `at` with a zero, which is 0 itself or bad.
 fn zero_here(input: &[u8], at: usize) -> Read
-    requires { ⌜ (at < length (now input)) × (getD (now input) at 0 ≡ 48) ⌝ }
+    requires { ⌜ (at < length (now input)) × (getD (now input) at 0 ≡ digit0) ⌝ }
     ensures { λ r. ⌜ r ≡ wordHere (drop at (now (input .entry))) at ⌝ }
 {
     let next = at + 1;
