@@ -13,6 +13,7 @@ const TEN: u64 = 10;
 // No number of 64 bits has more digits.
 const MOST_DIGITS: usize = 20;
 
+// The byte of a digit.
 fn glyph(d: u64) -> u8
     requires { ⌜ d < 10 ⌝ }
     ensures { λ r. ⌜ r ≡ digit0 + d ⌝ }

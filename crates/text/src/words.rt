@@ -41,12 +41,14 @@ pub enum Read {
     Refused(u64),
 }
 
+// Whether a byte parts words.
 fn parts(b: u8) -> bool
     ensures { λ r. ⌜ r ≡ Words·parts b ⌝ }
 {
     if b == SPACE { true } else { b == LINE_FEED }
 }
 
+// A byte as a number of 64 bits: a function, so that a caller need not show that it fits.
 fn wide(b: u8) -> u64
     ensures { λ r. ⌜ r ≡ b ⌝ }
 {
