@@ -1,7 +1,7 @@
 -- Laws of a word's letters, for the proofs of `words`. Assumes nothing.
 use Prim.Native.Nat.{ℕ, zero, suc, _+_, _*_, _-_, _/_, _^_, _≤_, _<_}
 use mathlib.Core.Path.{_≡_, refl, sym, ap, _∙_}
-use mathlib.Core.Bool.{Bool, true, false, and-false}
+use mathlib.Core.Bool.{Bool, true, false, _&&_, and-false, false≢true}
 use mathlib.Core.Logic.{_⊎_, inl, inr, ⊎-elim}
 use mathlib.Core.List.{List, [], _∷_}
 use native.Mathlib.Omega.{arith}
@@ -11,7 +11,7 @@ use lib.Dec.{leb, ltb, lit<}
 use lib.ListN.{length, getD, drop, drop-of-length-le}
 use lib.Seq.{drop-cons}
 use borrow.Author.Tests.{le-leb, lt-leb, ne-eqb, leb-true, ltb-true, ltb-false}
-use Rattle.text.specs.Words.{MAX, pick, parts, digit, letters, allDigits, said, plain, good, wordHere, nextIn, nextWord}
+use Rattle.text.specs.Words.{MAX, mostDigits, pick, parts, digit, letters, allDigits, said, plain, good, wordHere, nextIn, nextWord}
 use Rattle.text.specs.Kinds.{kindOf, kindAt}
 use Rattle.text.specs.declared.words.Read.the-variants.{Word, Refused}
 
@@ -22,8 +22,12 @@ either false = inr refl
 lt-or-ge : (a b : ℕ) → (a < b) ⊎ (b ≤ a)
 lt-or-ge a b = ⊎-elim (λ e. inl (ltb-true a b e)) (λ e. inr (ltb-false a b e)) (either (ltb a b))
 
+pub both-hold : (a b : Bool) → (a && b) ≡ true → (a ≡ true) × (b ≡ true)
+both-hold true b e = (refl, e)
+both-hold false b e = absurd (false≢true e)
+
 -- ---- a byte's kind
-no-part : (b : ℕ) → 48 ≤ b → parts b ≡ false
+pub no-part : (b : ℕ) → 48 ≤ b → parts b ≡ false
 unfolding parts
 no-part b h = rw (ne-eqb b 32 (λ e. omega arith), ne-eqb b 10 (λ e. omega arith))
 
@@ -57,14 +61,9 @@ record Digit (b : ℕ) : Type 0 where
   pub says : digit b ≡ true
   pub value : b - 48 ≡ kindOf b
 
--- 0 to 9, and no more
-small : (b : ℕ) → digit b ≡ true → b < 58
+pub within-digits : (b : ℕ) → digit b ≡ true → (48 ≤ b) × (b ≤ 57)
 unfolding digit
-small b e = by-low (leb 48 b) refl
-  where
-    by-low : (t : Bool) → leb 48 b ≡ t → b < 58
-    by-low true f = omega (arith, leb-true b 57 (rw f at e))
-    by-low false f = let g : false ≡ true = rw f at e in let z : _≡_ {A = ℕ} 0 1 = cc in omega arith
+within-digits b e = let k = both-hold (leb 48 b) (leb b 57) e in (leb-true 48 b (k .0), leb-true b 57 (k .1))
 
 module _ (b : ℕ) where
   is-digit : (p d : Bool) → parts b ≡ p → digit b ≡ d → kindOf b < 10 → Digit b
@@ -77,13 +76,13 @@ module _ (b : ℕ) where
   unfolding kindOf pick
   is-over true d e f h = e
   is-over false false e f h = let g : _≡_ {A = ℕ} 11 10 = rw (e, f) at h in absurd (omega arith)
-  is-over false true e f h = let g : b - 48 ≡ 10 = rw (e, f) at h in absurd (omega (arith, small b f))
+  is-over false true e f h = let g : b - 48 ≡ 10 = rw (e, f) at h in absurd (omega (arith, within-digits b f .1))
 
   is-bad : (p d : Bool) → parts b ≡ p → digit b ≡ d → 10 < kindOf b → (parts b ≡ false) × (digit b ≡ false)
   unfolding kindOf pick
   is-bad true d e f h = let g : 10 < 10 = rw e at h in absurd (omega arith)
   is-bad false false e f h = (e, f)
-  is-bad false true e f h = let g : 10 < b - 48 = rw (e, f) at h in absurd (omega (arith, small b f))
+  is-bad false true e f h = let g : 10 < b - 48 = rw (e, f) at h in absurd (omega (arith, within-digits b f .1))
 
 -- ---- a word that is over, goes on, or is bad
 over : (s : List ℕ) → kindAt s ≡ 10 → letters s ≡ []
@@ -152,11 +151,11 @@ not-digits w e = rw e
 
 not-plain : (w : List ℕ) → plain w ≡ false → good w ≡ false
 unfolding good
-not-plain w e = rw (e, and-false (leb (length w) 20), and-false (allDigits w))
+not-plain w e = rw (e, and-false (leb (length w) mostDigits), and-false (allDigits w))
 
 too-large : (w : List ℕ) → MAX < said 0 w → good w ≡ false
 unfolding good
-too-large w h = rw (lt-leb (said 0 w) MAX h, and-false (plain w), and-false (leb (length w) 20), and-false (allDigits w))
+too-large w h = rw (lt-leb (said 0 w) MAX h, and-false (plain w), and-false (leb (length w) mostDigits), and-false (allDigits w))
 
 refused : (l : List ℕ) (at : ℕ) → good (letters l) ≡ false → Refused 13 ≡ wordHere l at
 unfolding wordHere pick
@@ -192,18 +191,10 @@ unfolding said
 scales [] j n h = rw (add-zero j) h
 scales (b ∷ w) j n h = rw (add-suc j (length w), ← suc-add j (length w)) (scales w (suc j) (n * 10 + (b - 48)) (omega (arith, pow-suc 10 j)))
 
--- the first letter of a word of digits
-first-digit : (b : ℕ) (w : List ℕ) → allDigits (b ∷ w) ≡ true → (b ≡ 48 → ⊥) → 48 < b
-unfolding allDigits digit
-first-digit b w e z = ⊎-elim (λ p. let q : 48 ≤ b = leb-true 48 b p in low q z) (λ p. let q : false ≡ true = rw p at e in let y : _≡_ {A = ℕ} 0 1 = cc in absurd (omega arith)) (either (leb 48 b))
-  where
-    low : {b : ℕ} → 48 ≤ b → (b ≡ 48 → ⊥) → 48 < b
-    low q z = omega arith
-
--- with no zero first, more than 20 digits say more than MAX
-few : (b : ℕ) (w : List ℕ) → 48 < b → said 0 (b ∷ w) ≤ MAX → length (b ∷ w) ≤ 20
+-- with no zero first, more digits than that say more than MAX
+few : (b : ℕ) (w : List ℕ) → 48 < b → said 0 (b ∷ w) ≤ MAX → length (b ∷ w) ≤ mostDigits
 unfolding said
-few b w h k = ⊎-elim (λ p. omega arith) (λ q. absurd (clash (pow-le-pow-right (lit< tt) q) many k (lit< tt))) (lt-or-ge (length w) 20)
+few b w h k = ⊎-elim (λ p. omega arith) (λ q. absurd (clash (pow-le-pow-right (lit< tt) q) many k (lit< tt))) (lt-or-ge (length w) mostDigits)
   where
     many : 10 ^ length w ≤ said (0 * 10 + (b - 48)) w
     many = rw (zero-add (length w)) at (scales w 0 (0 * 10 + (b - 48)) (omega arith))
@@ -243,10 +234,11 @@ module _ (s : List ℕ) (at i n d : ℕ) (g : Going s at i n) (e : d ≡ kindAt 
     is-good : (b : ℕ) (w : List ℕ) → letters (drop at s) ≡ b ∷ w → (b ≡ 48 → ⊥) → good (letters (drop at s)) ≡ true
     unfolding good allDigits plain pick
     is-good b w ls y =
-        let l : 48 < b = first-digit b w (rw ls at all-digits) y in
+        let d : digit b ≡ true = both-hold (digit b) (allDigits w) (rw ls at all-digits) .0 in
+        let l : 48 < b = omega (arith, within-digits b d .0) in
         let v : said 0 (letters (drop at s)) ≤ MAX = omega (arith, says-n) in
-        let k : length (b ∷ w) ≤ 20 = few b w l (rw ls at v) in
-        rw (all-digits, says-n, le-leb n MAX f, ls, le-leb (length (b ∷ w)) 20 k, ne-eqb b 48 y)
+        let k : length (b ∷ w) ≤ mostDigits = few b w l (rw ls at v) in
+        rw (all-digits, says-n, le-leb n MAX f, ls, le-leb (length (b ∷ w)) mostDigits k, ne-eqb b 48 y)
 
     pub is-word : Word n i ≡ wordHere (drop at s) at
     is-word =

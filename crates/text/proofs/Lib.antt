@@ -1,3 +1,4 @@
-pub mod Letters
+mod Letters
 pub mod Supplies
 pub mod Digits
+pub mod Back

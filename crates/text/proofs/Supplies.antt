@@ -1,14 +1,15 @@
 -- Laws of what a text gives its reader, word by word, for whoever reads words. Assumes nothing.
 use Prim.Native.Nat.{ℕ, zero, suc, _+_, _≤_, _<_}
 use mathlib.Core.Path.{_≡_, refl, sym, ap, _∙_}
-use mathlib.Core.Bool.{Bool, true, false, _&&_}
+use mathlib.Core.Bool.{Bool, true, false}
 use mathlib.Core.List.{List, [], _∷_}
 use native.Mathlib.Omega.{arith}
 use lib.Dec.{leb}
 use lib.ListN.{length, getD, drop, length-drop}
 use lib.Seq.{drop-drop}
 use borrow.Author.Tests.{leb-true}
-use Rattle.text.specs.Words.{MAX, textEnds, badWord, pick, parts, letters, allDigits, said, plain, good, wordHere, nextIn, nextWord, ends, gives, begun, runs, supplied, supply, supplyFrom}
+use Rattle.text.specs.Words.{MAX, mostDigits, textEnds, badWord, pick, parts, letters, allDigits, said, plain, good, wordHere, nextIn, nextWord, ends, gives, begun, runs, supplied, supply, supplyFrom}
+use Rattle.text.proofs.Letters.{both-hold}
 use Rattle.text.specs.declared.words.Read.the-variants.{Word, Refused}
 
 -- after a word's letters the next one begins anew
@@ -33,13 +34,11 @@ letters-within (b ∷ s) = by-part (parts b) refl (letters-within s)
 -- what a good word says is at most MAX
 good-fits : (w : List ℕ) → good w ≡ true → said 0 w ≤ MAX
 unfolding good
-good-fits w e = leb-true (said 0 w) MAX (last (allDigits w) (leb (length w) 20) (plain w) (leb (said 0 w) MAX) e)
-  where
-    last : (a b c d : Bool) → (a && (b && (c && d))) ≡ true → d ≡ true
-    last true true true d e = e
-    last true true false d e = let z : _≡_ {A = ℕ} 0 1 = cc in absurd (omega arith)
-    last true false c d e = let z : _≡_ {A = ℕ} 0 1 = cc in absurd (omega arith)
-    last false b c d e = let z : _≡_ {A = ℕ} 0 1 = cc in absurd (omega arith)
+good-fits w e =
+    let a = both-hold (allDigits w) _ e in
+    let b = both-hold (leb (length w) mostDigits) _ (a .1) in
+    let c = both-hold (plain w) _ (b .1) in
+    leb-true (said 0 w) MAX (c .1)
 
 -- ---- the bytes that are left, by the first of them
 module _ (b : ℕ) (s : List ℕ) where

@@ -25,6 +25,10 @@ digit9 = 57
 abbrev pub MAX : ℕ
 MAX = 18446744073709551615
 
+-- the most digits that a word has
+abbrev pub mostDigits : ℕ
+mostDigits = 20
+
 -- the numbers that end the reading: at the end of the text, and at a bad word
 abbrev pub textEnds : ℕ
 textEnds = 1
@@ -65,9 +69,9 @@ unfoldable pub plain : List ℕ → Bool
 plain [] = false
 plain (b ∷ w) = pick (eqb b digit0) (eqb (length w) 0) true
 
--- a good word: decimal, at most 20 digits, plain, and at most MAX
+-- a good word: digits, not too many, plain, and at most MAX
 unfoldable pub good : List ℕ → Bool
-good w = allDigits w && (leb (length w) 20 && (plain w && leb (said 0 w) MAX))
+good w = allDigits w && (leb (length w) mostDigits && (plain w && leb (said 0 w) MAX))
 
 -- what the word reads as that begins here, at the place given
 unfoldable pub wordHere : List ℕ → ℕ → Read

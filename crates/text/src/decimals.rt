@@ -3,6 +3,7 @@ ghost use mathlib.Core.Path.{_≡_};
 ghost use Prim.Native.Nat.{_+_, _-_, _<_};
 ghost use lib.Dec.{ltb};
 ghost use lib.ListN.{length};
+ghost use Rattle.text.specs.Words.{digit0};
 ghost use Rattle.text.specs.Decimals.{decimal as Decimals·decimal, shown, lastly, LastOf};
 
 const ZERO: u8 = b'0';
@@ -12,9 +13,10 @@ const TEN: u64 = 10;
 // No number of 64 bits has more digits.
 const MOST_DIGITS: usize = 20;
 
+// The byte of a digit.
 fn glyph(d: u64) -> u8
     requires { ⌜ d < 10 ⌝ }
-    ensures { λ r. ⌜ r ≡ 48 + d ⌝ }
+    ensures { λ r. ⌜ r ≡ digit0 + d ⌝ }
 {
     ZERO + d as u8
 }

@@ -3,7 +3,7 @@ ghost use mathlib.Core.Path.{_≡_};
 ghost use mathlib.Core.Bool.{false};
 ghost use Prim.Native.Nat.{_-_, _/_, _<_};
 ghost use lib.ListN.{length, getD, drop};
-ghost use Rattle.text.specs.Words.{MAX as Words·MAX, parts as Words·parts, wordHere, nextWord};
+ghost use Rattle.text.specs.Words.{MAX as Words·MAX, digit0, parts as Words·parts, wordHere, nextWord};
 ghost use Rattle.text.specs.Kinds.{kindOf, kindAt};
 
 // Words are parted by these two bytes.
@@ -23,7 +23,12 @@ const BAD: u64 = 11;
 
 const TEN: u64 = 10;
 
+// The largest number that a word says, and its parts before the last digit and there.
 const MAX: u64 = 0xffff_ffff_ffff_ffff;
+
+const MAX_TENTH: u64 = MAX / TEN;
+
+const MAX_LAST: u64 = MAX % TEN;
 
 // The numbers of 01 that end the reading.
 const TEXT_ENDS: u64 = 1;
@@ -36,12 +41,14 @@ pub enum Read {
     Refused(u64),
 }
 
+// Whether a byte parts words.
 fn parts(b: u8) -> bool
     ensures { λ r. ⌜ r ≡ Words·parts b ⌝ }
 {
     if b == SPACE { true } else { b == LINE_FEED }
 }
 
+// A byte as a number of 64 bits: a function, so that a caller need not show that it fits.
 fn wide(b: u8) -> u64
     ensures { λ r. ⌜ r ≡ b ⌝ }
 {
@@ -80,15 +87,15 @@ fn most_before(d: u64) -> u64
     requires { ⌜ d < 10 ⌝ }
     ensures { λ r. ⌜ r ≡ (Words·MAX - d) / 10 ⌝ }
 {
-    if MAX % TEN < d {
-        return MAX / TEN - 1;
+    if MAX_LAST < d {
+        return MAX_TENTH - 1;
     }
-    MAX / TEN
+    MAX_TENTH
 }
 
 // The word that begins at `at` with a zero, which is 0 itself or bad.
 fn zero_here(input: &[u8], at: usize) -> Read
-    requires { ⌜ (at < length (now input)) × (getD (now input) at 0 ≡ 48) ⌝ }
+    requires { ⌜ (at < length (now input)) × (getD (now input) at 0 ≡ digit0) ⌝ }
     ensures { λ r. ⌜ r ≡ wordHere (drop at (now (input .entry))) at ⌝ }
 {
     let next = at + 1;
