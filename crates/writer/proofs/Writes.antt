@@ -11,8 +11,8 @@ use lib.Seq.{sets, sets-eq, length-sets, drop-cons, drop-length}
 use borrow.Author.Tests.{le-leb, lt-leb, leb-true}
 use borrow.Author.Fill.{fill-none, fill-more}
 use Rattle.numset.specs.Runs.{MAX}
-use Rattle.writer.specs.Buffer.{inBuffer}
-use Rattle.writer.specs.Finish.{handed, finish, Wrote}
+use Rattle.writer.specs.Buffer.{handed, inBuffer}
+use Rattle.writer.specs.Finish.{finish, Wrote}
 
 -- ---- a run of stores that goes on
 pub record Storing (m₀ : List ℕ) (at : ℕ) (all : List ℕ) (m : List ℕ) (i : ℕ) (left : List ℕ) : Type 0 where

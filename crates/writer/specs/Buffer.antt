@@ -11,8 +11,11 @@ pub record Handed : Type 0 where
   pub number : ℕ
   pub buffer : List ℕ
 
+abbrev pub handed : ℕ → List ℕ → Handed
+handed n m = record { number = n; buffer = m }
+
 -- the report's length, and its bytes before those that were there; or, where it does not fit, MAX and zeros throughout
 unfoldable pub inBuffer : List ℕ → List ℕ → Handed
 inBuffer out report = cond (leb (length report) (length out))
-    (record { number = length report; buffer = report ++ drop (length report) out })
-    (record { number = MAX; buffer = replicate (length out) 0 })
+    (handed (length report) (report ++ drop (length report) out))
+    (handed MAX (replicate (length out) 0))

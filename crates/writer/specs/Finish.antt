@@ -7,10 +7,7 @@ use lib.ListN.{length, replicate}
 use lib.Seq.{sets}
 use lib.Dec.{leb}
 use Rattle.numset.specs.Runs.{MAX}
-use Rattle.writer.specs.Buffer.{Handed}
-
-abbrev pub handed : ℕ → List ℕ → Handed
-handed n m = record { number = n; buffer = m }
+use Rattle.writer.specs.Buffer.{Handed, handed}
 
 -- the rest of a report, from `at` on: the report's length, with the bytes in their place and those after them unchanged;
 -- or, where they do not fit, MAX and zeros

@@ -5,7 +5,8 @@ ghost use Prim.Native.Nat.{_+_, _≤_};
 ghost use lib.ListN.{length, replicate};
 ghost use lib.Seq.{sets};
 ghost use Rattle.text.specs.Decimals.{decimal as Decimals·decimal};
-ghost use Rattle.writer.specs.Finish.{handed, finish, Wrote};
+ghost use Rattle.writer.specs.Buffer.{handed};
+ghost use Rattle.writer.specs.Finish.{finish, Wrote};
 
 // The place of a report that does not fit, and the number for it.
 const FULL: usize = 0xffff_ffff_ffff_ffff;
