@@ -1,2 +1,7 @@
+pub mod Bools
 pub mod Table
 pub mod Steps
+pub mod Seams
+pub mod Renewed
+pub mod History
+pub mod Values
