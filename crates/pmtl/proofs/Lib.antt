@@ -5,3 +5,4 @@ pub mod Seams
 pub mod Renewed
 pub mod History
 pub mod Values
+pub mod Settled

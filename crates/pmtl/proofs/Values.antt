@@ -4,12 +4,11 @@ use native.Mathlib.Omega.{arith}
 use mathlib.Core.Path.{_≡_, refl, sym, ap, ap₂, _∙_}
 use mathlib.Core.Bool.{Bool, true, false, not, _&&_, _||_}
 use mathlib.Core.List.{List, [], _∷_, map}
-use lib.ListN.{getD}
 use Rattle.numset.specs.Runs.{Runs, has, Canonical}
 use Rattle.pmtl.specs.Book.{Range, inRange, Row, mapRow, Rows, rowAt, AllBelow, Below, Ordered, every, some, itself}
 use Rattle.pmtl.specs.Book.Row.{never, always, atom, conj, disj, neg, implies, historically, once, since}
 use Rattle.pmtl.specs.Sets.{horizon, renewed, setRule}
-use Rattle.pmtl.specs.Monitor.{Snap, State, setAt, valueRule, value}
+use Rattle.pmtl.specs.Monitor.{Snap, setAt, valueRule, value}
 use Rattle.pmtl.specs.Calls.{History, nowOf}
 use Rattle.pmtl.specs.Meaning.{Fact, sinceSome, instants, meaningRule, meaning}
 use Rattle.pmtl.proofs.Table.{by-rows, answer-fix}
