@@ -6,3 +6,5 @@ pub mod Renewed
 pub mod History
 pub mod Values
 pub mod Settled
+pub mod Ago
+pub mod Calls
