@@ -67,20 +67,19 @@ some-iff b g q h t =
 not-iff : {a : Bool} {P : Type 0} → ((a ≡ true) ↔ P) → (not a ≡ true) ↔ ¬ P
 not-iff e = (λ h p. clash (e .1 p) (not-true _ h), λ n. not-yes _ (fails-by _ (λ h. n (e .0 h))))
 
-module _ (b : Rows) (w : Ordered b) (r : ℕ) (h : History) (l : Legal b h) where
+-- t is the clock now
+module _ (b : Rows) (w : Ordered b) (r : ℕ) (h : History) (l : Legal b h) (t : ℕ) (now : t ≡ nowOf b h .clock) where
   by-row : (row : Row ℕ) → rowAt b r ≡ row → held b r h ≡ meaningRule b r (mapRow (held b) row) h
   by-row row e = value-held b w r h l ∙ ap (λ x. meaningRule b r (mapRow (held b) x) h) e
 
-  pub once-held : (g : Range) (o : ℕ) → rowAt b r ≡ once g o → (held b r h ≡ true) ↔ SomeCall b g (held b o) h (nowOf b h .clock)
+  pub once-held : (g : Range) (o : ℕ) → rowAt b r ≡ once g o → (held b r h ≡ true) ↔ SomeCall b g (held b o) h t
   unfolding meaningRule instants
-  once-held g o e = rw (by-row (once g o) e) (some-iff b g _ h _)
+  once-held g o e = rw (by-row (once g o) e, now) (some-iff b g _ h _)
 
-  pub historically-held : (g : Range) (o : ℕ) → rowAt b r ≡ historically g o
-      → (held b r h ≡ true) ↔ ¬ (SomeCall b g (λ k. not (held b o k)) h (nowOf b h .clock))
+  pub historically-held : (g : Range) (o : ℕ) → rowAt b r ≡ historically g o → (held b r h ≡ true) ↔ ¬ (SomeCall b g (λ k. not (held b o k)) h t)
   unfolding meaningRule instants
-  historically-held g o e = rw (by-row (historically g o) e) (not-iff (some-iff b g _ h _))
+  historically-held g o e = rw (by-row (historically g o) e, now) (not-iff (some-iff b g _ h _))
 
-  pub since-held : (g : Range) (x y : ℕ) → rowAt b r ≡ since g x y
-      → (held b r h ≡ true) ↔ SinceCall b g (held b x) (held b y) h (nowOf b h .clock)
+  pub since-held : (g : Range) (x y : ℕ) → rowAt b r ≡ since g x y → (held b r h ≡ true) ↔ SinceCall b g (held b x) (held b y) h t
   unfolding meaningRule instants
-  since-held g x y e = rw (by-row (since g x y) e) (since-iff b g _ _ h _)
+  since-held g x y e = rw (by-row (since g x y) e, now) (since-iff b g _ _ h _)

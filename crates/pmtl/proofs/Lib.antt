@@ -8,3 +8,4 @@ pub mod Values
 pub mod Settled
 pub mod Ago
 pub mod Calls
+pub mod Theorems
