@@ -9,3 +9,4 @@ pub mod Settled
 pub mod Ago
 pub mod Calls
 pub mod Theorems
+pub mod Examples
