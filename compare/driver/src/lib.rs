@@ -1,1 +1,9 @@
+//! Inputs drawn at random, and inputs cut down to what still shows a difference.
 
+pub mod books;
+pub mod calls;
+pub mod case;
+pub mod chance;
+pub mod damage;
+pub mod inputs;
+pub mod shrink;
