@@ -49,6 +49,11 @@ impl Style {
         }
     }
 
+    /// A book whose rows mostly are properties or operands of one.
+    pub fn shallow(chance: &mut Chance) -> Self {
+        Self { properties: 1 + chance.below(8), weights: chance.among(&[TEMPORAL, CONSTANT]), ..Self::drawn(chance, 14) }
+    }
+
     /// A book at or near the limits.
     pub fn at_limits(chance: &mut Chance) -> Self {
         let most = 2 * MOST_PROPERTIES as usize;

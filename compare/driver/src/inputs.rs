@@ -37,8 +37,16 @@ pub fn input(seed: u64, index: u64) -> Vec<u8> {
     }
 }
 
+/// A case with few rows and calls, most rows near a property.
+pub fn shallow(chance: &mut Chance) -> Case {
+    let style = books::Style::shallow(chance);
+    let mut case = book(chance, &style);
+    add_drawn_calls(chance, &mut case, 30);
+    case
+}
+
 /// A case with few rows and calls.
-pub fn small(chance: &mut Chance) -> Case {
+fn small(chance: &mut Chance) -> Case {
     let style = books::Style::drawn(chance, 12);
     let mut case = book(chance, &style);
     add_drawn_calls(chance, &mut case, 50);
@@ -52,7 +60,8 @@ fn medium(chance: &mut Chance) -> Case {
     case
 }
 
-fn at_limits(chance: &mut Chance) -> Case {
+/// A case at or near the limits of a book.
+pub fn at_limits(chance: &mut Chance) -> Case {
     let style = books::Style::at_limits(chance);
     let mut case = book(chance, &style);
     add_drawn_calls(chance, &mut case, 120);

@@ -4,6 +4,7 @@ pub mod books;
 pub mod calls;
 pub mod case;
 pub mod chance;
+pub mod cover;
 pub mod damage;
 pub mod inputs;
 pub mod shrink;
