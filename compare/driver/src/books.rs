@@ -159,7 +159,11 @@ fn properties(chance: &mut Chance, mut free: Vec<usize>) -> (Vec<usize>, Vec<usi
     while !free.is_empty() {
         let row = free.remove(chance.below(free.len()));
         let to_assumes = guarantees.len() == most || (assumes.len() < most && chance.one_in(2));
-        if to_assumes { assumes.push(row) } else { guarantees.push(row) }
+        if to_assumes {
+            assumes.push(row)
+        } else {
+            guarantees.push(row)
+        }
     }
     (assumes, guarantees)
 }
@@ -182,7 +186,11 @@ fn bounds(chance: &mut Chance, style: Bounds) -> (u64, u64) {
         Bounds::Mixed => chance.among(&[MAX, lower, lower.saturating_add(small), lower.saturating_add(any >> shift), H]),
         Bounds::NearH => chance.among(&[MAX, lower, lower.saturating_add(small), H - 1, H]),
     };
-    if upper == MAX { (lower, MAX) } else { (lower, upper.clamp(lower, H)) }
+    if upper == MAX {
+        (lower, MAX)
+    } else {
+        (lower, upper.clamp(lower, H))
+    }
 }
 
 #[cfg(test)]

@@ -72,13 +72,8 @@ impl Style {
 
 /// Adds drawn calls to a case.
 pub fn add_calls(chance: &mut Chance, case: &mut Case, style: &Style) {
-    let bounds: Vec<u64> = case
-        .rows
-        .iter()
-        .filter(|r| is_temporal(r.kind))
-        .flat_map(|r| [r.lower, r.upper])
-        .filter(|&b| b != MAX && b > 0)
-        .collect();
+    let bounds: Vec<u64> =
+        case.rows.iter().filter(|r| is_temporal(r.kind)).flat_map(|r| [r.lower, r.upper]).filter(|&b| b != MAX && b > 0).collect();
     let mut drawing = Drawing { chance, style, bounds, width: case.width(), clock: 0, state: Vec::new() };
     drawing.state.resize(drawing.width, 0);
     let mut bytes = case.text().len();
@@ -139,7 +134,11 @@ impl Drawing<'_> {
             _ => small,
         };
         // Past H there is nothing to accept: stay where the clock is.
-        if step > H - self.clock { self.clock } else { self.clock + step }
+        if step > H - self.clock {
+            self.clock
+        } else {
+            self.clock + step
+        }
     }
 
     /// A time below the clock, or above H.

@@ -97,7 +97,7 @@ impl Case {
         let mut words = Reader::new(text);
         let sections = book::read(&mut words).ok()?;
         book::judge(&sections).ok()?;
-        let count = words.next().ok()?;
+        let count = words.next_word().ok()?;
         let mut calls = Vec::new();
         for _ in 0..count {
             calls.push(match read_call(&mut words).ok()? {
@@ -105,7 +105,7 @@ impl Case {
                 ReadCall::State(state) => Call::State(state),
             });
         }
-        (words.next() == Err(ENDS_EARLY)).then(|| Case { calls, ..Case::of_book(&sections) })
+        (words.next_word() == Err(ENDS_EARLY)).then(|| Case { calls, ..Case::of_book(&sections) })
     }
 
     /// The rows of an accepted book, with no calls.

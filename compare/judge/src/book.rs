@@ -86,7 +86,7 @@ impl Book {
 pub fn read(words: &mut Reader) -> Result<Sections, u64> {
     let mut rows = Vec::new();
     for _ in 0..read_count(words, MOST_ROWS)? {
-        rows.push([words.next()?, words.next()?, words.next()?, words.next()?]);
+        rows.push([words.next_word()?, words.next_word()?, words.next_word()?, words.next_word()?]);
     }
     let operands = read_section(words, MOST_OPERANDS)?;
     let assumes = read_section(words, MOST_PROPERTIES)?;
@@ -95,12 +95,16 @@ pub fn read(words: &mut Reader) -> Result<Sections, u64> {
 }
 
 fn read_count(words: &mut Reader, most: u64) -> Result<u64, u64> {
-    let count = words.next()?;
-    if count > most { Err(PASSES_LIMIT) } else { Ok(count) }
+    let count = words.next_word()?;
+    if count > most {
+        Err(PASSES_LIMIT)
+    } else {
+        Ok(count)
+    }
 }
 
 fn read_section(words: &mut Reader, most: u64) -> Result<Vec<u64>, u64> {
-    (0..read_count(words, most)?).map(|_| words.next()).collect()
+    (0..read_count(words, most)?).map(|_| words.next_word()).collect()
 }
 
 /// The book, or its first refusal: rows in order (3, 4, 2), then 5, then 6.
@@ -175,7 +179,11 @@ fn judge_uses(sections: &Sections) -> Result<(), u64> {
     for &row in sections.operands.iter().chain(&sections.assumes).chain(&sections.guarantees) {
         uses[row as usize] += 1;
     }
-    if uses.iter().all(|&n| n == 1) { Ok(()) } else { Err(NOT_USED_ONCE) }
+    if uses.iter().all(|&n| n == 1) {
+        Ok(())
+    } else {
+        Err(NOT_USED_ONCE)
+    }
 }
 
 /// The book of sections that were judged to be good.

@@ -62,7 +62,7 @@ fn stop_line(out: &mut Vec<u8>, number: u64, watch: &mut impl Watch) {
 
 /// A line for each call; then `ENDED`, or the number that stops the reading.
 fn call_lines(words: &mut Reader, book: Book, out: &mut Vec<u8>, watch: &mut impl Watch) -> Result<u64, String> {
-    let count = match words.next() {
+    let count = match words.next_word() {
         Ok(count) => count,
         Err(number) => return Ok(number),
     };
@@ -80,7 +80,7 @@ fn call_lines(words: &mut Reader, book: Book, out: &mut Vec<u8>, watch: &mut imp
         }
         out.push(b'\n');
     }
-    Ok(match words.next() {
+    Ok(match words.next_word() {
         Ok(_) => ENDS_EARLY,
         Err(ENDS_EARLY) => ENDED,
         Err(number) => number,
@@ -89,14 +89,14 @@ fn call_lines(words: &mut Reader, book: Book, out: &mut Vec<u8>, watch: &mut imp
 
 /// A call, or the number that stops the reading: a kind over 1 and a width over 256 are refused at once.
 pub fn read_call(words: &mut Reader) -> Result<Call, u64> {
-    match words.next()? {
-        0 => Ok(Call::Time(words.next()?)),
+    match words.next_word()? {
+        0 => Ok(Call::Time(words.next_word()?)),
         1 => {
-            let width = words.next()?;
+            let width = words.next_word()?;
             if width > MOST_WIDTH as u64 {
                 return Err(PASSES_LIMIT);
             }
-            Ok(Call::State((0..width).map(|_| words.next()).collect::<Result<_, _>>()?))
+            Ok(Call::State((0..width).map(|_| words.next_word()).collect::<Result<_, _>>()?))
         }
         _ => Err(BAD_WORD),
     }

@@ -15,7 +15,11 @@ use Answer::{False, Open, True};
 
 impl Answer {
     pub fn of(value: bool) -> Answer {
-        if value { True } else { False }
+        if value {
+            True
+        } else {
+            False
+        }
     }
 
     /// The digit in the report.
@@ -74,11 +78,19 @@ fn early_rule(row: &Row, answers: &[Answer], covers: bool) -> Answer {
     match row {
         Row::And(operands) => {
             let any = |a: Answer| operands.iter().any(|&o| answers[o] == a);
-            if any(Open) { Open } else { Answer::of(!any(False)) }
+            if any(Open) {
+                Open
+            } else {
+                Answer::of(!any(False))
+            }
         }
         Row::Or(operands) => {
             let any = |a: Answer| operands.iter().any(|&o| answers[o] == a);
-            if any(Open) { Open } else { Answer::of(any(True)) }
+            if any(Open) {
+                Open
+            } else {
+                Answer::of(any(True))
+            }
         }
         Row::Historically(argument, Range { lower, .. }) => match answers[*argument] {
             True => True,

@@ -24,7 +24,7 @@ impl<'a> Reader<'a> {
     }
 
     /// The next word, or the refusal that ends the reading.
-    pub fn next(&mut self) -> Result<u64, u64> {
+    pub fn next_word(&mut self) -> Result<u64, u64> {
         let start = self.rest.iter().position(|b| !parts_words(b)).ok_or(ENDS_EARLY)?;
         let from_start = &self.rest[start..];
         let length = from_start.iter().position(parts_words).unwrap_or(from_start.len());
@@ -52,19 +52,18 @@ mod tests {
     #[test]
     fn words() {
         let mut reader = Reader::new(b" \n0  18446744073709551615\n7");
-        assert_eq!(reader.next(), Ok(0));
-        assert_eq!(reader.next(), Ok(u64::MAX));
-        assert_eq!(reader.next(), Ok(7));
-        assert_eq!(reader.next(), Err(ENDS_EARLY));
+        assert_eq!(reader.next_word(), Ok(0));
+        assert_eq!(reader.next_word(), Ok(u64::MAX));
+        assert_eq!(reader.next_word(), Ok(7));
+        assert_eq!(reader.next_word(), Err(ENDS_EARLY));
     }
 
     #[test]
     fn bad_words() {
-        let bad: [&[u8]; 9] = [
-            b"00", b"01", b"18446744073709551616", b"99999999999999999999", b"111111111111111111111", b"5\r", b"5\t6", b"-1", b"1x",
-        ];
+        let bad: [&[u8]; 9] =
+            [b"00", b"01", b"18446744073709551616", b"99999999999999999999", b"111111111111111111111", b"5\r", b"5\t6", b"-1", b"1x"];
         for word in bad {
-            assert_eq!(Reader::new(word).next(), Err(BAD_WORD), "{word:?}");
+            assert_eq!(Reader::new(word).next_word(), Err(BAD_WORD), "{word:?}");
         }
     }
 }

@@ -86,7 +86,13 @@ impl Tally {
     fn print(&self) {
         let all = |counts: &BTreeMap<u64, u64>| counts.values().sum::<u64>();
         let books = self.books.get(&ACCEPTED).copied().unwrap_or(0);
-        println!("{} inputs, {} books ({books} accepted), {} calls ({} accepted)", self.inputs, all(&self.books), all(&self.calls), self.accepted());
+        println!(
+            "{} inputs, {} books ({books} accepted), {} calls ({} accepted)",
+            self.inputs,
+            all(&self.books),
+            all(&self.calls),
+            self.accepted()
+        );
         for (what, counts) in [("books", &self.books), ("calls", &self.calls), ("stops", &self.stops)] {
             let each: Vec<String> = counts.iter().map(|(number, count)| format!("{number}: {count}")).collect();
             println!("{what} by number: {}", each.join(", "));

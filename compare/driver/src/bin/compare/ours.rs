@@ -100,5 +100,9 @@ fn program_report(path: &PathBuf, input: &[u8]) -> Result<Vec<u8>, String> {
     let writer = thread::spawn(move || drop(stdin.write_all(&input)));
     let output = child.wait_with_output().map_err(failed)?;
     writer.join().expect("the writer ends");
-    if output.status.success() { Ok(output.stdout) } else { Err(format!("{}: {}", path.display(), output.status)) }
+    if output.status.success() {
+        Ok(output.stdout)
+    } else {
+        Err(format!("{}: {}", path.display(), output.status))
+    }
 }

@@ -103,7 +103,11 @@ fn all() -> Result<(Vec<Recorded>, Sentences), String> {
     all.extend(chosen(&sentences(&all)));
     let decides = sentences(&all);
     let missing: Vec<String> = required::required().into_iter().filter(|s| !decides.contains(s)).collect();
-    if missing.is_empty() { Ok((all, decides)) } else { Err(format!("not decided: {}", missing.join("; "))) }
+    if missing.is_empty() {
+        Ok((all, decides))
+    } else {
+        Err(format!("not decided: {}", missing.join("; ")))
+    }
 }
 
 fn write_folder(folder: &Path, all: &[Recorded], decides: &Sentences) -> io::Result<()> {

@@ -5,10 +5,23 @@ const LOWERS: [&str; 2] = ["lower 0", "lower over 0"];
 const COVERS: [&str; 2] = ["covers", "does not cover"];
 const TEMPORAL: [&str; 3] = ["Historically", "Once", "Since"];
 const RANGES: [&str; 17] = [
-    "[0, the same]", "[0, small]", "[0, large]", "[0, near H]", "[0, unbounded]",
-    "[small, the same]", "[small, small]", "[small, large]", "[small, near H]", "[small, unbounded]",
-    "[large, the same]", "[large, large]", "[large, near H]", "[large, unbounded]",
-    "[near H, the same]", "[near H, near H]", "[near H, unbounded]",
+    "[0, the same]",
+    "[0, small]",
+    "[0, large]",
+    "[0, near H]",
+    "[0, unbounded]",
+    "[small, the same]",
+    "[small, small]",
+    "[small, large]",
+    "[small, near H]",
+    "[small, unbounded]",
+    "[large, the same]",
+    "[large, large]",
+    "[large, near H]",
+    "[large, unbounded]",
+    "[near H, the same]",
+    "[near H, near H]",
+    "[near H, unbounded]",
 ];
 
 pub fn required() -> Vec<String> {
