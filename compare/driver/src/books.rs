@@ -1,6 +1,6 @@
 //! Books drawn at random.
 
-use crate::case::{Case, Row, AND, ATOM, FALSE, IMPLIES, NOT, OR, SINCE, TRUE};
+use crate::case::{Case, Row, AND, ATOM, FALSE, HISTORICALLY, IMPLIES, NOT, ONCE, OR, SINCE, TRUE};
 use crate::chance::Chance;
 use judge::book::{is_temporal, H, LARGEST_ATOM, MAX, MOST_PROPERTIES, MOST_ROWS, MOST_TEMPORAL};
 
@@ -12,6 +12,7 @@ const TEMPORAL: Weights = [1, 1, 5, 1, 1, 1, 1, 6, 6, 6];
 const LOGIC: Weights = [2, 2, 6, 6, 6, 4, 4, 1, 1, 1];
 const CHAIN: Weights = [1, 1, 3, 1, 1, 2, 1, 6, 6, 6];
 const CONSTANT: Weights = [6, 6, 3, 3, 3, 3, 3, 4, 4, 4];
+const TURNED: Weights = [1, 2, 1, 1, 1, 4, 1, 2, 2, 6];
 const WIDE: Weights = [1, 1, 30, 1, 1, 1, 1, 1, 1, 1];
 
 /// What a book is to look like.
@@ -25,12 +26,17 @@ pub struct Style {
     /// Atoms are numbered below this.
     atoms: u64,
     bounds: Bounds,
+    /// How many times the first rows are Historically Once of an atom, unbounded, or its Not: once the atom has failed and
+    /// then held, Historically is true early and can never hold again.
+    turned: usize,
 }
 
 /// Where bounds lie.
 #[derive(Clone, Copy)]
 pub enum Bounds {
     Small,
+    /// Mostly unbounded.
+    Open,
     Mixed,
     NearH,
 }
@@ -46,12 +52,20 @@ impl Style {
             deep: chance.one_in(3),
             atoms: 1 + chance.below(5) as u64,
             bounds: chance.among(&[Bounds::Small, Bounds::Small, Bounds::Small, Bounds::Mixed, Bounds::NearH]),
+            turned: 0,
         }
     }
 
     /// A book whose rows mostly are properties or operands of one.
     pub fn shallow(chance: &mut Chance) -> Self {
         Self { properties: 1 + chance.below(8), weights: chance.among(&[TEMPORAL, CONSTANT]), ..Self::drawn(chance, 14) }
+    }
+
+    /// Temporal rows over rows whose early answers turn out wrong.
+    pub fn turned(chance: &mut Chance) -> Self {
+        let turned = 1 + chance.below(3);
+        let rows = 4 * turned + 1 + chance.below(8);
+        Self { rows, turned, weights: TURNED, properties: 4, bounds: Bounds::Open, ..Self::drawn(chance, 1) }
     }
 
     /// A book at or near the limits.
@@ -78,9 +92,9 @@ impl Style {
         }
     }
 
-    /// One temporal row too many is allowed, so that the book may be refused.
+    /// As many temporal rows as are allowed, or one or two more.
     pub fn over_the_limit(chance: &mut Chance) -> Self {
-        Self { temporal: MOST_TEMPORAL + 2, weights: TEMPORAL, ..Self::at_limits(chance) }
+        Self { temporal: MOST_TEMPORAL + chance.among(&[0, 1, 1, 2]), weights: TEMPORAL, ..Self::at_limits(chance) }
     }
 }
 
@@ -89,7 +103,10 @@ pub fn book(chance: &mut Chance, style: &Style) -> Case {
     let mut rows: Vec<Row> = Vec::new();
     // Rows that no row uses yet; at the end they are the properties.
     let mut free: Vec<usize> = Vec::new();
-    let mut temporal = 0;
+    for _ in 0..style.turned {
+        put_turned(chance, style, &mut rows, &mut free);
+    }
+    let mut temporal = 2 * style.turned;
     while rows.len() < style.rows {
         let is_last = rows.len() + 1 == style.rows;
         let row = if is_last && free.len() >= style.properties {
@@ -105,6 +122,17 @@ pub fn book(chance: &mut Chance, style: &Style) -> Case {
     }
     let (assumes, guarantees) = properties(chance, free);
     Case { rows, assumes, guarantees, calls: Vec::new() }
+}
+
+fn put_turned(chance: &mut Chance, style: &Style, rows: &mut Vec<Row>, free: &mut Vec<usize>) {
+    let first = rows.len();
+    rows.push(Row::plain(ATOM, chance.within(0..=style.atoms - 1), Vec::new()));
+    rows.push(Row { kind: ONCE, atom: 0, lower: 0, upper: MAX, operands: vec![first] });
+    rows.push(Row { kind: HISTORICALLY, atom: 0, lower: 0, upper: MAX, operands: vec![first + 1] });
+    if chance.one_in(2) {
+        rows.push(Row::plain(NOT, 0, vec![first + 2]));
+    }
+    free.push(rows.len() - 1);
 }
 
 fn drawn_row(chance: &mut Chance, style: &Style, free: &mut Vec<usize>, temporal: bool) -> Row {
@@ -170,7 +198,7 @@ fn properties(chance: &mut Chance, mut free: Vec<usize>) -> (Vec<usize>, Vec<usi
 
 fn bounds(chance: &mut Chance, style: Bounds) -> (u64, u64) {
     let lower = match style {
-        Bounds::Small => chance.among(&[0, 0, 0, 1, 2, 3, 5]),
+        Bounds::Small | Bounds::Open => chance.among(&[0, 0, 0, 1, 2, 3, 5]),
         Bounds::Mixed => {
             let any = chance.word() & H;
             let shift = chance.below(63);
@@ -183,6 +211,7 @@ fn bounds(chance: &mut Chance, style: Bounds) -> (u64, u64) {
     let shift = chance.below(63);
     let upper = match style {
         Bounds::Small => chance.among(&[MAX, lower, lower + small, lower + small, lower + 20]),
+        Bounds::Open => chance.among(&[MAX, MAX, MAX, lower + small]),
         Bounds::Mixed => chance.among(&[MAX, lower, lower.saturating_add(small), lower.saturating_add(any >> shift), H]),
         Bounds::NearH => chance.among(&[MAX, lower, lower.saturating_add(small), H - 1, H]),
     };
@@ -201,8 +230,9 @@ mod tests {
     fn drawn_books_are_accepted() {
         for index in 0..2000 {
             let mut chance = Chance::new(7, index);
-            let style = match index % 3 {
+            let style = match index % 4 {
                 0 => Style::at_limits(&mut chance),
+                2 => Style::turned(&mut chance),
                 1 => Style::with_many_runs(&mut chance),
                 _ => Style::drawn(&mut chance, 30),
             };

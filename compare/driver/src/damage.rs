@@ -2,7 +2,7 @@
 
 use crate::case::{text, Case, Layout};
 use crate::chance::Chance;
-use judge::book::{is_temporal, Sections, H, MAX};
+use judge::book::{is_temporal, operands_taken, Sections, H, MAX, MOST_OPERANDS};
 
 /// The case's text after one to three wrong words in its book.
 pub fn spoil_book(chance: &mut Chance, case: &Case) -> Vec<u8> {
@@ -15,7 +15,8 @@ pub fn spoil_book(chance: &mut Chance, case: &Case) -> Vec<u8> {
 
 fn spoil_section(chance: &mut Chance, sections: &mut Sections) {
     let rows = sections.rows.len() as u64;
-    match chance.below(8) {
+    match chance.below(9) {
+        8 => spoil_operand(chance, sections),
         0..=2 => spoil_row(chance, &mut sections.rows),
         3 => spoil_list(chance, &mut sections.operands, rows, 129),
         4 => spoil_list(chance, &mut sections.assumes, rows, 17),
@@ -44,6 +45,17 @@ fn spoil_row(chance: &mut Chance, rows: &mut [[u64; 4]]) {
         1 => chance.among(&[near, 3, 127, 128, 129, 255, 256, MAX]),
         _ => chance.among(&[near, 5, H - 1, H, H + 1, MAX - 1, MAX]),
     };
+}
+
+/// An operand that is its owner, or the row after it.
+fn spoil_operand(chance: &mut Chance, sections: &mut Sections) {
+    let takes = |row: &[u64; 4]| operands_taken(row[0], row[1].min(MOST_OPERANDS));
+    let owners = sections.rows.iter().enumerate().flat_map(|(owner, row)| vec![owner as u64; takes(row)]);
+    let owners: Vec<u64> = owners.take(sections.operands.len()).collect();
+    if !owners.is_empty() {
+        let place = chance.below(owners.len());
+        sections.operands[place] = owners[place] + chance.among(&[0, 0, 1]);
+    }
 }
 
 /// A number more, less, doubled or out of range; now and then the list grows around its limit.

@@ -7,9 +7,15 @@ use crate::chance::Chance;
 use crate::damage;
 use judge::report::LONGEST_INPUT;
 
+/// An input has thousands of calls once in so many.
+const LONG_IN: usize = 400;
+
 /// The input with this number among a seed's inputs.
 pub fn input(seed: u64, index: u64) -> Vec<u8> {
     let chance = &mut Chance::new(seed, index);
+    if chance.one_in(LONG_IN) {
+        return laid_out(chance, &long);
+    }
     match chance.weighed(&[42, 16, 8, 8, 6, 6, 2, 3, 1]) {
         0 => laid_out(chance, &small),
         1 => laid_out(chance, &medium),
@@ -47,7 +53,7 @@ pub fn shallow(chance: &mut Chance) -> Case {
 
 /// A case with few rows and calls.
 fn small(chance: &mut Chance) -> Case {
-    let style = books::Style::drawn(chance, 12);
+    let style = if chance.one_in(8) { books::Style::turned(chance) } else { books::Style::drawn(chance, 12) };
     let mut case = book(chance, &style);
     add_drawn_calls(chance, &mut case, 50);
     case
@@ -57,6 +63,14 @@ fn medium(chance: &mut Chance) -> Case {
     let style = books::Style::drawn(chance, 60);
     let mut case = book(chance, &style);
     add_drawn_calls(chance, &mut case, 200);
+    case
+}
+
+/// A case with few rows and as many calls as there is room for in a text.
+fn long(chance: &mut Chance) -> Case {
+    let style = books::Style::drawn(chance, 8);
+    let mut case = book(chance, &style);
+    add_drawn_calls(chance, &mut case, 10_000);
     case
 }
 

@@ -3,24 +3,38 @@
 use crate::case::{Call, Case, Row, AND, ATOM, FALSE, OR, TRUE};
 use judge::book::is_temporal;
 
-/// Says of an input whether it still shows the difference.
-pub type Differs<'a> = &'a mut dyn FnMut(&[u8]) -> bool;
+/// How many smaller inputs are tried at most.
+const TRIES: usize = 6_000;
 
-/// Cuts calls, then rows, then numbers, as long as one of them can be cut; text that is no such case is cut by words and
-/// by bytes.
-pub fn shrink(input: &[u8], differs: Differs) -> Vec<u8> {
-    match Case::of_text(input) {
-        Some(case) if differs(&case.text()) => cut_case(case, differs).text(),
-        _ => cut_text(input, differs),
+/// Says of an input whether it still shows the difference, as long as there are tries left.
+struct Test<'a> {
+    differs: &'a mut dyn FnMut(&[u8]) -> bool,
+    left: usize,
+}
+
+impl Test<'_> {
+    fn differs(&mut self, text: &[u8]) -> bool {
+        self.left = self.left.saturating_sub(1);
+        self.left > 0 && (self.differs)(text)
     }
 }
 
-fn cut_case(mut case: Case, differs: Differs) -> Case {
+/// Cuts calls, then rows, then numbers, as long as one of them can be cut; text that is no such case is cut by words and
+/// by bytes.
+pub fn shrink(input: &[u8], differs: &mut dyn FnMut(&[u8]) -> bool) -> Vec<u8> {
+    let test = &mut Test { differs, left: TRIES };
+    match Case::of_text(input) {
+        Some(case) if test.differs(&case.text()) => cut_case(case, test).text(),
+        _ => cut_text(input, test),
+    }
+}
+
+fn cut_case(mut case: Case, test: &mut Test) -> Case {
     loop {
         let before = case.clone();
-        cut_calls(&mut case, differs);
-        cut_rows(&mut case, differs);
-        cut_numbers(&mut case, differs);
+        cut_calls(&mut case, test);
+        cut_rows(&mut case, test);
+        cut_numbers(&mut case, test);
         if case == before {
             return case;
         }
@@ -28,14 +42,14 @@ fn cut_case(mut case: Case, differs: Differs) -> Case {
 }
 
 /// The list without every stretch that can be left out: halves first, then ever shorter stretches.
-fn cut_list<T: Clone>(mut list: Vec<T>, still: &mut dyn FnMut(&[T]) -> bool) -> Vec<T> {
+fn cut_list<T: Clone>(mut list: Vec<T>, test: &mut Test, text: &dyn Fn(&[T]) -> Vec<u8>) -> Vec<T> {
     let mut length = list.len().div_ceil(2);
     while length > 0 {
         let mut start = 0;
-        while start < list.len() {
+        while start < list.len() && test.left > 0 {
             let end = list.len().min(start + length);
             let shorter: Vec<T> = list[..start].iter().chain(&list[end..]).cloned().collect();
-            if still(&shorter) {
+            if test.differs(&text(&shorter)) {
                 list = shorter;
             } else {
                 start = end;
@@ -46,14 +60,14 @@ fn cut_list<T: Clone>(mut list: Vec<T>, still: &mut dyn FnMut(&[T]) -> bool) -> 
     list
 }
 
-fn cut_calls(case: &mut Case, differs: Differs) {
+fn cut_calls(case: &mut Case, test: &mut Test) {
     let book = Case { calls: Vec::new(), ..case.clone() };
-    case.calls = cut_list(case.calls.clone(), &mut |calls| differs(&Case { calls: calls.to_vec(), ..book.clone() }.text()));
+    case.calls = cut_list(case.calls.clone(), test, &|calls| Case { calls: calls.to_vec(), ..book.clone() }.text());
 }
 
 /// Tries smaller books until none shows the difference.
-fn cut_rows(case: &mut Case, differs: Differs) {
-    while let Some(smaller) = smaller_books(case).into_iter().find(|smaller| differs(&smaller.text())) {
+fn cut_rows(case: &mut Case, test: &mut Test) {
+    while let Some(smaller) = smaller_books(case).into_iter().find(|smaller| test.differs(&smaller.text())) {
         *case = smaller;
     }
 }
@@ -126,7 +140,7 @@ fn pruned(case: &Case) -> Case {
 }
 
 /// Tries smaller bounds, atoms, times and states, each in its turn.
-fn cut_numbers(case: &mut Case, differs: Differs) {
+fn cut_numbers(case: &mut Case, test: &mut Test) {
     for number in 0..case.rows.len() {
         let row = case.rows[number].clone();
         let mut simpler = Vec::new();
@@ -138,28 +152,28 @@ fn cut_numbers(case: &mut Case, differs: Differs) {
             simpler.extend(less(row.upper).map(|upper| Row { upper: upper.max(row.lower), ..row.clone() }));
         }
         for row in simpler {
-            try_case(case, differs, |c| c.rows[number] = row.clone());
+            try_case(case, test, |c| c.rows[number] = row.clone());
         }
     }
     for number in 0..case.calls.len() {
         match case.calls[number].clone() {
-            Call::Time(time) => less(time).for_each(|time| try_case(case, differs, |c| c.calls[number] = Call::Time(time))),
+            Call::Time(time) => less(time).for_each(|time| try_case(case, test, |c| c.calls[number] = Call::Time(time))),
             Call::State(state) => {
                 let shorter = |length: usize| Call::State(state[..length].to_vec());
                 for length in [0, state.len() / 2, state.len().saturating_sub(1)] {
-                    try_case(case, differs, |c| c.calls[number] = shorter(length));
+                    try_case(case, test, |c| c.calls[number] = shorter(length));
                 }
-                cut_state(case, number, differs);
+                cut_state(case, number, test);
             }
         }
     }
 }
 
 /// Words of a state as 0, where that is enough.
-fn cut_state(case: &mut Case, number: usize, differs: Differs) {
+fn cut_state(case: &mut Case, number: usize, test: &mut Test) {
     let Call::State(state) = case.calls[number].clone() else { return };
     for place in (0..state.len()).filter(|&place| state[place] > 0) {
-        try_case(case, differs, |c| {
+        try_case(case, test, |c| {
             if let Call::State(words) = &mut c.calls[number] {
                 words[place] = 0;
             }
@@ -173,10 +187,10 @@ fn less(number: u64) -> impl Iterator<Item = u64> {
 }
 
 /// Keeps a change that makes the text smaller, or its numbers, and still shows the difference.
-fn try_case(case: &mut Case, differs: Differs, change: impl FnOnce(&mut Case)) {
+fn try_case(case: &mut Case, test: &mut Test, change: impl FnOnce(&mut Case)) {
     let mut changed = case.clone();
     change(&mut changed);
-    if weight(&changed) < weight(case) && differs(&changed.text()) {
+    if weight(&changed) < weight(case) && test.differs(&changed.text()) {
         *case = changed;
     }
 }
@@ -191,10 +205,10 @@ fn weight(case: &Case) -> u128 {
     rows + case.calls.iter().map(call).sum::<u128>()
 }
 
-fn cut_text(input: &[u8], differs: Differs) -> Vec<u8> {
+fn cut_text(input: &[u8], test: &mut Test) -> Vec<u8> {
     let words: Vec<&[u8]> = input.split_inclusive(|&b| b == b' ' || b == b'\n').collect();
-    let words = cut_list(words, &mut |words| differs(&words.concat()));
-    cut_list(words.concat(), &mut |bytes| differs(bytes))
+    let words = cut_list(words, test, &|words| words.concat());
+    cut_list(words.concat(), test, &|bytes| bytes.to_vec())
 }
 
 #[cfg(test)]

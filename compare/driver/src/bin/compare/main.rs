@@ -17,6 +17,9 @@ use std::{env, fs, panic};
 /// Accepted calls after which the default run ends.
 const ACCEPTED_CALLS: u64 = 4_000_000;
 
+/// Bytes of an input that are printed at most; its seed and number give it whole.
+const MOST_SHOWN: usize = 4_000;
+
 struct Wishes {
     seed: u64,
     accepted: u64,
@@ -117,7 +120,7 @@ fn tell(ours: &Ours, found: &[u8], what: &str) {
     let small = shrink(found, &mut |text| difference(ours, text, &mut Tally::default()).is_some());
     let what = difference(ours, &small, &mut Tally::default()).unwrap_or_default();
     println!("cut down to {} bytes: {what}", small.len());
-    println!("{}", small.escape_ascii().to_string().replace("\\n", "\n"));
+    println!("{}", small[..small.len().min(MOST_SHOWN)].escape_ascii().to_string().replace("\\n", "\n"));
 }
 
 fn run() -> Result<bool, String> {
