@@ -16,7 +16,7 @@ use Rattle.store.proofs.Parts.{part-zeros}
 getD-zeros : (n i : ℕ) → _≡_ {A = ℕ} (getD (replicate n 0) i 0) 0
 getD-zeros n i = ⊎-elim (λ h. getD-replicate n i 0 0 h) (λ h. List·getD-eq-default (replicate n 0) 0 (rw length-replicate h)) (lt-or-ge i n)
 
-good-zeros : (n : ℕ) → 0 < n → Good (replicate n 0)
+pub good-zeros : (n : ℕ) → 0 < n → Good (replicate n 0)
 unfolding runsTo Under
 good-zeros n h =
     let z = getD-zeros n 0 in

@@ -4,7 +4,8 @@ use mathlib.Core.Path.{_≡_, refl, sym, ap, ap₂, _∙_}
 use mathlib.Core.Logic.{⊎-elim}
 use mathlib.Core.List.{List, [], _∷_, _++_}
 use native.Mathlib.Omega.{arith}
-use lib.ListN.{length, getD, replicate, length-append, List·getD-append}
+use native.Mathlib.Numerals.{add-one}
+use lib.ListN.{length, getD, replicate, replicate-append-replicate, length-append, List·getD-append}
 use lib.Seq.{getD-at}
 use Rattle.numset.proofs.Laws.{lt-or-ge}
 use Rattle.rows.specs.Memory.{listed}
@@ -28,3 +29,10 @@ module _ {A : Type 0} where
   unfolding listed
   listed-same f g zero e = refl
   listed-same f g (suc n) e = ap₂ (λ (x : List A) (y : A). x ++ y ∷ []) (listed-same f g n (λ i h. e i (omega arith))) (e n (omega arith))
+
+  pub listed-all : (f : ℕ → A) (a : A) (n : ℕ) → ((i : ℕ) → i < n → f i ≡ a) → listed f n ≡ replicate n a
+  unfolding listed
+  listed-all f a zero e = refl
+  listed-all f a (suc n) e =
+      ap₂ (λ (x : List A) (y : A). x ++ y ∷ []) (listed-all f a n (λ i h. e i (omega arith))) (e n (omega arith))
+      ∙ replicate-append-replicate n 1 a ∙ ap (λ (k : ℕ). replicate k a) (add-one n)
