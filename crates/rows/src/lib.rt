@@ -4,8 +4,11 @@ ghost use mathlib.Core.List.{map};
 ghost use Prim.Native.Nat.{_+_, _<_};
 ghost use lib.ListN.{length, getD};
 ghost use Rattle.rows.specs.Memory.{SIZE, OPERANDS, BookKept, rowCount, begunWord, clockOf, widthWord, temporals, assumeCount, guaranteeCount, kindAt, argAt, lowerAt, upperAt, startAt, slotAt, ownerAt};
-ghost use Rattle.rows.specs.Facts.{hereIn, outputOf};
-ghost use Rattle.rows.specs.Walk.{Span, operandsFrom, joined};
+ghost use Rattle.rows.specs.Facts.{hereIn, coversIn, outputOf, valuationOf};
+ghost use Rattle.rows.specs.Walk.{Span, operandsFrom, joined, takenIn, earlySoFar, impliedBy, earlyHistorically, earlyOnce, earlyCovered};
+ghost use Rattle.pmtl.specs.Answer.{isTrue, isFalse, isOpen, reversed};
+ghost use lib.Dec.{eqb};
+use pmtl::Answer;
 
 // Where things stand in a monitor's memory, and how many words they take.
 pub const ROW_COUNT: usize = 0;
@@ -266,4 +269,217 @@ fn output_walk<'a>(
         return stop;
     }
     output_walk(monitor, atoms, facts, row, place + 1, left - 1, stop)
+}
+
+fn is_true(x: Answer) -> bool
+    ensures { λ r. ⌜ r ≡ isTrue x ⌝ }
+{
+    match x {
+        Answer::False => false,
+        Answer::True => true,
+        Answer::Open => false,
+    }
+}
+
+fn is_false(x: Answer) -> bool
+    ensures { λ r. ⌜ r ≡ isFalse x ⌝ }
+{
+    match x {
+        Answer::False => true,
+        Answer::True => false,
+        Answer::Open => false,
+    }
+}
+
+fn is_open(x: Answer) -> bool
+    ensures { λ r. ⌜ r ≡ isOpen x ⌝ }
+{
+    match x {
+        Answer::False => false,
+        Answer::True => false,
+        Answer::Open => true,
+    }
+}
+
+// Not.
+fn not(x: Answer) -> Answer
+    ensures { λ r. ⌜ r ≡ reversed x ⌝ }
+{
+    match x {
+        Answer::False => Answer::True,
+        Answer::True => Answer::False,
+        Answer::Open => Answer::Open,
+    }
+}
+
+// Implies.
+fn implied(left: Answer, right: Answer) -> Answer
+    ensures { λ r. ⌜ r ≡ impliedBy left right ⌝ }
+{
+    match right {
+        Answer::False => match left {
+            Answer::False => Answer::True,
+            Answer::True => Answer::False,
+            Answer::Open => Answer::Open,
+        },
+        Answer::True => Answer::True,
+        Answer::Open => match left {
+            Answer::False => Answer::True,
+            Answer::True => Answer::Open,
+            Answer::Open => Answer::Open,
+        },
+    }
+}
+
+// And, or Or if `any`, of the operands so far with one more.
+fn taken_in(any: bool, sofar: Answer, x: Answer) -> Answer
+    ensures { λ r. ⌜ r ≡ takenIn any sofar x ⌝ }
+{
+    match x {
+        Answer::False => if any { sofar } else { Answer::False },
+        Answer::True => if any { Answer::True } else { sofar },
+        Answer::Open => Answer::Open,
+    }
+}
+
+// Whether a row's lower bound is 0.
+fn from_now(monitor: &[u64], row: usize) -> bool
+    requires { ⌜ length (now monitor) ≡ SIZE ⌝ }
+    requires { ⌜ row < 128 ⌝ }
+    ensures { λ r. ⌜ r ≡ eqb (lowerAt (now (monitor .entry)) row) 0 ⌝ }
+{
+    monitor[ROWS + ROW * row + LOWER] == 0
+}
+
+// Whether a row's set has every instant from the clock on.
+fn covers_at(facts: &[u8; 128], row: usize) -> bool
+    requires { ⌜ row < 128 ⌝ }
+    ensures { λ r. ⌜ r ≡ coversIn (now (facts .entry)) row ⌝ }
+{
+    facts[row] / 2 % 2 == 1
+}
+
+fn early_historically(zero: bool, covers: bool, x: Answer) -> Answer
+    ensures { λ r. ⌜ r ≡ earlyHistorically zero covers x ⌝ }
+{
+    match x {
+        Answer::True => Answer::True,
+        Answer::False => {
+            if zero {
+                Answer::False
+            } else if covers {
+                Answer::False
+            } else {
+                Answer::Open
+            }
+        }
+        Answer::Open => if covers { Answer::False } else { Answer::Open },
+    }
+}
+
+fn early_once(zero: bool, covers: bool, x: Answer) -> Answer
+    ensures { λ r. ⌜ r ≡ earlyOnce zero covers x ⌝ }
+{
+    match x {
+        Answer::False => Answer::False,
+        Answer::True => {
+            if zero {
+                Answer::True
+            } else if covers {
+                Answer::True
+            } else {
+                Answer::Open
+            }
+        }
+        Answer::Open => if covers { Answer::True } else { Answer::Open },
+    }
+}
+
+// Since, where right is not false and the set covers.
+fn early_covered(zero: bool, left: Answer) -> Answer
+    ensures { λ r. ⌜ r ≡ earlyCovered zero left ⌝ }
+{
+    match left {
+        Answer::False => if zero { Answer::False } else { Answer::Open },
+        Answer::True => Answer::True,
+        Answer::Open => Answer::Open,
+    }
+}
+
+// A row's early answer: it is always true, or always false, from the clock on.
+pub fn valuation<'a>(monitor: &'a [u64], facts: &'a [u8; 128], row: usize) -> Answer
+    requires { ⌜ BookKept (now monitor) ⌝ }
+    requires { ⌜ row < rowCount (now monitor) ⌝ }
+    ensures { λ r. ⌜ r ≡ valuationOf (now (monitor .entry)) (now (facts .entry)) row ⌝ }
+{
+    let kind = kind_at(monitor, row);
+    let arg = arg_at(monitor, row);
+    let start = start_at(monitor, row);
+    match kind {
+        FALSE => Answer::False,
+        TRUE => Answer::True,
+        ATOM => Answer::Open,
+        AND => valuation_walk(monitor, facts, row, start, arg, false, Answer::True),
+        OR => valuation_walk(monitor, facts, row, start, arg, true, Answer::False),
+        NOT => not(valuation(monitor, facts, operand_at(monitor, start))),
+        IMPLIES => {
+            let right = valuation(monitor, facts, operand_at(monitor, start + 1));
+            if is_true(right) {
+                return Answer::True;
+            }
+            implied(valuation(monitor, facts, operand_at(monitor, start)), right)
+        }
+        HISTORICALLY => {
+            let x = valuation(monitor, facts, operand_at(monitor, start));
+            early_historically(from_now(monitor, row), covers_at(facts, row), x)
+        }
+        ONCE => {
+            let x = valuation(monitor, facts, operand_at(monitor, start));
+            early_once(from_now(monitor, row), covers_at(facts, row), x)
+        }
+        _ => {
+            let right = valuation(monitor, facts, operand_at(monitor, start + 1));
+            if is_false(right) {
+                return Answer::False;
+            }
+            if covers_at(facts, row) {
+                let left = valuation(monitor, facts, operand_at(monitor, start));
+                return early_covered(from_now(monitor, row), left);
+            }
+            Answer::Open
+        }
+    }
+}
+
+// Asks `left` operands of `row` from `place` on, in turn, until one is open.
+fn valuation_walk<'a>(
+    monitor: &'a [u64],
+    facts: &'a [u8; 128],
+    row: usize,
+    place: usize,
+    left: usize,
+    any: bool,
+    sofar: Answer,
+) -> Answer
+    requires { ⌜ BookKept (now monitor) ⌝ }
+    requires { ⌜ row < rowCount (now monitor) ⌝ }
+    requires { ⌜ Span (now monitor) row place left ⌝ }
+    ensures { λ r. ⌜ r ≡ earlySoFar any sofar (map (valuationOf (now (monitor .entry)) (now (facts .entry))) (operandsFrom (now (monitor .entry)) place left)) ⌝ }
+{
+    if left == 0 {
+        return sofar;
+    }
+    let x = valuation(monitor, facts, operand_at(monitor, place));
+    if is_open(x) {
+        return Answer::Open;
+    }
+    valuation_walk(
+        monitor,
+        facts,
+        row,
+        place + 1,
+        left - 1,
+        any,
+        taken_in(any, sofar, x),
+    )
 }
