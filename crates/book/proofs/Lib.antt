@@ -1,3 +1,4 @@
 pub mod Tests
 pub mod Accepted
 pub mod Placing
+pub mod Sections

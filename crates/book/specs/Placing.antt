@@ -16,6 +16,10 @@ partsOf words n o a g = record {
   guarantees = part (GIVEN * n + o + a + 4) g words;
 }
 
+-- the sections, each in words of its own
+abbrev pub sectionsOf : List ℕ → List ℕ → List ℕ → List ℕ → Sections
+sectionsOf rows operands assumes guarantees = record { rows = rows; operands = operands; assumes = assumes; guarantees = guarantees }
+
 -- the words are these sections, and nothing is left over
 pub record Counted (words : List ℕ) (n o a g : ℕ) : Type 0 where
   pub rows-few : n ≤ 128
@@ -38,8 +42,9 @@ pub record Told (words : List ℕ) (number n o a g : ℕ) : Type 0 where
   pub none : (number ≡ 0 → ⊥) → (n ≡ 0) × (o ≡ 0) × (a ≡ 0) × (g ≡ 0)
 
 -- what reading one section says, whose count stands at `at`
-pub record SectionTold (words : List ℕ) (at limit size number : ℕ) : Type 0 where
-  pub counted : number ≡ 0 → getD words at 0 ≤ limit
-  pub fits : number ≡ 0 → at + 1 + size * getD words at 0 ≤ length words
-  pub read : number ≡ 0 → section 1 limit size (drop at words) ≡ got (part (at + 1) (size * getD words at 0) words) (drop (at + 1 + size * getD words at 0) words)
+pub record SectionTold (words : List ℕ) (at limit size number count next : ℕ) : Type 0 where
+  pub inside : next ≤ length words
+  pub few : number ≡ 0 → count ≤ limit
+  pub onward : number ≡ 0 → next ≡ at + 1 + size * count
+  pub read : number ≡ 0 → section 1 limit size (drop at words) ≡ got (part (at + 1) (size * count) words) (drop next words)
   pub refused-with : (number ≡ 0 → ⊥) → section 1 limit size (drop at words) ≡ refused number
