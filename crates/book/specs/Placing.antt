@@ -1,7 +1,8 @@
 -- Where the sections of a book stand in its words: private steps on the way from words to a loaded book. Definitions only.
 use Prim.Native.Nat.{ℕ, _+_, _*_, _≤_}
 use mathlib.Core.Path.{_≡_}
-use mathlib.Core.List.{List, []}
+use mathlib.Core.Bool.{Bool, cond, not}
+use mathlib.Core.List.{List, [], _∷_}
 use lib.ListN.{length, getD, drop}
 use Rattle.rows.specs.Memory.{part}
 use Rattle.book.specs.Reading.{Read, got, refused, GIVEN, Sections, section, sections}
@@ -48,3 +49,14 @@ pub record SectionTold (words : List ℕ) (at limit size number count next : ℕ
   pub onward : number ≡ 0 → next ≡ at + 1 + size * count
   pub read : number ≡ 0 → section 1 limit size (drop at words) ≡ got (part (at + 1) (size * count) words) (drop next words)
   pub refused-with : (number ≡ 0 → ⊥) → section 1 limit size (drop at words) ≡ refused number
+
+-- the number that a test refuses with, 0 where it passed
+abbrev pub refusal : ℕ → Bool → ℕ
+refusal n good = cond (not good) n 0
+
+-- the least and the largest arg of each kind
+abbrev pub leastArgs : List ℕ
+leastArgs = 0 ∷ 0 ∷ 0 ∷ 0 ∷ 0 ∷ 1 ∷ 2 ∷ 1 ∷ 1 ∷ 2 ∷ []
+
+abbrev pub largestArgs : List ℕ
+largestArgs = 0 ∷ 0 ∷ 255 ∷ 128 ∷ 128 ∷ 1 ∷ 2 ∷ 1 ∷ 1 ∷ 2 ∷ []

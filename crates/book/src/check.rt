@@ -1,14 +1,14 @@
 // A book handed over as words: the number that it is refused with, and where its sections stand.
 ghost use mathlib.Core.Path.{_≡_};
-ghost use mathlib.Core.Bool.{cond, not, _&&_};
+ghost use mathlib.Core.Bool.{not, _&&_};
 ghost use mathlib.Core.List.{[]};
 ghost use Prim.Native.Nat.{ℕ, _+_, _*_, _/_, _≤_, _<_};
 ghost use lib.ListN.{length, getD};
-ghost use lib.Dec.{ltb, eqb};
+ghost use lib.Dec.{ltb, leb, eqb};
 ghost use Rattle.pmtl.specs.Answer.{bitOf};
 ghost use Rattle.rows.specs.Memory.{part, temporal, countOf};
 ghost use Rattle.book.specs.Judging.{kindIn, argIn, lowerIn, upperIn, temporalsIn, startIn, firstTo, allTo, argGood, formGood, rangeGood, rowNumber, operandsGood, linksGood, timesIn, usesOf, usedOnce, judged, loaded};
-ghost use Rattle.book.specs.Placing.{partsOf, sectionsOf, Counted, Placed, Told, SectionTold};
+ghost use Rattle.book.specs.Placing.{partsOf, sectionsOf, refusal, leastArgs, largestArgs, Counted, Placed, Told, SectionTold};
 
 // The numbers that a book is answered with.
 const ACCEPTED: u64 = 0;
@@ -169,4 +169,163 @@ fn counts(words: &[u64]) -> Places
         assumes: assumes.count,
         guarantees: guarantees.count,
     }
+}
+
+// What the words of a row say.
+fn kind_in(rows: &[u64], row: usize) -> u64
+    requires { ⌜ row < length (now rows) / 4 ⌝ }
+    ensures { λ r. ⌜ r ≡ kindIn (now (rows .entry)) row ⌝ }
+{
+    rows[ROW_WORDS * row]
+}
+
+fn arg_in(rows: &[u64], row: usize) -> u64
+    requires { ⌜ row < length (now rows) / 4 ⌝ }
+    ensures { λ r. ⌜ r ≡ argIn (now (rows .entry)) row ⌝ }
+{
+    rows[ROW_WORDS * row + ARG]
+}
+
+fn lower_in(rows: &[u64], row: usize) -> u64
+    requires { ⌜ row < length (now rows) / 4 ⌝ }
+    ensures { λ r. ⌜ r ≡ lowerIn (now (rows .entry)) row ⌝ }
+{
+    rows[ROW_WORDS * row + LOWER]
+}
+
+fn upper_in(rows: &[u64], row: usize) -> u64
+    requires { ⌜ row < length (now rows) / 4 ⌝ }
+    ensures { λ r. ⌜ r ≡ upperIn (now (rows .entry)) row ⌝ }
+{
+    rows[ROW_WORDS * row + UPPER]
+}
+
+// The least and the largest arg of a kind.
+fn least_arg(kind: usize) -> u64
+    requires { ⌜ kind < 10 ⌝ }
+    ensures { λ r. ⌜ r ≡ getD leastArgs kind 0 ⌝ }
+{
+    LEAST_ARGS[kind]
+}
+
+fn largest_arg(kind: usize) -> u64
+    requires { ⌜ kind < 10 ⌝ }
+    ensures { λ r. ⌜ r ≡ getD largestArgs kind 0 ⌝ }
+{
+    LARGEST_ARGS[kind]
+}
+
+// Refuses what is no kind, and an arg that its kind does not take.
+fn arg_number(kind: u64, arg: u64) -> u64
+    ensures { λ r. ⌜ r ≡ refusal 3 (argGood kind arg) ⌝ }
+{
+    if SINCE < kind {
+        return WRONG_FORM;
+    }
+    let row = kind as usize;
+    if arg < least_arg(row) {
+        return WRONG_FORM;
+    }
+    if largest_arg(row) < arg {
+        return WRONG_FORM;
+    }
+    ACCEPTED
+}
+
+// Refuses a wrong kind or arg, and bounds on a row that is not temporal.
+fn form_number(kind: u64, arg: u64, lower: u64, upper: u64) -> u64
+    ensures { λ r. ⌜ r ≡ refusal 3 (formGood kind arg lower upper) ⌝ }
+{
+    let wrong = arg_number(kind, arg);
+    if wrong != ACCEPTED {
+        return wrong;
+    }
+    if kind >= HISTORICALLY {
+        return ACCEPTED;
+    }
+    if lower != 0 {
+        return WRONG_FORM;
+    }
+    if upper != 0 {
+        return WRONG_FORM;
+    }
+    ACCEPTED
+}
+
+// Refuses a range that is no range, or that reaches too far.
+fn range_number(lower: u64, upper: u64) -> u64
+    ensures { λ r. ⌜ r ≡ refusal 4 (rangeGood lower upper) ⌝ }
+{
+    if upper < lower {
+        return WRONG_RANGE;
+    }
+    if LAST_BOUND < lower {
+        return WRONG_RANGE;
+    }
+    if upper == UNBOUNDED {
+        return ACCEPTED;
+    }
+    if LAST_BOUND < upper {
+        return WRONG_RANGE;
+    }
+    ACCEPTED
+}
+
+// Refuses the temporal row that there is no set for.
+fn room_number(kind: u64, temporals: usize) -> u64
+    ensures { λ r. ⌜ r ≡ refusal 2 (not (temporal kind && leb 32 temporals)) ⌝ }
+{
+    if kind < HISTORICALLY {
+        return ACCEPTED;
+    }
+    if temporals < MOST_TEMPORALS {
+        return ACCEPTED;
+    }
+    PAST_LIMIT
+}
+
+// What a row is refused with; so many before it are temporal.
+fn row_number(rows: &[u64], row: usize, temporals: usize) -> u64
+    requires { ⌜ (row < length (now rows) / 4) × (temporals ≡ temporalsIn (now rows) row) ⌝ }
+    ensures { λ r. ⌜ r ≡ rowNumber (now (rows .entry)) row ⌝ }
+{
+    let kind = kind_in(rows, row);
+    let lower = lower_in(rows, row);
+    let upper = upper_in(rows, row);
+    let wrong = form_number(kind, arg_in(rows, row), lower, upper);
+    if wrong != ACCEPTED {
+        return wrong;
+    }
+    let wrong = range_number(lower, upper);
+    if wrong != ACCEPTED {
+        return wrong;
+    }
+    room_number(kind, temporals)
+}
+
+// 1 for a temporal row, 0 for another.
+fn temporal_bit(kind: u64) -> usize
+    ensures { λ r. ⌜ r ≡ bitOf (temporal kind) ⌝ }
+{
+    if kind < HISTORICALLY {
+        return 0;
+    }
+    1
+}
+
+// What the rows are refused with, in their order.
+fn rows_number(rows: &[u64]) -> u64
+    ensures { λ r. ⌜ r ≡ firstTo (rowNumber (now (rows .entry))) (length (now (rows .entry)) / 4) ⌝ }
+{
+    let mut temporals = 0;
+    let mut row = 0;
+    while row < rows.len() / ROW_WORDS {
+        let wrong = row_number(rows, row, temporals);
+        if wrong != ACCEPTED {
+            return wrong;
+        }
+        temporals += temporal_bit(kind_in(rows, row));
+        row += 1;
+    }
+    ACCEPTED
 }
