@@ -11,18 +11,19 @@ use lib.Seq.{getD-drop, getD-append-add}
 use borrow.Author.Tests.{le-leb, lt-leb, eq-eqb}
 use Rattle.numset.specs.Runs.{MAX, Good, Runs, runs, runsTo}
 use Rattle.numset.proofs.Laws.{lt-or-ge}
+use Rattle.numset.proofs.Packs.{good-zeros}
 use Rattle.pmtl.specs.Book.{H, Row, widthOf}
 use Rattle.pmtl.specs.Answer.{bitOf}
 use Rattle.pmtl.specs.Monitor.{initial}
 use Rattle.rows.specs.Memory.{ROWS, ROW, OPERANDS, PROPERTIES, ATOMS, OWNERS, SET, SIZE, part, rowCount, widthWord, temporals, assumeCount, guaranteeCount, kindAt, argAt, lowerAt, upperAt, startAt, slotAt, operandsOf, ownerAt, setStart, setWords, countOf, temporal, listed, rowOf, rowsOf, bookOf, isOne, setOf, stateOf, RowKept, BookKept}
+use Rattle.rows.proofs.Listed.{listed-length, listed-agree}
 use Rattle.book.specs.Reading.{Sections}
 use Rattle.book.specs.Judging.{kindIn, argIn, lowerIn, upperIn, rowsIn, temporalsIn, startIn, argGood, formGood, rangeGood, rowIn, bookIn}
 use Rattle.book.specs.Kept.{startTo, slotTo, Tidy, Kept}
 use Rattle.book.proofs.Accepted.{form, range, temporals-fit, operands-taken, operands-there, operand-below, assume-below, guarantee-below, form-arg, form-kind, lower-small, upper-small}
 use Rattle.store.specs.Stored.{reach, widthIn, slotIn, rowsPut, put, headPut, stored, Rowed, Accepted, Holds}
 use Rattle.store.proofs.Parts.{word-at, part-length, part-at, part-is, part-zeros}
-use Rattle.store.proofs.Listed.{listed-length, listed-same, listed-all}
-use Rattle.store.proofs.Empty.{good-zeros}
+use Rattle.store.proofs.Listed.{listed-all}
 use Rattle.store.proofs.Forms.{row-local, row-width, width-listed, width-reaches, width-small}
 use Rattle.store.proofs.Puts.{temporals-mono, slot-fits}
 use Rattle.store.proofs.Rows.{Temporal, temporal-of}
@@ -125,7 +126,7 @@ module _ (s : Sections) (m : List ℕ) (ok : Accepted s) (st : Stands s m) where
   -- ---- the book
   rows-are : rowsOf m ≡ listed (rowIn s) (rowsIn s)
   unfolding rowsOf
-  rows-are = rw (st .count) (listed-same (rowOf m) (rowIn s) (rowsIn s) row-is)
+  rows-are = rw (st .count) (listed-agree (rowOf m) (rowIn s) (rowsIn s) row-is)
 
   assumes-are : part PROPERTIES (assumeCount m) m ≡ s .assumes
   assumes-are =

@@ -9,19 +9,21 @@ ghost use Rattle.rows.specs.Memory.{ROWS, ROW, SIZE, countOf};
 ghost use Rattle.book.specs.Reading.{GIVEN};
 ghost use Rattle.book.specs.Judging.{kindIn, argGood, startIn, temporalsIn};
 ghost use Rattle.store.specs.Stored.{reach, widthIn, wordsWith, rowPut, rowsPut, put, headPut, Rowed, sectionsOf, Accepted, Holds};
+use rows::AND;
+use rows::ASSUMES;
+use rows::ATOM;
+use rows::GUARANTEES;
+use rows::HISTORICALLY;
+use rows::OPERANDS;
+use rows::OWNERS;
+use rows::PROPERTIES;
+use rows::ROW;
+use rows::ROW_COUNT;
+use rows::ROWS;
+use rows::TEMPORALS;
+use rows::WIDTH;
 
-// Where things stand in a monitor's memory.
-const ROWS_AT: usize = 7;
-
-const ROW_WORDS: usize = 6;
-
-const OPERANDS_AT: usize = 775;
-
-const PROPERTIES_AT: usize = 903;
-
-const OWNERS_AT: usize = 1191;
-
-// Words of a row as it is given: kind, arg, lower, upper.
+// Words of a row as it is given: kind, arg, lower, upper; in a memory two more.
 const GIVEN_WORDS: usize = 4;
 
 const ARG: usize = 1;
@@ -30,12 +32,9 @@ const LOWER: usize = 2;
 
 const UPPER: usize = 3;
 
-// The kinds that the code tells apart: an atom, the first whose arg is its number of operands, the first that is temporal.
-const ATOM: u64 = 2;
+const START: usize = 4;
 
-const AND: u64 = 3;
-
-const HISTORICALLY: u64 = 7;
+const SLOT: usize = 5;
 
 // What the head of a memory says of its rows.
 pub struct Totals {
@@ -109,13 +108,13 @@ fn put_words(given: &[u64], row: usize, start: u64, slot: u64, monitor: &mut [u6
     requires { ⌜ (row < 128) × (GIVEN * row + 4 ≤ length (now given)) × (length (now monitor) ≡ SIZE) ⌝ }
     ensures { λ _. ⌜ now (monitor .exit) ≡ paste (now (monitor .entry)) (ROWS + ROW * row) (wordsWith (now (given .entry)) row start slot) ROW ⌝ }
 {
-    let at = ROWS_AT + ROW_WORDS * row;
+    let at = ROWS + ROW * row;
     monitor[at] = kind_at(given, row);
-    monitor[at + 1] = given_at(given, row, ARG);
-    monitor[at + 2] = given_at(given, row, LOWER);
-    monitor[at + 3] = given_at(given, row, UPPER);
-    monitor[at + 4] = start;
-    monitor[at + 5] = slot;
+    monitor[at + ARG] = given_at(given, row, ARG);
+    monitor[at + LOWER] = given_at(given, row, LOWER);
+    monitor[at + UPPER] = given_at(given, row, UPPER);
+    monitor[at + START] = start;
+    monitor[at + SLOT] = slot;
 }
 
 // A row, and where it is temporal its set's owner; answers with the next row's set.
@@ -130,7 +129,7 @@ fn put_row(given: &[u64], row: usize, start: u64, slot: usize, monitor: &mut [u6
         return slot;
     }
     put_words(given, row, start, slot as u64, monitor);
-    monitor[OWNERS_AT + slot] = row as u64;
+    monitor[OWNERS + slot] = row as u64;
     slot + 1
 }
 
@@ -164,11 +163,11 @@ fn put_head(monitor: &mut [u64], rows: u64, totals: Totals, assumes: u64, guaran
     requires { ⌜ length (now monitor) ≡ SIZE ⌝ }
     ensures { λ _. ⌜ now (monitor .exit) ≡ headPut (now (monitor .entry)) rows (totals .width) (totals .temporals) assumes guarantees ⌝ }
 {
-    monitor[0] = rows;
-    monitor[3] = totals.width;
-    monitor[4] = totals.temporals;
-    monitor[5] = assumes;
-    monitor[6] = guarantees;
+    monitor[ROW_COUNT] = rows;
+    monitor[WIDTH] = totals.width;
+    monitor[TEMPORALS] = totals.temporals;
+    monitor[ASSUMES] = assumes;
+    monitor[GUARANTEES] = guarantees;
 }
 
 // The memory of an accepted book, whatever stood there before.
@@ -184,9 +183,9 @@ pub fn store<'a>(
     ensures { λ _. ⌜ Holds (sectionsOf (now (given .entry)) (now (operands .entry)) (now (assumes .entry)) (now (guarantees .entry))) (now (monitor .exit)) ⌝ }
 {
     wipe(monitor);
-    copy(operands, monitor, OPERANDS_AT);
-    copy(assumes, monitor, PROPERTIES_AT);
-    copy(guarantees, monitor, PROPERTIES_AT + assumes.len());
+    copy(operands, monitor, OPERANDS);
+    copy(assumes, monitor, PROPERTIES);
+    copy(guarantees, monitor, PROPERTIES + assumes.len());
     let totals = put_rows(given, monitor);
     put_head(
         monitor,
