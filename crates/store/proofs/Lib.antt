@@ -8,3 +8,5 @@ pub mod Puts
 pub mod Rows
 pub mod Stands
 pub mod Holds
+pub mod Codes
+pub mod Same
