@@ -68,9 +68,6 @@ pub record Rowed (ws : List ℕ) : Type 0 where
   pub temporals-few : temporalsIn ws (length ws / GIVEN) ≤ 32
   pub args : (r : ℕ) → r < length ws / GIVEN → argGood (kindIn ws r) (argIn ws r) ≡ true
 
-abbrev pub sectionsOf : List ℕ → List ℕ → List ℕ → List ℕ → Sections
-sectionsOf rows operands assumes guarantees = record { rows = rows; operands = operands; assumes = assumes; guarantees = guarantees }
-
 -- the sections are within the limits, and accepted
 pub record Accepted (s : Sections) : Type 0 where
   pub rows-few : length (s .rows) ≤ 512

@@ -7,8 +7,9 @@ ghost use lib.Seq.{paste};
 ghost use mathlib.Core.List.{List, [], _∷_};
 ghost use Rattle.rows.specs.Memory.{ROWS, ROW, SIZE, countOf};
 ghost use Rattle.book.specs.Reading.{GIVEN};
+ghost use Rattle.book.specs.Placing.{sectionsOf};
 ghost use Rattle.book.specs.Judging.{kindIn, argGood, startIn, temporalsIn};
-ghost use Rattle.store.specs.Stored.{reach, widthIn, wordsWith, rowPut, rowsPut, put, headPut, Rowed, sectionsOf, Accepted, Holds};
+ghost use Rattle.store.specs.Stored.{reach, widthIn, wordsWith, rowPut, rowsPut, put, headPut, Rowed, Accepted, Holds};
 use rows::AND;
 use rows::ASSUMES;
 use rows::ATOM;
@@ -171,7 +172,7 @@ fn put_head(monitor: &mut [u64], rows: u64, totals: Totals, assumes: u64, guaran
 }
 
 // The memory of an accepted book, whatever stood there before.
-pub fn store<'a>(
+fn store<'a>(
     given: &'a [u64],
     operands: &'a [u64],
     assumes: &'a [u64],
