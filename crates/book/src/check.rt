@@ -11,7 +11,7 @@ ghost use Rattle.book.specs.Judging.{kindIn, argIn, lowerIn, upperIn, te
 ghost use Rattle.book.specs.Placing.{partsOf, sectionsOf, refusal, leastArgs, largestArgs, allBelow, operandsMet, Countable, Tallied, Few, Linked, Counted, Placed, Told, SectionTold};
 
 // The numbers that a book is answered with.
-const ACCEPTED: u64 = 0;
+pub const ACCEPTED: u64 = 0;
 
 const WRONG_LENGTH: u64 = 1;
 
@@ -35,10 +35,10 @@ const MOST_PROPERTIES: usize = 16;
 const MOST_TEMPORALS: usize = 32;
 
 // A section's count takes a word.
-const COUNT_WORD: usize = 1;
+pub const COUNT_WORD: usize = 1;
 
 // A row's words: kind, arg, lower, upper.
-const ROW_WORDS: usize = 4;
+pub const ROW_WORDS: usize = 4;
 
 const ARG: usize = 1;
 
@@ -175,28 +175,28 @@ fn counts(words: &[u64]) -> Places
 }
 
 // What the words of a row say.
-fn kind_in(rows: &[u64], row: usize) -> u64
+pub fn kind_in(rows: &[u64], row: usize) -> u64
     requires { ⌜ row < length (now rows) / 4 ⌝ }
     ensures { λ r. ⌜ r ≡ kindIn (now (rows .entry)) row ⌝ }
 {
     rows[ROW_WORDS * row]
 }
 
-fn arg_in(rows: &[u64], row: usize) -> u64
+pub fn arg_in(rows: &[u64], row: usize) -> u64
     requires { ⌜ row < length (now rows) / 4 ⌝ }
     ensures { λ r. ⌜ r ≡ argIn (now (rows .entry)) row ⌝ }
 {
     rows[ROW_WORDS * row + ARG]
 }
 
-fn lower_in(rows: &[u64], row: usize) -> u64
+pub fn lower_in(rows: &[u64], row: usize) -> u64
     requires { ⌜ row < length (now rows) / 4 ⌝ }
     ensures { λ r. ⌜ r ≡ lowerIn (now (rows .entry)) row ⌝ }
 {
     rows[ROW_WORDS * row + LOWER]
 }
 
-fn upper_in(rows: &[u64], row: usize) -> u64
+pub fn upper_in(rows: &[u64], row: usize) -> u64
     requires { ⌜ row < length (now rows) / 4 ⌝ }
     ensures { λ r. ⌜ r ≡ upperIn (now (rows .entry)) row ⌝ }
 {
@@ -349,7 +349,7 @@ fn below_number(numbers: &[u64], from: usize, count: usize, bound: usize) -> u64
 }
 
 // How many operands a row takes whose arg its kind takes: from And on the arg counts them.
-fn taken_by(kind: u64, arg: u64) -> usize
+pub fn taken_by(kind: u64, arg: u64) -> usize
     requires { ⌜ argGood kind arg ≡ true ⌝ }
     ensures { λ r. ⌜ r ≡ countOf kind arg ⌝ }
 {
@@ -468,7 +468,7 @@ fn judge<'a>(rows: &'a [u64], operands: &'a [u64], assumes: &'a [u64], guarantee
 }
 
 // So many words from a place on.
-fn part_of(words: &[u64], from: usize, count: usize) -> &[u64]
+pub fn part_of(words: &[u64], from: usize, count: usize) -> &[u64]
     requires { ⌜ from + count ≤ length (now words) ⌝ }
     ensures { λ r. ⌜ now r ≡ part from count (now (words .entry)) ⌝ }
 {

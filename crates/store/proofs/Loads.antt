@@ -9,22 +9,14 @@ use Rattle.pmtl.specs.Monitor.{initial}
 use Rattle.rows.specs.Memory.{SIZE}
 use Rattle.book.specs.Judging.{judged, Loaded, loaded}
 use Rattle.book.specs.Placing.{partsOf, Counted, Placed}
-use Rattle.book.proofs.Placing.{rows-long, operands-counted, assumes-counted, guarantees-counted, accepted, accepted-book, refused-book}
+use Rattle.book.proofs.Placing.{parts-few, accepted, accepted-book, refused-book}
 use Rattle.store.specs.Loading.{Loads}
 use Rattle.store.specs.Stored.{Accepted, Holds}
 use Rattle.store.proofs.Empty.{empty-kept, empty-book, empty-state}
 
 module _ (words : List ℕ) (number n o a g : ℕ) (p : Placed words number n o a g) where
   pub placed-accepted : number ≡ 0 → Accepted (partsOf words n o a g)
-  placed-accepted e =
-      let c = p .counted e in
-      record {
-        rows-few = omega (arith, rows-long words n o a g c, c .rows-few);
-        operands-few = omega (arith, operands-counted words n o a g c, c .operands-few);
-        assumes-few = omega (arith, assumes-counted words n o a g c, c .assumes-few);
-        guarantees-few = omega (arith, guarantees-counted words n o a g c, c .guarantees-few);
-        good = accepted words number n o a g p e;
-      }
+  placed-accepted e = record { few = parts-few words n o a g (p .counted e); good = accepted words number n o a g p e }
 
   module _ (m : List ℕ) where
     pub loads-accepted : number ≡ 0 → Holds (partsOf words n o a g) m → Loads words m number
