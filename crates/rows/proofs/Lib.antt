@@ -1,0 +1,4 @@
+pub mod Listed
+pub mod Kept
+pub mod Values
+pub mod Earlies
