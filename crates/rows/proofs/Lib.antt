@@ -2,3 +2,4 @@ pub mod Listed
 pub mod Kept
 pub mod Values
 pub mod Earlies
+pub mod Settleds

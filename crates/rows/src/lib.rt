@@ -4,11 +4,28 @@ ghost use mathlib.Core.List.{map};
 ghost use Prim.Native.Nat.{_+_, _<_};
 ghost use lib.ListN.{length, getD};
 ghost use Rattle.rows.specs.Memory.{SIZE, OPERANDS, BookKept, rowCount, begunWord, clockOf, widthWord, temporals, assumeCount, guaranteeCount, kindAt, argAt, lowerAt, upperAt, startAt, slotAt, ownerAt};
-ghost use Rattle.rows.specs.Facts.{hereIn, coversIn, outputOf, valuationOf};
-ghost use Rattle.rows.specs.Walk.{Span, operandsFrom, joined, takenIn, earlySoFar, impliedBy, earlyHistorically, earlyOnce, earlyCovered};
-ghost use Rattle.pmtl.specs.Answer.{isTrue, isFalse, isOpen, reversed};
+ghost use Rattle.rows.specs.Facts.{hereIn, coversIn, goneIn, outputOf, valuationOf, settledOf};
+ghost use Rattle.rows.specs.Walk.{Span, operandAt, operandsFrom, rangeAt, joined, earlySoFar, settledSoFar, coversAlone};
+ghost use Rattle.pmtl.specs.Book.Row.{since};
+ghost use Rattle.pmtl.specs.Settled.{settledRule};
 ghost use lib.Dec.{eqb};
+
+mod rules;
+
 use pmtl::Answer;
+use rules::decides_it;
+use rules::early_covered;
+use rules::early_historically;
+use rules::early_once;
+use rules::implied;
+use rules::is_false;
+use rules::is_open;
+use rules::is_true;
+use rules::negated;
+use rules::settled_historically;
+use rules::settled_left;
+use rules::settled_once;
+use rules::taken_in;
 
 // Where things stand in a monitor's memory, and how many words they take.
 pub const ROW_COUNT: usize = 0;
@@ -271,77 +288,6 @@ fn output_walk<'a>(
     output_walk(monitor, atoms, facts, row, place + 1, left - 1, stop)
 }
 
-fn is_true(x: Answer) -> bool
-    ensures { λ r. ⌜ r ≡ isTrue x ⌝ }
-{
-    match x {
-        Answer::False => false,
-        Answer::True => true,
-        Answer::Open => false,
-    }
-}
-
-fn is_false(x: Answer) -> bool
-    ensures { λ r. ⌜ r ≡ isFalse x ⌝ }
-{
-    match x {
-        Answer::False => true,
-        Answer::True => false,
-        Answer::Open => false,
-    }
-}
-
-fn is_open(x: Answer) -> bool
-    ensures { λ r. ⌜ r ≡ isOpen x ⌝ }
-{
-    match x {
-        Answer::False => false,
-        Answer::True => false,
-        Answer::Open => true,
-    }
-}
-
-// Not.
-fn not(x: Answer) -> Answer
-    ensures { λ r. ⌜ r ≡ reversed x ⌝ }
-{
-    match x {
-        Answer::False => Answer::True,
-        Answer::True => Answer::False,
-        Answer::Open => Answer::Open,
-    }
-}
-
-// Implies.
-fn implied(left: Answer, right: Answer) -> Answer
-    ensures { λ r. ⌜ r ≡ impliedBy left right ⌝ }
-{
-    match right {
-        Answer::False => match left {
-            Answer::False => Answer::True,
-            Answer::True => Answer::False,
-            Answer::Open => Answer::Open,
-        },
-        Answer::True => Answer::True,
-        Answer::Open => match left {
-            Answer::False => Answer::True,
-            Answer::True => Answer::Open,
-            Answer::Open => Answer::Open,
-        },
-    }
-}
-
-// And, or Or if `any`, of the operands so far with one more.
-fn taken_in(any: bool, sofar: Answer, x: Answer) -> Answer
-    ensures { λ r. ⌜ r ≡ takenIn any sofar x ⌝ }
-{
-    match x {
-        Answer::False => if any { sofar } else { Answer::False },
-        Answer::True => if any { Answer::True } else { sofar },
-        Answer::Open => Answer::Open,
-    }
-}
-
 // Whether a row's lower bound is 0.
 fn from_now(monitor: &[u64], row: usize) -> bool
     requires { ⌜ length (now monitor) ≡ SIZE ⌝ }
@@ -359,53 +305,6 @@ fn covers_at(facts: &[u8; 128], row: usize) -> bool
     facts[row] / 2 % 2 == 1
 }
 
-fn early_historically(zero: bool, covers: bool, x: Answer) -> Answer
-    ensures { λ r. ⌜ r ≡ earlyHistorically zero covers x ⌝ }
-{
-    match x {
-        Answer::True => Answer::True,
-        Answer::False => {
-            if zero {
-                Answer::False
-            } else if covers {
-                Answer::False
-            } else {
-                Answer::Open
-            }
-        }
-        Answer::Open => if covers { Answer::False } else { Answer::Open },
-    }
-}
-
-fn early_once(zero: bool, covers: bool, x: Answer) -> Answer
-    ensures { λ r. ⌜ r ≡ earlyOnce zero covers x ⌝ }
-{
-    match x {
-        Answer::False => Answer::False,
-        Answer::True => {
-            if zero {
-                Answer::True
-            } else if covers {
-                Answer::True
-            } else {
-                Answer::Open
-            }
-        }
-        Answer::Open => if covers { Answer::True } else { Answer::Open },
-    }
-}
-
-// Since, where right is not false and the set covers.
-fn early_covered(zero: bool, left: Answer) -> Answer
-    ensures { λ r. ⌜ r ≡ earlyCovered zero left ⌝ }
-{
-    match left {
-        Answer::False => if zero { Answer::False } else { Answer::Open },
-        Answer::True => Answer::True,
-        Answer::Open => Answer::Open,
-    }
-}
-
 // A row's early answer: it is always true, or always false, from the clock on.
 pub fn valuation<'a>(monitor: &'a [u64], facts: &'a [u8; 128], row: usize) -> Answer
     requires { ⌜ BookKept (now monitor) ⌝ }
@@ -421,7 +320,7 @@ pub fn valuation<'a>(monitor: &'a [u64], facts: &'a [u8; 128], row: usize) -> An
         ATOM => Answer::Open,
         AND => valuation_walk(monitor, facts, row, start, arg, false, Answer::True),
         OR => valuation_walk(monitor, facts, row, start, arg, true, Answer::False),
-        NOT => not(valuation(monitor, facts, operand_at(monitor, start))),
+        NOT => negated(valuation(monitor, facts, operand_at(monitor, start))),
         IMPLIES => {
             let right = valuation(monitor, facts, operand_at(monitor, start + 1));
             if is_true(right) {
@@ -474,6 +373,121 @@ fn valuation_walk<'a>(
         return Answer::Open;
     }
     valuation_walk(
+        monitor,
+        facts,
+        row,
+        place + 1,
+        left - 1,
+        any,
+        taken_in(any, sofar, x),
+    )
+}
+
+// Whether nothing of a row's set can matter any more.
+fn gone_at(facts: &[u8; 128], row: usize) -> bool
+    requires { ⌜ row < 128 ⌝ }
+    ensures { λ r. ⌜ r ≡ goneIn (now (facts .entry)) row ⌝ }
+{
+    facts[row] / 4 % 2 == 1
+}
+
+// Whether it covers and is not gone.
+fn covers_alone(facts: &[u8; 128], row: usize) -> bool
+    requires { ⌜ row < 128 ⌝ }
+    ensures { λ r. ⌜ r ≡ coversAlone (coversIn (now (facts .entry)) row) (goneIn (now (facts .entry)) row) ⌝ }
+{
+    if covers_at(facts, row) {
+        !gone_at(facts, row)
+    } else {
+        false
+    }
+}
+
+// A row's settled answer, once a call was accepted: no further call can change its value.
+pub fn settled<'a>(monitor: &'a [u64], facts: &'a [u8; 128], row: usize) -> Answer
+    requires { ⌜ BookKept (now monitor) ⌝ }
+    requires { ⌜ row < rowCount (now monitor) ⌝ }
+    ensures { λ r. ⌜ r ≡ settledOf (now (monitor .entry)) (now (facts .entry)) row ⌝ }
+{
+    let kind = kind_at(monitor, row);
+    let arg = arg_at(monitor, row);
+    let start = start_at(monitor, row);
+    match kind {
+        FALSE => Answer::False,
+        TRUE => Answer::True,
+        ATOM => Answer::Open,
+        AND => settled_walk(monitor, facts, row, start, arg, false, Answer::True),
+        OR => settled_walk(monitor, facts, row, start, arg, true, Answer::False),
+        NOT => negated(settled(monitor, facts, operand_at(monitor, start))),
+        IMPLIES => {
+            let right = settled(monitor, facts, operand_at(monitor, start + 1));
+            if is_true(right) {
+                return Answer::True;
+            }
+            implied(settled(monitor, facts, operand_at(monitor, start)), right)
+        }
+        HISTORICALLY => {
+            if covers_alone(facts, row) {
+                return Answer::False;
+            }
+            let x = settled(monitor, facts, operand_at(monitor, start));
+            settled_historically(
+                from_now(monitor, row),
+                covers_at(facts, row),
+                gone_at(facts, row),
+                x,
+            )
+        }
+        ONCE => {
+            if covers_at(facts, row) {
+                return Answer::True;
+            }
+            let x = settled(monitor, facts, operand_at(monitor, start));
+            settled_once(from_now(monitor, row), gone_at(facts, row), x)
+        }
+        _ => settled_since(monitor, facts, row, start),
+    }
+}
+
+// The settled answer of a Since row, whose two operands stand from `start` on. Right is asked where left does not decide.
+fn settled_since<'a>(monitor: &'a [u64], facts: &'a [u8; 128], row: usize, start: usize) -> Answer
+    requires { ⌜ BookKept (now monitor) ⌝ }
+    requires { ⌜ row < rowCount (now monitor) ⌝ }
+    requires { ⌜ Span (now monitor) row start 2 ⌝ }
+    ensures { λ r. ⌜ r ≡ settledRule (coversIn (now (facts .entry)) row) (goneIn (now (facts .entry)) row) (since (rangeAt (now (monitor .entry)) row) (settledOf (now (monitor .entry)) (now (facts .entry)) (operandAt (now (monitor .entry)) start)) (settledOf (now (monitor .entry)) (now (facts .entry)) (operandAt (now (monitor .entry)) (start + 1)))) ⌝ }
+{
+    let left = settled(monitor, facts, operand_at(monitor, start));
+    let by_left = settled_left(from_now(monitor, row), covers_at(facts, row), left);
+    if is_open(by_left) {
+        let right = settled(monitor, facts, operand_at(monitor, start + 1));
+        return settled_once(from_now(monitor, row), gone_at(facts, row), right);
+    }
+    by_left
+}
+
+// Asks `left` operands of `row` from `place` on, in turn, until one decides.
+fn settled_walk<'a>(
+    monitor: &'a [u64],
+    facts: &'a [u8; 128],
+    row: usize,
+    place: usize,
+    left: usize,
+    any: bool,
+    sofar: Answer,
+) -> Answer
+    requires { ⌜ BookKept (now monitor) ⌝ }
+    requires { ⌜ row < rowCount (now monitor) ⌝ }
+    requires { ⌜ Span (now monitor) row place left ⌝ }
+    ensures { λ r. ⌜ r ≡ settledSoFar any sofar (map (settledOf (now (monitor .entry)) (now (facts .entry))) (operandsFrom (now (monitor .entry)) place left)) ⌝ }
+{
+    if left == 0 {
+        return sofar;
+    }
+    let x = settled(monitor, facts, operand_at(monitor, place));
+    if decides_it(any, x) {
+        return x;
+    }
+    settled_walk(
         monitor,
         facts,
         row,

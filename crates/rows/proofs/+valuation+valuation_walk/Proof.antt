@@ -23,19 +23,19 @@ use Rattle.rows.proofs.valuation_walk.Kinds as valuation-walk-kinds
 use Rattle.rows.proofs.+valuation+valuation_walk.Lts-valuation_walk as valuation-walk-lts
 use Rattle.rows.proofs.arg_at.Reads as arg-at-reads
 use Rattle.rows.proofs.covers_at.Reads as covers-at-reads
-use Rattle.rows.proofs.early_covered.Reads as early-covered-reads
-use Rattle.rows.proofs.early_historically.Reads as early-historically-reads
-use Rattle.rows.proofs.early_once.Reads as early-once-reads
 use Rattle.rows.proofs.from_now.Reads as from-now-reads
-use Rattle.rows.proofs.implied.Reads as implied-reads
-use Rattle.rows.proofs.is_false.Reads as is-false-reads
-use Rattle.rows.proofs.is_open.Reads as is-open-reads
-use Rattle.rows.proofs.is_true.Reads as is-true-reads
 use Rattle.rows.proofs.kind_at.Reads as kind-at-reads
-use Rattle.rows.proofs.not.Reads as not-reads
 use Rattle.rows.proofs.operand_at.Reads as operand-at-reads
+use Rattle.rows.proofs.rules.early_covered.Reads as early-covered-reads
+use Rattle.rows.proofs.rules.early_historically.Reads as early-historically-reads
+use Rattle.rows.proofs.rules.early_once.Reads as early-once-reads
+use Rattle.rows.proofs.rules.implied.Reads as implied-reads
+use Rattle.rows.proofs.rules.is_false.Reads as is-false-reads
+use Rattle.rows.proofs.rules.is_open.Reads as is-open-reads
+use Rattle.rows.proofs.rules.is_true.Reads as is-true-reads
+use Rattle.rows.proofs.rules.negated.Reads as negated-reads
+use Rattle.rows.proofs.rules.taken_in.Reads as taken-in-reads
 use Rattle.rows.proofs.start_at.Reads as start-at-reads
-use Rattle.rows.proofs.taken_in.Reads as taken-in-reads
 use Rattle.rows.proofs.+valuation+valuation_walk.{statement}
 use Rattle.rows.proofs.+valuation+valuation_walk.Tie.{close}
 
@@ -70,7 +70,7 @@ valuation-walk-below t =
 
 -- what `valuation` calls, as its needs take it
 abbrev valuation-calls : ℕ → valuation-lts.Claims
-valuation-calls t = (kind-at-reads.Asked, kind-at-reads.Learnt, arg-at-reads.Asked, arg-at-reads.Learnt, start-at-reads.Asked, start-at-reads.Learnt, valuation-walk-below t, valuation-walk.Post, operand-at-reads.Asked, operand-at-reads.Learnt, valuation-below t, valuation.Post, not-reads.Asked, not-reads.Learnt, is-true-reads.Asked, is-true-reads.Learnt, implied-reads.Asked, implied-reads.Learnt, from-now-reads.Asked, from-now-reads.Learnt, covers-at-reads.Asked, covers-at-reads.Learnt, early-historically-reads.Asked, early-historically-reads.Learnt, early-once-reads.Asked, early-once-reads.Learnt, is-false-reads.Asked, is-false-reads.Learnt, early-covered-reads.Asked, early-covered-reads.Learnt)
+valuation-calls t = (kind-at-reads.Asked, kind-at-reads.Learnt, arg-at-reads.Asked, arg-at-reads.Learnt, start-at-reads.Asked, start-at-reads.Learnt, valuation-walk-below t, valuation-walk.Post, operand-at-reads.Asked, operand-at-reads.Learnt, valuation-below t, valuation.Post, negated-reads.Asked, negated-reads.Learnt, is-true-reads.Asked, is-true-reads.Learnt, implied-reads.Asked, implied-reads.Learnt, from-now-reads.Asked, from-now-reads.Learnt, covers-at-reads.Asked, covers-at-reads.Learnt, early-historically-reads.Asked, early-historically-reads.Learnt, early-once-reads.Asked, early-once-reads.Learnt, is-false-reads.Asked, is-false-reads.Learnt, early-covered-reads.Asked, early-covered-reads.Learnt)
 
 -- what `valuation-walk` calls, as its needs take it
 abbrev valuation-walk-calls : ℕ → valuation-walk-lts.Claims
@@ -130,8 +130,8 @@ valuation-valuation-requires : (t : ℕ) → valuation-lts.Need-valuation-requir
 unfolding countOf
 valuation-valuation-requires t c κs = asks t (c .before .before) (first-below (span-as (seen t (c .before .before)) (c .before .match .keys6)) (lit< tt) (c .operand-at .ensures))
 
-valuation-not-requires : (t : ℕ) → valuation-lts.Need-not-requires (valuation-calls t) (valuation-at t) valuation.Post
-valuation-not-requires t c κs = search needs
+valuation-negated-requires : (t : ℕ) → valuation-lts.Need-negated-requires (valuation-calls t) (valuation-at t) valuation.Post
+valuation-negated-requires t c κs = search needs
 
 valuation-add-operand-at : (t : ℕ) → valuation-lts.Need-add-operand-at (valuation-calls t) (valuation-at t) valuation.Post
 unfolding countOf
@@ -273,7 +273,7 @@ valuation-returns-8 t c = c .valuation-walk2 .ensures ∙ early-or _ _ ∙ sym (
 valuation-returns-9 : (t : ℕ) → valuation-lts.Need-returns-9 (valuation-calls t) (valuation-at t) valuation.Post
 unfolding earlyRule rowFrom countOf
 valuation-returns-9 t c =
-    c .not .ensures ∙ sym (answer-one _ _ (seen t (c .before .before .before .before)) (c .before .before .before .match .keys6) neg (λ os. refl) (lit< tt) (c .before .before .operand-at .ensures) (c .before .valuation .ensures))
+    c .negated .ensures ∙ sym (answer-one _ _ (seen t (c .before .before .before .before)) (c .before .before .before .match .keys6) neg (λ os. refl) (lit< tt) (c .before .before .operand-at .ensures) (c .before .valuation .ensures))
 
 valuation-returns-10 : (t : ℕ) → valuation-lts.Need-returns-10 (valuation-calls t) (valuation-at t) valuation.Post
 unfolding earlyRule rowFrom countOf
@@ -359,7 +359,7 @@ pub +valuation+valuation-walk-spec : {M : Type 1} → statement M
     (valuation-valuation-walk-requires-2 t)
     (valuation-operand-at-requires t)
     (valuation-valuation-requires t)
-    (valuation-not-requires t)
+    (valuation-negated-requires t)
     (valuation-add-operand-at t)
     (valuation-operand-at-requires-2 t)
     (valuation-valuation-requires-2 t)
