@@ -107,42 +107,6 @@ told-all {m} {facts} {slot} kept told all =
     each r few (yes h) (no is) = none r few (λ _. omega arith)
     each r few (no h) is = none r few (λ h′. absurd (h h′))
 
--- ---- atoms: the first are written, the others are 0
-pub record Copied (m atoms : List ℕ) (i : ℕ) : Type 0 where
-  pub long : length atoms ≡ 256
-  pub done : (k : ℕ) → k < i → getD atoms k 0 ≡ getD m (ATOMS + k) 0
-  pub rest : (k : ℕ) → i ≤ k → k < 256 → getD atoms k 0 ≡ 0
-
-pub copied-start : (m : List ℕ) → Copied m (replicate 256 0) 0
-copied-start m = record {
-  long = length-replicate {A = ℕ} 256 0;
-  done = λ k h. absurd (omega arith);
-  rest = λ k h few. getD-replicate 256 k 0 0 few;
-}
-
-pub copied-more : {m atoms : List ℕ} {i w : ℕ} → Copied m atoms i → i < 256 → w ≡ getD m (ATOMS + i) 0 → Copied m (set atoms i w) (i + 1)
-copied-more {m} {atoms} {i} {w} copied h e = record {
-  long = length-set atoms i w ∙ copied .long;
-  done = λ k below. go k below (ℕ-discrete k i);
-  rest = λ k above few. getD-set-other atoms i k w 0 (λ e′. omega arith) ∙ copied .rest k (omega arith) few;
-}
-  where
-    go : (k : ℕ) → k < i + 1 → Dec (k ≡ i) → getD (set atoms i w) k 0 ≡ getD m (ATOMS + k) 0
-    go k below (yes e′) = rw e′ (getD-set-same atoms i w 0 (let l = copied .long in omega arith) ∙ e)
-    go k below (no e′) = getD-set-other atoms i k w 0 e′ ∙ copied .done k (omega arith)
-
-pub copied-all : {m atoms : List ℕ} {i : ℕ} → Kept m → Copied m atoms i → i ≡ widthWord m → atoms ≡ atomsOf m
-copied-all {m} {atoms} {i} kept copied all =
-    ext-getD 0 atoms (atomsOf m) (copied .long ∙ sym long)
-    (λ k h. let few : k < 256 = let e = copied .long in omega arith in each k few (decLt k i) ∙ sym (getD-take 256 (drop ATOMS m) k 0 few ∙ getD-drop ATOMS m k 0))
-  where
-    long : length (atomsOf m) ≡ 256
-    long = let e = kept .book .long in simp (length-take, length-drop) (omega arith)
-
-    each : (k : ℕ) → k < 256 → Dec (k < i) → getD atoms k 0 ≡ getD m (ATOMS + k) 0
-    each k few (yes h) = copied .done k h
-    each k few (no h) = copied .rest k (omega arith) few ∙ sym (kept .tidy .atoms-rest k (omega arith) few)
-
 -- ---- one set
 pub gone-is : (c : ℕ) (words : List ℕ) (n : ℕ) → eqb n 0 ≡ gone c (runsTo words n)
 unfolding gone runsTo

@@ -1,18 +1,25 @@
 // What a loaded monitor answers of its properties.
 ghost use mathlib.Core.Path.{_≡_};
-ghost use Prim.Native.Nat.{ℕ, _<_};
+ghost use Prim.Native.Nat.{ℕ, _+_, _≤_, _<_};
+ghost use mathlib.Core.Bool.{cond};
 ghost use lib.ListN.{length};
 ghost use Rattle.numset.specs.Runs.{Good, runs};
 ghost use Rattle.pmtl.specs.Answer.{bitOf};
+ghost use Rattle.pmtl.specs.Book.{properties};
 ghost use Rattle.pmtl.specs.Sets.{gone};
-ghost use Rattle.rows.specs.Memory.{SIZE, setWords};
+ghost use Rattle.rows.specs.Memory.{SIZE, rowCount, begunWord, assumeCount, guaranteeCount, setWords, isOne, listed, bookOf, BookKept};
+ghost use Rattle.rows.specs.Facts.{settledOf};
 ghost use Rattle.book.specs.Kept.{Kept};
-ghost use Rattle.verdicts.specs.Steps.{factAbout, factsOf, atomsOf};
+ghost use Rattle.verdicts.specs.Verdict.{verdictOf};
+ghost use Rattle.verdicts.specs.Steps.{absent, factAbout, factsOf, atomsOf, Seen};
+use pmtl::Answer;
 
-// The most rows, and the widest state.
+// The most rows, the widest state and the most properties.
 const MOST_ROWS: usize = 128;
 
 const WIDEST: usize = 256;
+
+const MOST_PROPERTIES: usize = 32;
 
 // What the rows are told of an empty set: it is gone.
 const GONE: u8 = 4;
@@ -20,8 +27,14 @@ const GONE: u8 = 4;
 // The answers of a property.
 pub struct Verdict {
     pub value: bool,
-    pub early: pmtl::Answer,
-    pub settled: pmtl::Answer,
+    pub early: Answer,
+    pub settled: Answer,
+}
+
+// The answers of all properties, assumes first, and how many properties there are.
+pub struct Verdicts {
+    pub count: usize,
+    pub list: [Verdict; MOST_PROPERTIES],
 }
 
 fn bit(b: bool) -> u8
@@ -59,7 +72,7 @@ fn set_at(monitor: &[u64], slot: usize) -> &[u64]
 }
 
 // What the rows are told of their sets. A row that is not temporal has the empty set.
-fn facts(monitor: &[u64]) -> [u8; MOST_ROWS]
+fn read_facts(monitor: &[u64]) -> [u8; MOST_ROWS]
     requires { ⌜ Kept (now monitor) ⌝ }
     ensures { λ r. ⌜ r ≡ factsOf (now (monitor .entry)) ⌝ }
 {
@@ -76,7 +89,7 @@ fn facts(monitor: &[u64]) -> [u8; MOST_ROWS]
 }
 
 // The atoms, a byte for each.
-fn atoms(monitor: &[u64]) -> [u8; WIDEST]
+fn read_atoms(monitor: &[u64]) -> [u8; WIDEST]
     requires { ⌜ Kept (now monitor) ⌝ }
     ensures { λ r. ⌜ r ≡ atomsOf (now (monitor .entry)) ⌝ }
 {
@@ -88,4 +101,87 @@ fn atoms(monitor: &[u64]) -> [u8; WIDEST]
         i += 1;
     }
     atoms
+}
+
+// How many properties the book has.
+fn property_count(monitor: &[u64]) -> usize
+    requires { ⌜ BookKept (now monitor) ⌝ }
+    ensures { λ r. ⌜ r ≡ assumeCount (now (monitor .entry)) + guaranteeCount (now (monitor .entry)) ⌝ }
+{
+    rows::assume_count(monitor) + rows::guarantee_count(monitor)
+}
+
+// The answers of a property that is not there.
+fn absent() -> Verdict
+    ensures { λ r. ⌜ r ≡ absent ⌝ }
+{
+    Verdict {
+        value: false,
+        early: Answer::Open,
+        settled: Answer::Open,
+    }
+}
+
+// A row's settled answer: open before the first accepted call.
+fn settled_at<'a>(monitor: &'a [u64], facts: &'a [u8; MOST_ROWS], row: usize) -> Answer
+    requires { ⌜ BookKept (now monitor) ⌝ }
+    requires { ⌜ row < rowCount (now monitor) ⌝ }
+    ensures { λ r. ⌜ r ≡ cond (isOne (begunWord (now (monitor .entry)))) (settledOf (now (monitor .entry)) (now (facts .entry)) row) Answer.Open ⌝ }
+{
+    if rows::begun(monitor) == 1 {
+        return rows::settled(monitor, facts, row);
+    }
+    Answer::Open
+}
+
+// The answers of property `i`, from the monitor's atoms and facts.
+fn verdict_at<'a>(
+    monitor: &'a [u64],
+    atoms: &'a [u8; WIDEST],
+    facts: &'a [u8; MOST_ROWS],
+    i: usize,
+) -> Verdict
+    requires { ⌜ Seen (now monitor) (now atoms) (now facts) ⌝ }
+    ensures { λ r. ⌜ r ≡ verdictOf (now (monitor .entry)) i ⌝ }
+{
+    if property_count(monitor) <= i {
+        return absent();
+    }
+    let row = rows::word(monitor, rows::PROPERTIES + i) as usize;
+    let value = rows::output(monitor, atoms, facts, row);
+    let early = rows::valuation(monitor, facts, row);
+    let settled = settled_at(monitor, facts, row);
+    Verdict {
+        value,
+        early,
+        settled,
+    }
+}
+
+// The answers of property `i`, assumes first.
+pub fn of_property(monitor: &[u64], i: usize) -> Verdict
+    requires { ⌜ Kept (now monitor) ⌝ }
+    ensures { λ r. ⌜ r ≡ verdictOf (now (monitor .entry)) i ⌝ }
+{
+    let atoms = read_atoms(monitor);
+    let facts = read_facts(monitor);
+    verdict_at(monitor, &atoms, &facts, i)
+}
+
+// The answers of all properties, assumes first.
+pub fn all(monitor: &[u64]) -> Verdicts
+    requires { ⌜ Kept (now monitor) ⌝ }
+    ensures { λ r. ⌜ (r .count ≡ length (properties (bookOf (now (monitor .entry))))) × (r .list ≡ listed (verdictOf (now (monitor .entry))) 32) ⌝ }
+{
+    let atoms = read_atoms(monitor);
+    let facts = read_facts(monitor);
+    let count = property_count(monitor);
+    let none = absent();
+    let mut list = [none; MOST_PROPERTIES];
+    let mut i = 0;
+    while i < count {
+        list[i] = verdict_at(monitor, &atoms, &facts, i);
+        i += 1;
+    }
+    Verdicts { count, list }
 }

@@ -1,3 +1,4 @@
+-- `verdicts::fact_about` meets its contract: three bits, of which none is above 1. Assumes nothing.
 use borrow.Author.Needs.{needs}
 use native.Mathlib.Omega.{arith}
 use Rattle.verdicts.proofs.Read.{bit-small, fact-is}

@@ -1,3 +1,4 @@
+-- `verdicts::gone` meets its contract. Assumes nothing.
 use borrow.Author.Needs.{needs}
 use Rattle.verdicts.proofs.Read.{gone-is}
 use Rattle.verdicts.proofs.gone.Statement.{statement}

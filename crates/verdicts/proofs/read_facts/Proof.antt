@@ -1,3 +1,4 @@
+-- `verdicts::read_facts` meets its contract. The invariant: the facts of the slots passed are written. Assumes nothing.
 use borrow.Author.Needs.{needs}
 use native.Mathlib.Omega.{arith}
 use Prim.Native.Nat.{_-_, _≤_}
@@ -5,8 +6,8 @@ use mathlib.Core.Path.{_≡_, _∙_, sym, subst}
 use Rattle.numset.specs.Runs.{Good}
 use Rattle.rows.specs.Memory.{clockOf, temporals}
 use Rattle.verdicts.proofs.Read.{Told, told-start, told-more, told-all}
-use Rattle.verdicts.proofs.facts.Statement.{statement}
-use Rattle.verdicts.proofs.facts.Tie as tie
+use Rattle.verdicts.proofs.read_facts.Statement.{statement}
+use Rattle.verdicts.proofs.read_facts.Tie as tie
 
 abbrev Inv-loop : tie.InvT-loop
 Inv-loop monitor clock count facts₀ slot₀ facts slot = (slot ≤ count) × (count ≡ temporals monitor) × (clock ≡ clockOf monitor) × Told monitor facts slot
@@ -47,8 +48,8 @@ loop-again c = let k = c .before .before .before .before .before .before .before
 returns : tie.Need-returns Inv-loop μ-loop
 returns c = let k = c .before .before .before .before .before .pre in let l = c .before .loop in told-all k (l .inv .3) (let e = l .inv .1 in let le = l .inv .0 in omega arith)
 
-pub facts-spec : {M : Type 1} → statement M
-facts-spec =
+pub read-facts-spec : {M : Type 1} → statement M
+read-facts-spec =
     tie.close
     (tie.spec
     Inv-loop
