@@ -1,0 +1,4 @@
+pub mod Laws
+pub mod Union
+pub mod Unique
+pub mod Covering
