@@ -6,3 +6,7 @@ pub mod Renewed
 pub mod History
 pub mod Values
 pub mod Settled
+pub mod Ago
+pub mod Calls
+pub mod Theorems
+pub mod Examples

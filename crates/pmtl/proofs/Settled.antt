@@ -304,8 +304,8 @@ module _ (p q : Answer → Bool) (apart : (x : Answer) → p x ≡ true → q x 
   lists-apart [] h k = false≢true k
   lists-apart (x ∷ xs) h k = or-elim (q x) _ (apart x (and-left _ _ h)) (lists-apart xs (and-right (p x) _ h)) k
 
--- where a set does not cover and is gone at once
-tests-apart : (cv gn : Bool) → (cv ≡ true → gn ≡ true → ⊥) → (row : Row Answer) → settledTrue cv gn row ≡ true → settledFalse cv gn row ≡ true → ⊥
+-- of a set that does not both cover and be gone
+pub tests-apart : (cv gn : Bool) → (cv ≡ true → gn ≡ true → ⊥) → (row : Row Answer) → settledTrue cv gn row ≡ true → settledFalse cv gn row ≡ true → ⊥
 unfolding settledTrue settledFalse
 tests-apart cv gn n never h k = false≢true h
 tests-apart cv gn n always h k = false≢true k
@@ -321,6 +321,6 @@ tests-apart cv gn n (since g l r) h k = or-elim (isTrue l && cv) _
     (λ t. or-elim (isFalse r && gn) _ (λ f. one-answer r (and-left _ _ t) (and-left _ _ f))
     (λ f. clash (and-right (isTrue r) _ t) (not-true _ (and-right (isFalse l) _ f))) k) h
 
-pub never-both : (c : ℕ) (s : Runs) → c ≤ MAX → (row : Row Answer)
-    → ¬ ((settledTrue (covers c s) (gone c s) row ≡ true) × (settledFalse (covers c s) (gone c s) row ≡ true))
-never-both c s small row h = tests-apart (covers c s) (gone c s) (λ v n. clash (covers-has c s small v) (gone-now c s n)) row (h .0) (h .1)
+-- a set that covers from a clock is not gone there
+pub covers-not-gone : (c : ℕ) (s : Runs) → c ≤ MAX → covers c s ≡ true → gone c s ≡ true → ⊥
+covers-not-gone c s small v n = clash (covers-has c s small v) (gone-now c s n)
