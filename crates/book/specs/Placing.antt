@@ -1,0 +1,45 @@
+-- Where the sections of a book stand in its words: private steps on the way from words to a loaded book. Definitions only.
+use Prim.Native.Nat.{ℕ, _+_, _*_, _≤_}
+use mathlib.Core.Path.{_≡_}
+use mathlib.Core.List.{List, []}
+use lib.ListN.{length, getD, drop}
+use Rattle.rows.specs.Memory.{part}
+use Rattle.book.specs.Reading.{Read, got, refused, GIVEN, Sections, section, sections}
+use Rattle.book.specs.Judging.{Loaded, refusedWith, loaded}
+
+-- the sections, from how many rows, operands, assumes and guarantees there are: each stands after its count
+unfoldable pub partsOf : List ℕ → ℕ → ℕ → ℕ → ℕ → Sections
+partsOf words n o a g = record {
+  rows = part 1 (GIVEN * n) words;
+  operands = part (GIVEN * n + 2) o words;
+  assumes = part (GIVEN * n + o + 3) a words;
+  guarantees = part (GIVEN * n + o + a + 4) g words;
+}
+
+-- the words are these sections, and nothing is left over
+pub record Counted (words : List ℕ) (n o a g : ℕ) : Type 0 where
+  pub rows-few : n ≤ 128
+  pub operands-few : o ≤ 128
+  pub assumes-few : a ≤ 16
+  pub guarantees-few : g ≤ 16
+  pub long : length words ≡ GIVEN * n + o + a + g + 4
+  pub read : sections 1 words ≡ got (partsOf words n o a g) []
+
+-- the number that the words are refused with, and the counts: all 0 where they are refused
+pub record Placed (words : List ℕ) (number n o a g : ℕ) : Type 0 where
+  pub number-is : number ≡ loaded words .number
+  pub counted : number ≡ 0 → Counted words n o a g
+  pub none : (number ≡ 0 → ⊥) → (n ≡ 0) × (o ≡ 0) × (a ≡ 0) × (g ≡ 0)
+
+-- what reading alone says: the counts, or the refusal that ends it
+pub record Told (words : List ℕ) (number n o a g : ℕ) : Type 0 where
+  pub counted : number ≡ 0 → Counted words n o a g
+  pub refused-with : (number ≡ 0 → ⊥) → loaded words ≡ refusedWith number
+  pub none : (number ≡ 0 → ⊥) → (n ≡ 0) × (o ≡ 0) × (a ≡ 0) × (g ≡ 0)
+
+-- what reading one section says, whose count stands at `at`
+pub record SectionTold (words : List ℕ) (at limit size number : ℕ) : Type 0 where
+  pub counted : number ≡ 0 → getD words at 0 ≤ limit
+  pub fits : number ≡ 0 → at + 1 + size * getD words at 0 ≤ length words
+  pub read : number ≡ 0 → section 1 limit size (drop at words) ≡ got (part (at + 1) (size * getD words at 0) words) (drop (at + 1 + size * getD words at 0) words)
+  pub refused-with : (number ≡ 0 → ⊥) → section 1 limit size (drop at words) ≡ refused number
