@@ -277,7 +277,7 @@ fn has_other(state: &[u8]) -> bool
 }
 
 // The clock becomes `time`.
-pub fn update_time(monitor: &mut [u64], time: u64) -> u64
+pub fn time_call(monitor: &mut [u64], time: u64) -> u64
     requires { ⌜ Kept (now monitor) ⌝ }
     ensures { λ r. ⌜ Called (Call.time time) (now (monitor .entry)) (now (monitor .exit)) r ⌝ }
 {
@@ -292,7 +292,7 @@ pub fn update_time(monitor: &mut [u64], time: u64) -> u64
 }
 
 // The atoms become the bytes of `state`.
-pub fn update_state(monitor: &mut [u64], state: &[u8]) -> u64
+pub fn state_call(monitor: &mut [u64], state: &[u8]) -> u64
     requires { ⌜ Kept (now monitor) ⌝ }
     ensures { λ r. ⌜ Called (Call.state (now (state .entry))) (now (monitor .entry)) (now (monitor .exit)) r ⌝ }
 {

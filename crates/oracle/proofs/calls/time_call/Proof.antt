@@ -1,9 +1,9 @@
 use Rattle.oracle.proofs.Public.{old-bytes, time-early, time-late, time-timely, time-played}
 use borrow.Author.Needs.{needs}
-use Rattle.oracle.proofs.calls.update_time.Statement.{statement}
-use Rattle.oracle.proofs.calls.update_time.Tie as tie
-use Rattle.oracle.proofs.calls.update_time.Reads as reads
-use Rattle.oracle.proofs.calls.update_time.Lts as lts
+use Rattle.oracle.proofs.calls.time_call.Statement.{statement}
+use Rattle.oracle.proofs.calls.time_call.Tie as tie
+use Rattle.oracle.proofs.calls.time_call.Reads as reads
+use Rattle.oracle.proofs.calls.time_call.Lts as lts
 use Rattle.oracle.proofs.calls.advance.Reads as advance-reads
 use Rattle.oracle.proofs.calls.old_atoms.Reads as old-atoms-reads
 use Rattle.rows.proofs.clock.Reads as clock-reads
@@ -44,8 +44,8 @@ same-length-3 c = search needs
 returns-3 : tie.Need-returns-3
 returns-3 c = let s = c .before .before .before .before .before .before .before .before .before .before .before .before in time-played (s .pre) (c .before .before .before .before .before .before .before .before .before .clock .ensures) (c .before .before .before .before .before .before .before .before .if1 .left) (c .before .before .before .before .before .before .before .if2 .left) (c .before .before .before .before .before .old-atoms .ensures) (c .before .before .advance .ensures)
 
-pub update-time-spec : {M : Type 1} → statement M
-update-time-spec =
+pub time-call-spec : {M : Type 1} → statement M
+time-call-spec =
     tie.close
     (tie.spec
     clock-requires

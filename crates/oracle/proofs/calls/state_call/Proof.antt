@@ -1,9 +1,9 @@
 use Rattle.oracle.proofs.Public.{state-wide, state-short, state-other, new-narrow, new-bytes, state-timely, state-played}
 use borrow.Author.Needs.{needs}
-use Rattle.oracle.proofs.calls.update_state.Statement.{statement}
-use Rattle.oracle.proofs.calls.update_state.Tie as tie
-use Rattle.oracle.proofs.calls.update_state.Reads as reads
-use Rattle.oracle.proofs.calls.update_state.Lts as lts
+use Rattle.oracle.proofs.calls.state_call.Statement.{statement}
+use Rattle.oracle.proofs.calls.state_call.Tie as tie
+use Rattle.oracle.proofs.calls.state_call.Reads as reads
+use Rattle.oracle.proofs.calls.state_call.Lts as lts
 use Rattle.oracle.proofs.calls.advance.Reads as advance-reads
 use Rattle.oracle.proofs.calls.has_other.Reads as has-other-reads
 use Rattle.oracle.proofs.calls.new_atoms.Reads as new-atoms-reads
@@ -58,8 +58,8 @@ same-length-3 c = search needs
 returns-4 : tie.Need-returns-4
 returns-4 c = let s = c .before .before .before .before .before .before .before .before .before .before .before .before .before .before .before .before in state-played (s .pre) (s .args .state .now) (c .before .before .before .before .before .before .before .before .before .before .before .before .before .if1 .left) (c .before .before .before .before .before .before .before .before .before .before .before .width .ensures) (c .before .before .before .before .before .before .before .before .before .before .if2 .left) (c .before .before .before .before .before .before .before .before .before .has-other .ensures) (c .before .before .before .before .before .before .before .before .if3 .left) (c .before .before .before .before .before .clock .ensures) (c .before .before .before .before .before .before .before .new-atoms .ensures) (c .before .before .advance .ensures)
 
-pub update-state-spec : {M : Type 1} → statement M
-update-state-spec =
+pub state-call-spec : {M : Type 1} → statement M
+state-call-spec =
     tie.close
     (tie.spec
     returns
