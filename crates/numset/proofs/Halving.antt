@@ -1,15 +1,15 @@
 -- What the search of `contains` knows at each turn. Assumes nothing.
 use Prim.Native.Nat.{ℕ, zero, suc, _+_, _-_, _^_, _≤_, _<_}
 use mathlib.Core.Path.{_≡_, refl, sym, ap, _∙_, subst}
-use mathlib.Core.Bool.{Bool, true, false, _||_, or-false}
-use mathlib.Core.List.{List, [], _∷_}
+use mathlib.Core.Bool.{false, or-false}
+use mathlib.Core.List.{List}
 use native.Mathlib.Omega.{arith}
 use lib.ListN.{getD}
 use lib.Dec.{leb}
 use borrow.Author.Tests.{le-leb}
-use Rattle.numset.specs.Runs.{run, Runs, lo, hi, runsTo, runs, Under, Good, within, has}
+use Rattle.numset.specs.Runs.{Runs, lo, hi, runsTo, runs, Under, Good, has}
 use Rattle.numset.proofs.Laws.{under-has, older-same}
-use Rattle.numset.proofs.Words.{runs-pos, runs-none, Newest, newest}
+use Rattle.numset.proofs.Words.{runs-pos, runs-none, newest}
 
 module _ (m : List ℕ) (k t : ℕ) (p : t < lo m k) where
   -- where run k begins past t, so does every run above it

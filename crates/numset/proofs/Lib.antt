@@ -10,3 +10,4 @@ pub mod Walk
 pub mod Place
 pub mod Last
 pub mod Changes
+pub mod Resets

@@ -2,14 +2,13 @@
 use Prim.Native.Nat.{ℕ, zero, suc, _+_, _*_, _-_, _^_, _≤_, _<_}
 use mathlib.Core.Path.{_≡_, refl, sym, ap, _∙_, subst}
 use mathlib.Core.Logic.{⊎-elim}
-use mathlib.Core.Bool.{Bool, true, false, cond}
-use mathlib.Core.List.{List, [], _∷_}
+use mathlib.Core.Bool.{true, false}
+use mathlib.Core.List.{List, _∷_}
 use native.Mathlib.Omega.{arith}
 use lib.ListN.{length, getD, set, length-set}
 use lib.Seq.{getD-set-other}
-use lib.Dec.{ltb}
 use borrow.Author.Tests.{lt-ltb, le-ltb}
-use Rattle.numset.specs.Runs.{run, Runs, lo, hi, runsTo, runs, Under, Good, insert, union, fits, pack, addNumber, addWords}
+use Rattle.numset.specs.Runs.{run, lo, hi, runsTo, runs, Under, Good, insert, union, fits, pack, addNumber, addWords}
 use Rattle.numset.specs.Words.{Moved, Cleared, Placed, Spanned, stored}
 use Rattle.numset.proofs.Laws.{lt-or-ge}
 use Rattle.numset.proofs.Words.{at, runs-suc, length-runs, same-runs}

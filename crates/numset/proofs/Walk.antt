@@ -1,15 +1,15 @@
 -- What the searches for the runs that an interval joins know at each turn. Assumes nothing.
-use Prim.Native.Nat.{ℕ, zero, suc, _+_, _*_, _-_, _^_, _≤_, _<_, min, max}
+use Prim.Native.Nat.{ℕ, _+_, _-_, _^_, _≤_, _<_, min, max}
 use mathlib.Core.Path.{_≡_, refl, sym, ap, _∙_, subst}
 use mathlib.Core.Logic.{⊎-elim}
-use mathlib.Core.List.{List, [], _∷_}
+use mathlib.Core.List.{List, _∷_}
 use native.Mathlib.Omega.{arith}
-use lib.ListN.{length, getD}
-use Rattle.numset.specs.Runs.{run, Runs, lo, hi, runsTo, runs, Under, Good, insert}
+use lib.ListN.{getD}
+use Rattle.numset.specs.Runs.{run, Runs, lo, hi, runsTo, Under, Good, insert}
 use Rattle.numset.specs.Words.{Ended, Met, Spanned}
 use Rattle.numset.proofs.Laws.{lt-or-ge}
 use Rattle.numset.proofs.Words.{runs-pos, runs-none, newest}
-use Rattle.numset.proofs.Union.{insert-over, insert-past, insert-join}
+use Rattle.numset.proofs.Union.{insert-past, insert-join}
 
 -- ---- the runs that begin by u + 1: those from i on do not
 pub record Ending (m : List ℕ) (u i : ℕ) : Type 0 where

@@ -5,7 +5,7 @@ use mathlib.Core.List.{List, [], _∷_}
 use native.Mathlib.Omega.{arith}
 use native.Mathlib.Numerals.{add-one}
 use lib.ListN.{length, getD}
-use Rattle.numset.specs.Runs.{run, Runs, lo, hi, runsTo, Under}
+use Rattle.numset.specs.Runs.{run, lo, hi, runsTo, Under}
 use Rattle.numset.proofs.Laws.{under-mono}
 
 pub at : (m : List ℕ) (i j : ℕ) → i ≡ j → getD m i 0 ≡ getD m j 0
@@ -13,7 +13,7 @@ at m i j e = ap (λ (k : ℕ). getD m k 0) e
 
 pub runs-suc : (m : List ℕ) (j i : ℕ) → i ≡ j + 1 → runsTo m i ≡ run (lo m j) (hi m j) ∷ runsTo m j
 unfolding runsTo
-runs-suc m j i e = rw (e, add-one)
+runs-suc m j i e = ap (runsTo m) (e ∙ add-one j)
 
 pub runs-pos : (m : List ℕ) (i : ℕ) → 0 < i → runsTo m i ≡ run (lo m (i - 1)) (hi m (i - 1)) ∷ runsTo m (i - 1)
 runs-pos m i h = runs-suc m (i - 1) i (omega arith)

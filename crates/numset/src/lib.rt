@@ -12,6 +12,11 @@ ghost use lib.ListN.{length, getD, replicate};
 ghost use Rattle.numset.specs.Runs.{Good, Covers, runs, has, lo, hi, union, fits, pack, addNumber, addWords, setNumber, setWords};
 ghost use Rattle.numset.specs.Words.{Moved, Cleared, Placed, Ended, Spanned, stored};
 
+mod by_value; // by_value.rt: a set of 64 runs by value
+
+pub use by_value::Added;
+pub use by_value::NumSet;
+
 // The largest instant.
 const MAX: u64 = 0xffff_ffff_ffff_ffff;
 

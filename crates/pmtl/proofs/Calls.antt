@@ -1,9 +1,11 @@
 -- Lists of calls, refused ones among them: a call leaves the state, or goes on along the history. Assumes nothing.
-use Prim.Native.Nat.{ℕ, suc, _≤_}
+use Prim.Native.Nat.{ℕ, zero, suc, _≤_}
 use native.Mathlib.Omega.{arith}
-use mathlib.Core.Path.{_≡_, refl, ap, ap₂, _∙_}
+use native.Mathlib.Nat.{not-suc-le-zero, le-of-suc-le-suc}
+use mathlib.Core.Path.{_≡_, refl, sym, ap, ap₂, _∙_}
 use mathlib.Core.Bool.{Bool, true, false, cond}
 use mathlib.Core.List.{List, [], _∷_, _++_}
+use lib.ListN.{length, drop}
 use lib.Dec.{ltb, eqb}
 use borrow.Author.Tests.{ltb-false, eqb-true, ne-eqb}
 use Rattle.pmtl.specs.Book.{H, Rows}
@@ -125,3 +127,32 @@ module _ (b : Rows) (k : Call) (calls : List Call) (n : ¬ (call b (after b call
   unfolding accepted
   accepted-refused [] = rw (ne-eqb (call b (after b calls) k .number) 0 n)
   accepted-refused (m ∷ more) = ap₂ (λ st h. cond (eqb (call b st m .number) 0) (onto (turns b (st .now) m) h) h) (after-refused more) (accepted-refused more)
+
+-- the calls up to the one that was accepted k accepted calls ago
+abbrev pub Past : Rows → List Call → ℕ → Type 0
+Past b calls k = (past : List Call) × ((newer : List Call) × (calls ≡ newer ++ past)) × (accepted b past ≡ drop k (accepted b calls))
+
+-- each call leaves one snapshot, so that what the history was k snapshots ago is the history of those calls
+one-turn : (b : Rows) (now : Snap) (k : Call) (h : History) → (s : Snap) × (onto (turns b now k) h ≡ s ∷ h)
+unfolding onto
+one-turn b now (time t) h = (_, refl)
+one-turn b now (state bytes) h = (_, refl)
+
+pub past-calls : (b : Rows) (calls : List Call) (k : ℕ) → k ≤ length (accepted b calls) → Past b calls k
+unfolding accepted
+past-calls b [] zero h = ([], ([], refl), refl)
+past-calls b [] (suc k) h = absurd (not-suc-le-zero h)
+past-calls b (c ∷ ks) zero h = (c ∷ ks, ([], refl), refl)
+past-calls b (c ∷ ks) (suc k) h = go (eqb (call b (after b ks) c .number) 0) (past-calls b ks (suc k)) (past-calls b ks k) h
+  where
+    ns : List Snap
+    ns = turns b (after b ks .now) c
+
+    go : (z : Bool) → (suc k ≤ length (accepted b ks) → Past b ks (suc k)) → (k ≤ length (accepted b ks) → Past b ks k)
+        → suc k ≤ length (cond z (onto ns (accepted b ks)) (accepted b ks))
+        → (past : List Call) × ((newer : List Call) × (c ∷ ks ≡ newer ++ past)) × (accepted b past ≡ drop (suc k) (cond z (onto ns (accepted b ks)) (accepted b ks)))
+    go true ih ih′ l =
+        let o = one-turn b (after b ks .now) c (accepted b ks) in
+        let p = ih′ (le-of-suc-le-suc (rw (o .1) at l)) in
+        (p .0, (c ∷ p .1 .0, ap (λ q. c ∷ q) (p .1 .1)), p .2 ∙ sym (ap (drop (suc k)) (o .1)))
+    go false ih ih′ l = let p = ih l in (p .0, (c ∷ p .1 .0, ap (λ q. c ∷ q) (p .1 .1)), p .2)

@@ -34,11 +34,11 @@ module _ (b : Rows) (st : State) where
 
   pub settled-out : (r : ℕ) → length b ≤ r → settled b st r ≡ Open
   unfolding settled
-  settled-out r h = go (st .begun)
+  settled-out r h = ap (λ a. cond (st .begun) a Open) (answer-out b Open _ r h) ∙ either-open (st .begun)
     where
-      go : (x : Bool) → cond x (answer b Open (λ n row. settledRule (covers (st .now .clock) (setAt st n)) (gone (st .now .clock) (setAt st n)) row) r) Open ≡ Open
-      go true = answer-out b Open _ r h
-      go false = refl
+      either-open : (x : Bool) → cond x Open Open ≡ Open
+      either-open true = refl
+      either-open false = refl
 
 module _ (b : Rows) (st : State) (now : Snap) where
   -- one set for each row

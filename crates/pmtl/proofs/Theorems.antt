@@ -1,19 +1,22 @@
 -- What is proved of document 01's definitions, in its words. Of a book it is asked at most that operands are below their owners (`Ordered`);
--- the calls are any list, the newest first, refused ones among them; a row that is not there counts as False. Nothing is assumed.
+-- the calls are any list, the newest first, refused ones among them; r is any number, of a row or of none. Nothing is assumed.
 use Prim.Native.Nat.{ℕ, _≤_}
 use native.Mathlib.Omega.{arith}
-use mathlib.Core.Path.{_≡_, ap, _∙_}
+use mathlib.Core.Path.{_≡_, refl, sym, ap, _∙_}
 use mathlib.Core.Logic.{_↔_}
-use mathlib.Core.Bool.{Bool, true, not}
+use mathlib.Core.Bool.{Bool, true, false, cond, not, _&&_}
 use mathlib.Core.List.{List, _∷_, _++_}
+use lib.ListN.{length, drop}
 use Rattle.numset.specs.Runs.{MAX, Runs, has, Covers, covers, Canonical}
 use Rattle.numset.proofs.Covering.{covers-iff}
 use Rattle.pmtl.specs.declared.Answer.{Answer}
-use Rattle.pmtl.specs.Answer.{known}
+use Rattle.pmtl.specs.declared.Answer.the-variants.{False, True, Open}
+use Rattle.pmtl.specs.Answer.{isTrue, isFalse, known, reversed}
+use Rattle.pmtl.specs.Early.{fromNow, earlyRule}
 use Rattle.pmtl.specs.Book.{Range, Row, mapRow, Rows, rowAt, Ordered}
 use Rattle.pmtl.specs.Book.Row.{historically, once, since}
-use Rattle.pmtl.specs.Sets.{horizon, gone}
-use Rattle.pmtl.specs.Monitor.{Snap, State, setAt, value}
+use Rattle.pmtl.specs.Sets.{horizon, gone, setRule}
+use Rattle.pmtl.specs.Monitor.{Snap, State, setAt, valueRule, value}
 use Rattle.pmtl.specs.Settled.{settledTrue, settledFalse, settled}
 use Rattle.pmtl.specs.Calls.{Call, call, after, accepted, nowOf}
 use Rattle.pmtl.specs.Meaning.{instants, meaning}
@@ -21,7 +24,7 @@ use Rattle.pmtl.proofs.History.{run, small-clock, now-run, run-canonica
 use Rattle.pmtl.proofs.Values.{held, values-mean, sets-mean}
 use Rattle.pmtl.proofs.Ago.{SomeCall, SinceCall, once-held, historically-held, since-held}
 use Rattle.pmtl.proofs.Settled.{settles, tests-apart, covers-not-gone}
-use Rattle.pmtl.proofs.Calls.{trail, further, refused-stays, after-refused, accepted-refused}
+use Rattle.pmtl.proofs.Calls.{trail, further, refused-stays, after-refused, accepted-refused, past-calls}
 
 -- the state after calls is that of the history of the accepted ones
 pub after-is : (b : Rows) (calls : List Call) → after b calls ≡ run b (accepted b calls)
@@ -37,6 +40,12 @@ clock-small b calls = rw (clock-is b calls) (small-clock b (accepted b calls) (t
 -- a set's runs are sorted, disjoint and never adjacent: they are the longest stretches of consecutive instants
 pub sets-are-canonical : (b : Rows) (calls : List Call) (r : ℕ) → Canonical (setAt (after b calls) r)
 sets-are-canonical b calls r = rw (after-is b calls) (run-canonical b (accepted b calls) r)
+
+-- what held k accepted calls ago is the value after the calls up to that one
+pub held-is : (b : Rows) (calls : List Call) (r k : ℕ) → k ≤ length (accepted b calls)
+    → (past : List Call) × ((newer : List Call) × (calls ≡ newer ++ past)) × (held b r (drop k (accepted b calls)) ≡ value b (after b past) r)
+held-is b calls r k h = let p = past-calls b calls k h in
+    (p .0, p .1, ap (λ x. held b r x) (sym (p .2)) ∙ ap (λ st. value b st r) (sym (after-is b (p .0))))
 
 module _ (b : Rows) (w : Ordered b) (calls : List Call) (r : ℕ) where
   -- each temporal row has the set of instants that 01 defines from the accepted calls so far
@@ -93,3 +102,36 @@ covers-is b calls r = covers-iff (after b calls .now .clock) (setAt (after b cal
 pub never-both : (c : ℕ) (s : Runs) → c ≤ MAX → (row : Row Answer)
     → ¬ ((settledTrue (covers c s) (gone c s) row ≡ true) × (settledFalse (covers c s) (gone c s) row ≡ true))
 never-both c s small row h = tests-apart (covers c s) (gone c s) (covers-not-gone c s small) row (h .0) (h .1)
+
+-- Historically is Not Once Not: its set and value
+pub historically-is-not-once-not : (c : ℕ) (s : Runs) (atoms : List Bool) (here : Bool) (g : Range) (v : Bool)
+    → (setRule c s (historically g v) ≡ setRule c s (once g (not v)))
+    × (valueRule atoms here (historically g v) ≡ not (valueRule atoms here (once g (not v))))
+unfolding setRule valueRule
+historically-is-not-once-not c s atoms here g v = (refl, refl)
+
+-- its early answer
+pub early-historically-is-not-once-not : (covers : Bool) (g : Range) (x : Answer)
+    → earlyRule covers (historically g x) ≡ reversed (earlyRule covers (once g (reversed x)))
+unfolding earlyRule
+early-historically-is-not-once-not covers g x = by-tests x covers (fromNow g)
+  where
+    by-tests : (x : Answer) (covers zero : Bool)
+        → cond (isTrue x) True (cond (isFalse x && zero) False (cond covers False Open))
+        ≡ reversed (cond (isFalse (reversed x)) False (cond (isTrue (reversed x) && zero) True (cond covers True Open)))
+    by-tests False true true = refl
+    by-tests False true false = refl
+    by-tests False false true = refl
+    by-tests False false false = refl
+    by-tests True covers zero = refl
+    by-tests Open true zero = refl
+    by-tests Open false zero = refl
+
+-- its settled answer: true as the other is false, false as the other is true
+pub settled-historically-is-not-once-not : (covers gone : Bool) (g : Range) (x : Answer)
+    → (settledTrue covers gone (historically g x) ≡ settledFalse covers gone (once g (reversed x)))
+    × (settledFalse covers gone (historically g x) ≡ settledTrue covers gone (once g (reversed x)))
+unfolding settledTrue settledFalse
+settled-historically-is-not-once-not covers gone g False = (refl, refl)
+settled-historically-is-not-once-not covers gone g True = (refl, refl)
+settled-historically-is-not-once-not covers gone g Open = (refl, refl)

@@ -3,11 +3,6 @@ use native.Mathlib.Omega.{arith}
 use borrow.Author.Needs.{needs}
 use Rattle.numset.proofs.add.Statement.{statement}
 use Rattle.numset.proofs.add.Tie as tie
-use Rattle.numset.proofs.add.Reads as reads
-use Rattle.numset.proofs.add.Lts as lts
-use Rattle.numset.proofs.find_span.Reads as find-span-reads
-use Rattle.numset.proofs.put_new.Reads as put-new-reads
-use Rattle.numset.proofs.put_over.Reads as put-over-reads
 
 returns : tie.Need-returns
 returns c = added-none (c .before .before .pre) (c .if1 .taken)

@@ -1,10 +1,7 @@
-use Rattle.numset.proofs.Changes.{cleared}
+use Rattle.numset.proofs.Resets.{cleared}
 use borrow.Author.Needs.{needs}
 use Rattle.numset.proofs.clear.Statement.{statement}
 use Rattle.numset.proofs.clear.Tie as tie
-use Rattle.numset.proofs.clear.Reads as reads
-use Rattle.numset.proofs.clear.Lts as lts
-use Rattle.numset.proofs.wipe.Reads as wipe-reads
 
 slice-read-n : tie.Need-slice-read-n
 slice-read-n c = search needs

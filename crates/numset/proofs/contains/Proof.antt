@@ -2,14 +2,10 @@ use mathlib.Core.Path.{ap, _∙_}
 use lib.Dec.{leb}
 use Prim.Native.Nat.{_-_}
 use native.Mathlib.Omega.{arith}
-use Rattle.numset.proofs.Halving.{Halving, halving-start, halving-up, halving-down, halving-none, halving-one}
+use Rattle.numset.proofs.Halving.{Halving, halving-up, halving-down, halving-none, halving-one}
 use borrow.Author.Needs.{needs}
 use Rattle.numset.proofs.contains.Statement.{statement}
 use Rattle.numset.proofs.contains.Tie as tie
-use Rattle.numset.proofs.contains.Reads as reads
-use Rattle.numset.proofs.contains.Lts as lts
-use Rattle.numset.proofs.lower_at.Reads as lower-at-reads
-use Rattle.numset.proofs.upper_at.Reads as upper-at-reads
 
 abbrev Inv-loop : tie.InvT-loop
 Inv-loop set t low₀ high₀ low high = Halving set t low high

@@ -4,10 +4,6 @@ use native.Mathlib.Omega.{arith}
 use borrow.Author.Needs.{needs}
 use Rattle.numset.proofs.covers.Statement.{statement}
 use Rattle.numset.proofs.covers.Tie as tie
-use Rattle.numset.proofs.covers.Reads as reads
-use Rattle.numset.proofs.covers.Lts as lts
-use Rattle.numset.proofs.lower_at.Reads as lower-at-reads
-use Rattle.numset.proofs.upper_at.Reads as upper-at-reads
 
 shared-slice-read-n : tie.Need-shared-slice-read-n
 shared-slice-read-n c = search needs

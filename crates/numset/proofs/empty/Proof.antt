@@ -1,11 +1,8 @@
-use Rattle.numset.proofs.Changes.{wiped}
+use Rattle.numset.proofs.Resets.{wiped}
 use native.Mathlib.Omega.{arith}
 use borrow.Author.Needs.{needs}
 use Rattle.numset.proofs.empty.Statement.{statement}
 use Rattle.numset.proofs.empty.Tie as tie
-use Rattle.numset.proofs.empty.Reads as reads
-use Rattle.numset.proofs.empty.Lts as lts
-use Rattle.numset.proofs.wipe.Reads as wipe-reads
 
 wipe-requires : tie.Need-wipe-requires
 wipe-requires c κs = search needs

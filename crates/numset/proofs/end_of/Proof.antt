@@ -1,16 +1,8 @@
-use Prim.Native.Nat.{ℕ, _+_, _-_, _≤_, _<_}
-use mathlib.Core.Path.{_≡_, refl, sym, ap, _∙_}
 use native.Mathlib.Omega.{arith}
-use lib.ListN.{length, getD, length-set}
-use borrow.Author.Tests.{ltb-true, ltb-false, le-ltb}
 use Rattle.numset.proofs.Walk.{Ending, ending-start, ending-more, ending-stop}
 use borrow.Author.Needs.{needs}
 use Rattle.numset.proofs.end_of.Statement.{statement}
 use Rattle.numset.proofs.end_of.Tie as tie
-use Rattle.numset.proofs.end_of.Reads as reads
-use Rattle.numset.proofs.end_of.Lts as lts
-use Rattle.numset.proofs.gap.Reads as gap-reads
-use Rattle.numset.proofs.lower_at.Reads as lower-at-reads
 
 abbrev Inv-loop : tie.InvT-loop
 Inv-loop set upper i₀ i = Ending set upper i

@@ -4,14 +4,6 @@ use native.Mathlib.Omega.{arith}
 use borrow.Author.Needs.{needs}
 use Rattle.numset.proofs.find_span.Statement.{statement}
 use Rattle.numset.proofs.find_span.Tie as tie
-use Rattle.numset.proofs.find_span.Reads as reads
-use Rattle.numset.proofs.find_span.Lts as lts
-use Rattle.numset.proofs.end_of.Reads as end-of-reads
-use Rattle.numset.proofs.gap.Reads as gap-reads
-use Rattle.numset.proofs.greater.Reads as greater-reads
-use Rattle.numset.proofs.join.Reads as join-reads
-use Rattle.numset.proofs.lower_at.Reads as lower-at-reads
-use Rattle.numset.proofs.upper_at.Reads as upper-at-reads
 
 shared-slice-read-n : tie.Need-shared-slice-read-n
 shared-slice-read-n c = search needs

@@ -4,9 +4,6 @@ use native.Mathlib.Omega.{arith}
 use borrow.Author.Needs.{needs}
 use Rattle.numset.proofs.has_room.Statement.{statement}
 use Rattle.numset.proofs.has_room.Tie as tie
-use Rattle.numset.proofs.has_room.Reads as reads
-use Rattle.numset.proofs.has_room.Lts as lts
-use Rattle.numset.proofs.find_span.Reads as find-span-reads
 
 returns : tie.Need-returns
 returns c = sym (fits-none (c .before .before .pre) (c .if1 .taken))

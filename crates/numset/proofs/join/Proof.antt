@@ -1,19 +1,8 @@
-use Prim.Native.Nat.{ℕ, _+_, _-_, _≤_, _<_}
-use mathlib.Core.Path.{_≡_, refl, sym, ap, _∙_}
 use native.Mathlib.Omega.{arith}
-use lib.ListN.{length, getD, length-set}
-use borrow.Author.Tests.{ltb-true, ltb-false, le-ltb}
 use Rattle.numset.proofs.Walk.{Joining, joining-start, joining-more, joining-stop, joining-end}
 use borrow.Author.Needs.{needs}
 use Rattle.numset.proofs.join.Statement.{statement}
 use Rattle.numset.proofs.join.Tie as tie
-use Rattle.numset.proofs.join.Reads as reads
-use Rattle.numset.proofs.join.Lts as lts
-use Rattle.numset.proofs.gap.Reads as gap-reads
-use Rattle.numset.proofs.greater.Reads as greater-reads
-use Rattle.numset.proofs.lesser.Reads as lesser-reads
-use Rattle.numset.proofs.lower_at.Reads as lower-at-reads
-use Rattle.numset.proofs.upper_at.Reads as upper-at-reads
 
 abbrev Inv-loop : tie.InvT-loop
 Inv-loop set end lower upper start₀ low₀ high₀ start low high = Joining set lower upper start end low high

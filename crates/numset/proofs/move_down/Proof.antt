@@ -1,14 +1,12 @@
-use Prim.Native.Nat.{ℕ, _+_, _-_, _≤_, _<_}
+use Prim.Native.Nat.{_-_, _≤_}
 use mathlib.Core.Path.{_≡_, refl}
 use native.Mathlib.Omega.{arith}
-use lib.ListN.{length, getD, length-set}
-use Rattle.numset.specs.Words.{Moved, Cleared}
-use Rattle.numset.proofs.Moves.{moved-none, moved-eq, cleared-eq, moved-eq, cleared-eq, append, prepend, cleared-none, cleared-more}
+use lib.ListN.{length, length-set}
+use Rattle.numset.specs.Words.{Moved}
+use Rattle.numset.proofs.Moves.{moved-none, moved-eq, append}
 use borrow.Author.Needs.{needs}
 use Rattle.numset.proofs.move_down.Statement.{statement}
 use Rattle.numset.proofs.move_down.Tie as tie
-use Rattle.numset.proofs.move_down.Reads as reads
-use Rattle.numset.proofs.move_down.Lts as lts
 
 abbrev Inv-loop : tie.InvT-loop
 Inv-loop set₀ src dst count i₀ set i = (i ≤ count) × (length set ≡ length set₀) × Moved set₀ set src dst i

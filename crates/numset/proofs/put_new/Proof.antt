@@ -1,13 +1,8 @@
-use Rattle.numset.proofs.Place.{place-up, place-down, added-none, added-full, added, placed-eq}
-use Rattle.numset.proofs.Place.{place-up, place-down, added-none, added-full, added}
+use Rattle.numset.proofs.Place.{place-up}
 use native.Mathlib.Omega.{arith}
 use borrow.Author.Needs.{needs}
 use Rattle.numset.proofs.put_new.Statement.{statement}
 use Rattle.numset.proofs.put_new.Tie as tie
-use Rattle.numset.proofs.put_new.Reads as reads
-use Rattle.numset.proofs.put_new.Lts as lts
-use Rattle.numset.proofs.store.Reads as store-reads
-use Rattle.numset.proofs.move_up.Reads as move-up-reads
 
 slice-read-n : tie.Need-slice-read-n
 slice-read-n c = search needs

@@ -1,14 +1,8 @@
-use Rattle.numset.proofs.Place.{place-up, place-down, added-none, added-full, added, placed-eq}
-use Rattle.numset.proofs.Place.{place-up, place-down, added-none, added-full, added}
+use Rattle.numset.proofs.Place.{place-down}
 use native.Mathlib.Omega.{arith}
 use borrow.Author.Needs.{needs}
 use Rattle.numset.proofs.put_over.Statement.{statement}
 use Rattle.numset.proofs.put_over.Tie as tie
-use Rattle.numset.proofs.put_over.Reads as reads
-use Rattle.numset.proofs.put_over.Lts as lts
-use Rattle.numset.proofs.wipe.Reads as wipe-reads
-use Rattle.numset.proofs.move_down.Reads as move-down-reads
-use Rattle.numset.proofs.store.Reads as store-reads
 
 slice-read-n : tie.Need-slice-read-n
 slice-read-n c = search needs

@@ -1,13 +1,8 @@
-use Prim.Native.Nat.{ℕ, _+_, _-_, _≤_, _<_}
-use mathlib.Core.Path.{_≡_, refl, sym, ap, _∙_}
 use native.Mathlib.Omega.{arith}
-use lib.ListN.{length, getD, length-set}
-use borrow.Author.Tests.{ltb-true, ltb-false, le-ltb}
+use lib.ListN.{length-set}
 use borrow.Author.Needs.{needs}
 use Rattle.numset.proofs.store.Statement.{statement}
 use Rattle.numset.proofs.store.Tie as tie
-use Rattle.numset.proofs.store.Reads as reads
-use Rattle.numset.proofs.store.Lts as lts
 
 mul-set : tie.Need-mul-set
 mul-set c = search needs

@@ -1,14 +1,12 @@
-use Prim.Native.Nat.{ℕ, _+_, _-_, _≤_, _<_}
+use Prim.Native.Nat.{_-_, _≤_}
 use mathlib.Core.Path.{_≡_, refl}
 use native.Mathlib.Omega.{arith}
-use lib.ListN.{length, getD, length-set}
-use Rattle.numset.specs.Words.{Moved, Cleared}
-use Rattle.numset.proofs.Moves.{moved-none, moved-eq, cleared-eq, moved-eq, cleared-eq, append, prepend, cleared-none, cleared-more}
+use lib.ListN.{length, length-set}
+use Rattle.numset.specs.Words.{Cleared}
+use Rattle.numset.proofs.Moves.{cleared-eq, cleared-none, cleared-more}
 use borrow.Author.Needs.{needs}
 use Rattle.numset.proofs.wipe.Statement.{statement}
 use Rattle.numset.proofs.wipe.Tie as tie
-use Rattle.numset.proofs.wipe.Reads as reads
-use Rattle.numset.proofs.wipe.Lts as lts
 
 abbrev Inv-loop : tie.InvT-loop
 Inv-loop set₀ from to i₀ set i = (from ≤ i) × (i ≤ to) × (length set ≡ length set₀) × Cleared set₀ set from i
