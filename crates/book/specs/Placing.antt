@@ -1,7 +1,8 @@
 -- Where the sections of a book stand in its words: private steps on the way from words to a loaded book. Definitions only.
 use Prim.Native.Nat.{ℕ, _+_, _*_, _≤_}
 use mathlib.Core.Path.{_≡_}
-use mathlib.Core.List.{List, []}
+use mathlib.Core.Bool.{Bool, cond, not}
+use mathlib.Core.List.{List, [], _∷_}
 use lib.ListN.{length, getD, drop}
 use Rattle.rows.specs.Memory.{part}
 use Rattle.book.specs.Reading.{Read, got, refused, GIVEN, Sections, section, sections}
@@ -15,6 +16,10 @@ partsOf words n o a g = record {
   assumes = part (GIVEN * n + o + 3) a words;
   guarantees = part (GIVEN * n + o + a + 4) g words;
 }
+
+-- the sections, each in words of its own
+abbrev pub sectionsOf : List ℕ → List ℕ → List ℕ → List ℕ → Sections
+sectionsOf rows operands assumes guarantees = record { rows = rows; operands = operands; assumes = assumes; guarantees = guarantees }
 
 -- the words are these sections, and nothing is left over
 pub record Counted (words : List ℕ) (n o a g : ℕ) : Type 0 where
@@ -38,8 +43,20 @@ pub record Told (words : List ℕ) (number n o a g : ℕ) : Type 0 where
   pub none : (number ≡ 0 → ⊥) → (n ≡ 0) × (o ≡ 0) × (a ≡ 0) × (g ≡ 0)
 
 -- what reading one section says, whose count stands at `at`
-pub record SectionTold (words : List ℕ) (at limit size number : ℕ) : Type 0 where
-  pub counted : number ≡ 0 → getD words at 0 ≤ limit
-  pub fits : number ≡ 0 → at + 1 + size * getD words at 0 ≤ length words
-  pub read : number ≡ 0 → section 1 limit size (drop at words) ≡ got (part (at + 1) (size * getD words at 0) words) (drop (at + 1 + size * getD words at 0) words)
+pub record SectionTold (words : List ℕ) (at limit size number count next : ℕ) : Type 0 where
+  pub inside : next ≤ length words
+  pub few : number ≡ 0 → count ≤ limit
+  pub onward : number ≡ 0 → next ≡ at + 1 + size * count
+  pub read : number ≡ 0 → section 1 limit size (drop at words) ≡ got (part (at + 1) (size * count) words) (drop next words)
   pub refused-with : (number ≡ 0 → ⊥) → section 1 limit size (drop at words) ≡ refused number
+
+-- the number that a test refuses with, 0 where it passed
+abbrev pub refusal : ℕ → Bool → ℕ
+refusal n good = cond (not good) n 0
+
+-- the least and the largest arg of each kind
+abbrev pub leastArgs : List ℕ
+leastArgs = 0 ∷ 0 ∷ 0 ∷ 0 ∷ 0 ∷ 1 ∷ 2 ∷ 1 ∷ 1 ∷ 2 ∷ []
+
+abbrev pub largestArgs : List ℕ
+largestArgs = 0 ∷ 0 ∷ 255 ∷ 128 ∷ 128 ∷ 1 ∷ 2 ∷ 1 ∷ 1 ∷ 2 ∷ []

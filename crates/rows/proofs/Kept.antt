@@ -5,7 +5,7 @@ use native.Mathlib.Nat.{add-zero, add-assoc}
 use native.Mathlib.Numerals.{add-one}
 use native.Mathlib.Decide.{decLt}
 use mathlib.Core.Path.{_≡_, refl, sym, ap, ap₂, subst, _∙_}
-use mathlib.Core.Logic.{_⊎_, inl, inr}
+use mathlib.Core.Logic.{_⊎_, inl, inr, ⊎-elim}
 use mathlib.Core.List.{List, [], _∷_, map}
 use lib.ListN.{length, getD, take, drop, length-take, length-drop}
 use lib.Seq.{drop-cons, getD-take, getD-drop}
@@ -192,3 +192,16 @@ atom-as {m} {r} e ek =
 
 pub some-left : {n : ℕ} → (n ≡ 0 → ⊥) → 0 < n
 some-left h = omega arith
+
+pub past-eight : {m : List ℕ} {r kind arg start : ℕ} → Read m r kind arg start → PastSeven kind × (kind ≡ 8 → ⊥) → kind ≡ 9
+past-eight e n = ⊎-elim (λ k. absurd (n .1 k)) (λ k. k) (past-seven e (n .0))
+
+-- ---- what the accessors ask
+pub row-inside : {m : List ℕ} {r : ℕ} → BookKept m → r < rowCount m → (length m ≡ SIZE) × (r < 128)
+row-inside kept h = (kept .long, below-128 kept h)
+
+pub first-inside : {m : List ℕ} {r kind arg start : ℕ} → Read m r kind arg start → {k : ℕ} → kind ≡ k → 0 < countOf k arg → (length m ≡ SIZE) × (start < 128)
+first-inside e ek h = (e .kept .long, omega (arith, span-as e ek .inside))
+
+pub second-inside : {m : List ℕ} {r kind arg start : ℕ} → Read m r kind arg start → {k : ℕ} → kind ≡ k → 1 < countOf k arg → (length m ≡ SIZE) × (start + 1 < 128)
+second-inside e ek h = (e .kept .long, omega (arith, span-as e ek .inside))

@@ -1,3 +1,5 @@
 pub mod Listed
 pub mod Kept
 pub mod Values
+pub mod Earlies
+pub mod Settleds

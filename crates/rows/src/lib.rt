@@ -4,8 +4,28 @@ ghost use mathlib.Core.List.{map};
 ghost use Prim.Native.Nat.{_+_, _<_};
 ghost use lib.ListN.{length, getD};
 ghost use Rattle.rows.specs.Memory.{SIZE, OPERANDS, BookKept, rowCount, begunWord, clockOf, widthWord, temporals, assumeCount, guaranteeCount, kindAt, argAt, lowerAt, upperAt, startAt, slotAt, ownerAt};
-ghost use Rattle.rows.specs.Facts.{hereIn, outputOf};
-ghost use Rattle.rows.specs.Walk.{Span, operandsFrom, joined};
+ghost use Rattle.rows.specs.Facts.{hereIn, coversIn, goneIn, outputOf, valuationOf, settledOf};
+ghost use Rattle.rows.specs.Walk.{Span, operandAt, operandsFrom, rangeAt, joined, earlySoFar, settledSoFar, coversAlone};
+ghost use Rattle.pmtl.specs.Book.Row.{since};
+ghost use Rattle.pmtl.specs.Settled.{settledRule};
+ghost use lib.Dec.{eqb};
+
+mod rules;
+
+use pmtl::Answer;
+use rules::decides_it;
+use rules::early_covered;
+use rules::early_historically;
+use rules::early_once;
+use rules::implied;
+use rules::is_false;
+use rules::is_open;
+use rules::is_true;
+use rules::negated;
+use rules::settled_historically;
+use rules::settled_left;
+use rules::settled_once;
+use rules::taken_in;
 
 // Where things stand in a monitor's memory, and how many words they take.
 pub const ROW_COUNT: usize = 0;
@@ -266,4 +286,214 @@ fn output_walk<'a>(
         return stop;
     }
     output_walk(monitor, atoms, facts, row, place + 1, left - 1, stop)
+}
+
+// Whether a row's lower bound is 0.
+fn from_now(monitor: &[u64], row: usize) -> bool
+    requires { ⌜ length (now monitor) ≡ SIZE ⌝ }
+    requires { ⌜ row < 128 ⌝ }
+    ensures { λ r. ⌜ r ≡ eqb (lowerAt (now (monitor .entry)) row) 0 ⌝ }
+{
+    monitor[ROWS + ROW * row + LOWER] == 0
+}
+
+// Whether a row's set has every instant from the clock on.
+fn covers_at(facts: &[u8; 128], row: usize) -> bool
+    requires { ⌜ row < 128 ⌝ }
+    ensures { λ r. ⌜ r ≡ coversIn (now (facts .entry)) row ⌝ }
+{
+    facts[row] / 2 % 2 == 1
+}
+
+// A row's early answer: it is always true, or always false, from the clock on.
+pub fn valuation<'a>(monitor: &'a [u64], facts: &'a [u8; 128], row: usize) -> Answer
+    requires { ⌜ BookKept (now monitor) ⌝ }
+    requires { ⌜ row < rowCount (now monitor) ⌝ }
+    ensures { λ r. ⌜ r ≡ valuationOf (now (monitor .entry)) (now (facts .entry)) row ⌝ }
+{
+    let kind = kind_at(monitor, row);
+    let arg = arg_at(monitor, row);
+    let start = start_at(monitor, row);
+    match kind {
+        FALSE => Answer::False,
+        TRUE => Answer::True,
+        ATOM => Answer::Open,
+        AND => valuation_walk(monitor, facts, row, start, arg, false, Answer::True),
+        OR => valuation_walk(monitor, facts, row, start, arg, true, Answer::False),
+        NOT => negated(valuation(monitor, facts, operand_at(monitor, start))),
+        IMPLIES => {
+            let right = valuation(monitor, facts, operand_at(monitor, start + 1));
+            if is_true(right) {
+                return Answer::True;
+            }
+            implied(valuation(monitor, facts, operand_at(monitor, start)), right)
+        }
+        HISTORICALLY => {
+            let x = valuation(monitor, facts, operand_at(monitor, start));
+            early_historically(from_now(monitor, row), covers_at(facts, row), x)
+        }
+        ONCE => {
+            let x = valuation(monitor, facts, operand_at(monitor, start));
+            early_once(from_now(monitor, row), covers_at(facts, row), x)
+        }
+        _ => {
+            let right = valuation(monitor, facts, operand_at(monitor, start + 1));
+            if is_false(right) {
+                return Answer::False;
+            }
+            if covers_at(facts, row) {
+                let left = valuation(monitor, facts, operand_at(monitor, start));
+                return early_covered(from_now(monitor, row), left);
+            }
+            Answer::Open
+        }
+    }
+}
+
+// Asks `left` operands of `row` from `place` on, in turn, until one is open.
+fn valuation_walk<'a>(
+    monitor: &'a [u64],
+    facts: &'a [u8; 128],
+    row: usize,
+    place: usize,
+    left: usize,
+    any: bool,
+    sofar: Answer,
+) -> Answer
+    requires { ⌜ BookKept (now monitor) ⌝ }
+    requires { ⌜ row < rowCount (now monitor) ⌝ }
+    requires { ⌜ Span (now monitor) row place left ⌝ }
+    ensures { λ r. ⌜ r ≡ earlySoFar any sofar (map (valuationOf (now (monitor .entry)) (now (facts .entry))) (operandsFrom (now (monitor .entry)) place left)) ⌝ }
+{
+    if left == 0 {
+        return sofar;
+    }
+    let x = valuation(monitor, facts, operand_at(monitor, place));
+    if is_open(x) {
+        return Answer::Open;
+    }
+    valuation_walk(
+        monitor,
+        facts,
+        row,
+        place + 1,
+        left - 1,
+        any,
+        taken_in(any, sofar, x),
+    )
+}
+
+// Whether nothing of a row's set can matter any more.
+fn gone_at(facts: &[u8; 128], row: usize) -> bool
+    requires { ⌜ row < 128 ⌝ }
+    ensures { λ r. ⌜ r ≡ goneIn (now (facts .entry)) row ⌝ }
+{
+    facts[row] / 4 % 2 == 1
+}
+
+// Whether it covers and is not gone.
+fn covers_alone(facts: &[u8; 128], row: usize) -> bool
+    requires { ⌜ row < 128 ⌝ }
+    ensures { λ r. ⌜ r ≡ coversAlone (coversIn (now (facts .entry)) row) (goneIn (now (facts .entry)) row) ⌝ }
+{
+    if covers_at(facts, row) {
+        !gone_at(facts, row)
+    } else {
+        false
+    }
+}
+
+// A row's settled answer, once a call was accepted: no further call can change its value.
+pub fn settled<'a>(monitor: &'a [u64], facts: &'a [u8; 128], row: usize) -> Answer
+    requires { ⌜ BookKept (now monitor) ⌝ }
+    requires { ⌜ row < rowCount (now monitor) ⌝ }
+    ensures { λ r. ⌜ r ≡ settledOf (now (monitor .entry)) (now (facts .entry)) row ⌝ }
+{
+    let kind = kind_at(monitor, row);
+    let arg = arg_at(monitor, row);
+    let start = start_at(monitor, row);
+    match kind {
+        FALSE => Answer::False,
+        TRUE => Answer::True,
+        ATOM => Answer::Open,
+        AND => settled_walk(monitor, facts, row, start, arg, false, Answer::True),
+        OR => settled_walk(monitor, facts, row, start, arg, true, Answer::False),
+        NOT => negated(settled(monitor, facts, operand_at(monitor, start))),
+        IMPLIES => {
+            let right = settled(monitor, facts, operand_at(monitor, start + 1));
+            if is_true(right) {
+                return Answer::True;
+            }
+            implied(settled(monitor, facts, operand_at(monitor, start)), right)
+        }
+        HISTORICALLY => {
+            if covers_alone(facts, row) {
+                return Answer::False;
+            }
+            let x = settled(monitor, facts, operand_at(monitor, start));
+            settled_historically(
+                from_now(monitor, row),
+                covers_at(facts, row),
+                gone_at(facts, row),
+                x,
+            )
+        }
+        ONCE => {
+            if covers_at(facts, row) {
+                return Answer::True;
+            }
+            let x = settled(monitor, facts, operand_at(monitor, start));
+            settled_once(from_now(monitor, row), gone_at(facts, row), x)
+        }
+        _ => settled_since(monitor, facts, row, start),
+    }
+}
+
+// The settled answer of a Since row, whose two operands stand from `start` on. Right is asked where left does not decide.
+fn settled_since<'a>(monitor: &'a [u64], facts: &'a [u8; 128], row: usize, start: usize) -> Answer
+    requires { ⌜ BookKept (now monitor) ⌝ }
+    requires { ⌜ row < rowCount (now monitor) ⌝ }
+    requires { ⌜ Span (now monitor) row start 2 ⌝ }
+    ensures { λ r. ⌜ r ≡ settledRule (coversIn (now (facts .entry)) row) (goneIn (now (facts .entry)) row) (since (rangeAt (now (monitor .entry)) row) (settledOf (now (monitor .entry)) (now (facts .entry)) (operandAt (now (monitor .entry)) start)) (settledOf (now (monitor .entry)) (now (facts .entry)) (operandAt (now (monitor .entry)) (start + 1)))) ⌝ }
+{
+    let left = settled(monitor, facts, operand_at(monitor, start));
+    let by_left = settled_left(from_now(monitor, row), covers_at(facts, row), left);
+    if is_open(by_left) {
+        let right = settled(monitor, facts, operand_at(monitor, start + 1));
+        return settled_once(from_now(monitor, row), gone_at(facts, row), right);
+    }
+    by_left
+}
+
+// Asks `left` operands of `row` from `place` on, in turn, until one decides.
+fn settled_walk<'a>(
+    monitor: &'a [u64],
+    facts: &'a [u8; 128],
+    row: usize,
+    place: usize,
+    left: usize,
+    any: bool,
+    sofar: Answer,
+) -> Answer
+    requires { ⌜ BookKept (now monitor) ⌝ }
+    requires { ⌜ row < rowCount (now monitor) ⌝ }
+    requires { ⌜ Span (now monitor) row place left ⌝ }
+    ensures { λ r. ⌜ r ≡ settledSoFar any sofar (map (settledOf (now (monitor .entry)) (now (facts .entry))) (operandsFrom (now (monitor .entry)) place left)) ⌝ }
+{
+    if left == 0 {
+        return sofar;
+    }
+    let x = settled(monitor, facts, operand_at(monitor, place));
+    if decides_it(any, x) {
+        return x;
+    }
+    settled_walk(
+        monitor,
+        facts,
+        row,
+        place + 1,
+        left - 1,
+        any,
+        taken_in(any, sofar, x),
+    )
 }
