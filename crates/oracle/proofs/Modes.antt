@@ -9,9 +9,9 @@ use lib.Dec.{lit<}
 use borrow.Author.Tests.{eq-eqb, ne-eqb}
 use Rattle.numset.specs.Runs.{MAX}
 use Rattle.pmtl.specs.Book.{Row, mapRow, Range, stop}
-use Rattle.rows.specs.Memory.{OPERANDS, rowCount, kindAt, argAt, lowerAt, upperAt, startAt, operandsOf, rowFrom, countOf, rowOf, BookKept}
+use Rattle.rows.specs.Memory.{OPERANDS, SIZE, rowCount, kindAt, argAt, lowerAt, upperAt, startAt, operandsOf, rowFrom, countOf, rowOf, BookKept}
 use Rattle.rows.specs.Walk.{Span}
-use Rattle.rows.proofs.Kept.{Read, span-read, span-as, first-is, second-is, first-below, second-below}
+use Rattle.rows.proofs.Kept.{Read, span-read, span-as, first-inside, second-inside, first-is, second-is, first-below, second-below}
 use Rattle.change.specs.Change.{modeOf, modeIn}
 
 -- a temporal row has an operand
@@ -38,8 +38,8 @@ module _ {m : List ℕ} {r kind start : ℕ} (kept : BookKept m) (inside : r < r
   one : 0 < countOf kind (argAt m r)
   one = some-operand kind (argAt m r) (omega arith) (omega (arith, few))
 
-  pub first-inside : start < 128
-  first-inside = let s = span-read read in omega (arith, one, s .inside)
+  pub first-place : (length m ≡ SIZE) × (start < 128)
+  first-place = first-inside read refl one
 
   pub first-row : {x : ℕ} → x ≡ getD m (OPERANDS + start) 0 → x < rowCount m
   first-row e = omega (arith, first-below (span-read read) one e)
@@ -52,8 +52,9 @@ module _ {m : List ℕ} {r kind start : ℕ} (kept : BookKept m) (inside : r < r
   unfolding countOf
   two p q = span-as read (past p q)
 
-  pub second-inside : (kind ≡ 7 → ⊥) → (kind ≡ 8 → ⊥) → start + 1 < 128
-  second-inside p q = let s = two p q in omega (arith, s .inside)
+  pub second-place : (kind ≡ 7 → ⊥) → (kind ≡ 8 → ⊥) → (length m ≡ SIZE) × (start + 1 < 128)
+  unfolding countOf
+  second-place p q = second-inside read (past p q) (lit< tt)
 
   pub second-row : (kind ≡ 7 → ⊥) → (kind ≡ 8 → ⊥) → {x : ℕ} → x ≡ getD m (OPERANDS + (start + 1)) 0 → x < rowCount m
   second-row p q e = omega (arith, second-below (two p q) (lit< tt) e)

@@ -5,13 +5,12 @@ use mathlib.Core.Logic.{⊎-elim}
 use mathlib.Core.Bool.{Bool, true, false, not, cond, _||_, true≢false}
 use mathlib.Core.List.{List, [], _∷_, map}
 use native.Mathlib.Omega.{arith}
-use lib.ListN.{length, getD, set, replicate, length-set, length-replicate, List·getD-eq-default}
+use lib.ListN.{length, getD, set, replicate, length-set, length-replicate}
 use lib.Seq.{getD-set-same, getD-set-other}
-use lib.Dec.{ltb, eqb}
-use borrow.Author.Tests.{lt-ltb, le-ltb, eqb-true, eqb-false}
+use lib.Dec.{ltb}
+use borrow.Author.Tests.{lt-ltb, le-ltb}
 use Rattle.numset.specs.Runs.{Runs, runs, Good, has, fits}
-use Rattle.numset.proofs.Laws.{either, lt-or-ge}
-use Rattle.numset.proofs.Packs.{getD-zeros}
+use Rattle.numset.proofs.Laws.{lt-or-ge}
 use Rattle.pmtl.specs.Book.{Row, mapRow, rowAt, Below, start, stop, some}
 use Rattle.pmtl.specs.Answer.{bitOf}
 use Rattle.pmtl.specs.Sets.{setRule}
@@ -25,7 +24,7 @@ use Rattle.rows.specs.Facts.{hereIn, outputOf}
 use Rattle.rows.proofs.Kept.{rows-length, row-at, kept-ordered}
 use Rattle.change.specs.Change.{changed, modeIn}
 use Rattle.oracle.specs.declared.calls.RowPlan.{RowPlan}
-use Rattle.oracle.specs.Steps.{Bytes, snapOf, stepOf, rangeAt, modeAt, setAfter, rowPlan, Planned, Bounded, Slot}
+use Rattle.oracle.specs.Steps.{snapOf, stepOf, rangeAt, modeAt, setAfter, rowPlan, Planned, Bounded, Slot}
 use Rattle.oracle.proofs.Rules.{value-right, no-set, changed-set, set-at, set-of-slot}
 use Rattle.oracle.proofs.Commits.{set-long}
 
@@ -52,11 +51,11 @@ here-bit : (b : Bool) → isOne (bitOf b % 2) ≡ b
 here-bit true = refl
 here-bit false = refl
 
--- how far planning has gone: the slots below n have their modes and room, and the facts are right for every row but the owners of the others
+-- how far planning has gone: the slots below n have their modes and room, and the facts are right for their owners
 pub record Going (m : List ℕ) (c : ℕ) (atoms facts modes : List ℕ) (n : ℕ) : Type 0 where
   pub facts-long : length facts ≡ 128
   pub modes-long : length modes ≡ 32
-  pub right : (q : ℕ) → ((j : ℕ) → n ≤ j → j < temporals m → ownerAt m j ≡ q → ⊥) → hereIn facts q ≡ has (setAt (stepOf m c atoms) q) c
+  pub right : (j : ℕ) → j < n → hereIn facts (ownerAt m j) ≡ has (setAt (stepOf m c atoms) (ownerAt m j)) c
   pub sets : (j : ℕ) → j < n → setAfter m c (getD modes j 0) j ≡ setAt (stepOf m c atoms) (ownerAt m j)
   pub room : (j : ℕ) → j < n → fits SET (setAt (stepOf m c atoms) (ownerAt m j)) ≡ true
 
@@ -72,17 +71,6 @@ module _ (m : List ℕ) (kept : BookKept m) (c : ℕ) (atoms : List ℕ) where
 
   pub set-none : (r : ℕ) → r < rowCount m → kindAt m r < 7 → setAt (stepOf m c atoms) r ≡ []
   set-none r h k = set-now r h ∙ no-set c (setOf m r) (value (rowsOf m) (stepOf m c atoms)) m r k
-
-  -- a row that no slot belongs to
-  pub set-no-owner : (q : ℕ) → ((j : ℕ) → j < temporals m → ownerAt m j ≡ q → ⊥) → setAt (stepOf m c atoms) q ≡ []
-  set-no-owner q none =
-      ⊎-elim
-      (λ (h : q < rowCount m).
-      ⊎-elim (λ (k : kindAt m q < 7). set-none q h k)
-      (λ (k : 7 ≤ kindAt m q). let row = kept .rows q h in absurd (none (slotAt m q) (row .slot k) (row .owner k)))
-      (lt-or-ge (kindAt m q) 7))
-      (λ (h : rowCount m ≤ q). List·getD-eq-default (stepOf m c atoms .sets) [] (omega (arith, sets-length)))
-      (lt-or-ge q (rowCount m))
 
   -- the new set of a slot's owner is the slot's, changed
   set-owner : (j : ℕ) → j < temporals m → setAt (stepOf m c atoms) (ownerAt m j) ≡ setAfter m c (modeIn (mapRow (value (rowsOf m) (stepOf m c atoms)) (rowOf m (ownerAt m j)))) j
@@ -125,79 +113,78 @@ module _ (m : List ℕ) (kept : BookKept m) (c : ℕ) (atoms : List ℕ) where
       fits-or true f = refl
       fits-or false f = absurd (true≢false (sym (f refl) ∙ e))
 
-  module _ (bytes : Bytes atoms (widthWord m)) where
-    module _ {facts modes : List ℕ} {n : ℕ} (g : Going m c atoms facts modes n) (h : n < temporals m) where
-      -- an owner from slot n on is not below the owner of slot n
-      later : (q : ℕ) → q < ownerAt m n → (j : ℕ) → n ≤ j → j < temporals m → ownerAt m j ≡ q → ⊥
-      later q lt j le jt e =
-          ⊎-elim (λ (p : n < j). let u = kept .ascends n j p jt in omega arith)
-          (λ (p : j ≤ n). let d : j ≡ n = omega arith in let f = ap (ownerAt m) d in omega arith) (lt-or-ge n j)
+  module _ {facts modes : List ℕ} {n : ℕ} (g : Going m c atoms facts modes n) (h : n < temporals m) where
+    -- a temporal row below the owner of slot n is the owner of a slot below n
+    facts-right : (q : ℕ) → q < ownerAt m n → q < rowCount m → 7 ≤ kindAt m q → hereIn facts q ≡ has (setAt (stepOf m c atoms) q) c
+    facts-right q lt l k =
+        let row = kept .rows q l in
+        let j : ℕ = slotAt m q in
+        let e : ownerAt m j ≡ q = row .owner k in
+        ⊎-elim
+        (λ (p : j < n). subst (λ (r : ℕ). hereIn facts r ≡ has (setAt (stepOf m c atoms) r) c) e (g .right j p))
+        (λ (p : n ≤ j).
+        ⊎-elim (λ (u : n < j). let a = kept .ascends n j u (row .slot k) in absurd (omega arith))
+        (λ (u : j ≤ n). let d : j ≡ n = omega arith in let f = ap (ownerAt m) d in absurd (omega arith)) (lt-or-ge n j))
+        (lt-or-ge j n)
 
-      mode-right : modeAt m atoms facts (ownerAt m n) ≡ modeIn (mapRow (value (rowsOf m) (stepOf m c atoms)) (rowOf m (ownerAt m n)))
-      mode-right =
+    mode-right : modeAt m atoms facts (ownerAt m n) ≡ modeIn (mapRow (value (rowsOf m) (stepOf m c atoms)) (rowOf m (ownerAt m n)))
+    mode-right =
+        let r : ℕ = ownerAt m n in
+        let low : Below r (rowOf m r) = rw (row-at m r (kept .owned n h)) at (kept-ordered kept r) in
+        ap modeIn
+        (mapRow-local r (outputOf m atoms facts) (value (rowsOf m) (stepOf m c atoms))
+        (λ o lt. value-right m kept (stepOf m c atoms) atoms (step-now (rowsOf m) (stateOf m) (snapOf c atoms (widthWord m))) facts o (λ q le l k. facts-right q (omega arith) l k))
+        (rowOf m r) low)
+
+    set-right : setAfter m c (modeAt m atoms facts (ownerAt m n)) n ≡ setAt (stepOf m c atoms) (ownerAt m n)
+    set-right = ap (λ (k : ℕ). setAfter m c k n) mode-right ∙ sym (set-owner n h)
+
+    module _ {row : ℕ} (er : row ≡ ownerAt m n) {p : RowPlan} (ep : p ≡ rowPlan m c (modeAt m atoms facts row) n) where
+      plan-is : p ≡ rowPlan m c (modeAt m atoms facts (ownerAt m n)) n
+      plan-is = ep ∙ ap (λ (r : ℕ). rowPlan m c (modeAt m atoms facts r) n) er
+
+      room-is : {b : Bool} → p .room ≡ b → fits SET (setAt (stepOf m c atoms) (ownerAt m n)) ≡ b
+      room-is e = sym (ap (fits SET) set-right) ∙ sym (ap (λ (x : RowPlan). x .room) plan-is) ∙ e
+
+      pub going-more : p .room ≡ true → Going m c atoms (set facts row (p .here)) (set modes n (p .mode)) (n + 1)
+      going-more e =
           let r : ℕ = ownerAt m n in
-          let low : Below r (rowOf m r) = rw (row-at m r (kept .owned n h)) at (kept-ordered kept r) in
-          ap modeIn
-          (mapRow-local r (outputOf m atoms facts) (value (rowsOf m) (stepOf m c atoms))
-          (λ o lt. value-right bytes m (stepOf m c atoms) (step-now (rowsOf m) (stateOf m) (snapOf c atoms (widthWord m))) facts o (λ q le. g .right q (later q (omega arith))))
-          (rowOf m r) low)
+          let fl = g .facts-long in
+          let ml = g .modes-long in
+          let few = kept .temporal-few in
+          let lr : r < 128 = omega (arith, kept .owned n h, kept .few) in
+          let em : setAfter m c (p .mode) n ≡ setAt (stepOf m c atoms) r = ap (λ (x : RowPlan). setAfter m c (x .mode) n) plan-is ∙ set-right in
+          let eh : isOne (p .here % 2) ≡ has (setAt (stepOf m c atoms) r) c =
+          ap (λ (x : RowPlan). isOne (x .here % 2)) plan-is ∙ here-bit _ ∙ ap (λ (s : Runs). has s c) set-right in
+          rw er
+          (record {
+            facts-long = length-set facts r (p .here) ∙ fl;
+            modes-long = length-set modes n (p .mode) ∙ ml;
+            right = λ j lt.
+                ⊎-elim
+                (λ (z : j < n). let u = kept .ascends j n z h in ap (λ (x : ℕ). isOne (x % 2)) (getD-set-other facts r (ownerAt m j) (p .here) 0 (omega arith)) ∙ g .right j z)
+                (λ (z : n ≤ j). let d : j ≡ n = omega arith in rw (d, getD-set-same facts r (p .here) 0 (omega arith)) eh) (lt-or-ge j n);
+            sets = λ j lt.
+                ⊎-elim (λ (z : j < n). ap (λ (k : ℕ). setAfter m c k j) (getD-set-other modes n j (p .mode) 0 (omega arith)) ∙ g .sets j z)
+                (λ (z : n ≤ j). let d : j ≡ n = omega arith in rw (d, getD-set-same modes n (p .mode) 0 (omega arith)) em) (lt-or-ge j n);
+            room = λ j lt. ⊎-elim (λ (z : j < n). g .room j z) (λ (z : n ≤ j). let d : j ≡ n = omega arith in rw d (room-is e)) (lt-or-ge j n);
+          })
 
-      set-right : setAfter m c (modeAt m atoms facts (ownerAt m n)) n ≡ setAt (stepOf m c atoms) (ownerAt m n)
-      set-right = ap (λ (k : ℕ). setAfter m c k n) mode-right ∙ sym (set-owner n h)
+      pub going-full : {ms : List ℕ} → p .room ≡ false → Planned m c atoms false ms
+      going-full e = record { fits = no-room n h (room-is e); sets = λ z. absurd (true≢false (sym z)) }
 
-      module _ {row : ℕ} (er : row ≡ ownerAt m n) {p : RowPlan} (ep : p ≡ rowPlan m c (modeAt m atoms facts row) n) where
-        plan-is : p ≡ rowPlan m c (modeAt m atoms facts (ownerAt m n)) n
-        plan-is = ep ∙ ap (λ (r : ℕ). rowPlan m c (modeAt m atoms facts r) n) er
+  pub going-done : {facts modes : List ℕ} {n : ℕ} → Going m c atoms facts modes n → temporals m ≤ n → Planned m c atoms true modes
+  going-done g l = record { fits = all-room (λ j lt. g .room j (omega arith)); sets = λ z j lt. g .sets j (omega arith) }
 
-        room-is : {b : Bool} → p .room ≡ b → fits SET (setAt (stepOf m c atoms) (ownerAt m n)) ≡ b
-        room-is e = sym (ap (fits SET) set-right) ∙ sym (ap (λ (x : RowPlan). x .room) plan-is) ∙ e
-
-        pub going-more : p .room ≡ true → Going m c atoms (set facts row (p .here)) (set modes n (p .mode)) (n + 1)
-        going-more e =
-            let r : ℕ = ownerAt m n in
-            let fl = g .facts-long in
-            let ml = g .modes-long in
-            let few = kept .temporal-few in
-            let lr : r < 128 = omega (arith, kept .owned n h, kept .few) in
-            let em : setAfter m c (p .mode) n ≡ setAt (stepOf m c atoms) r = ap (λ (x : RowPlan). setAfter m c (x .mode) n) plan-is ∙ set-right in
-            let eh : isOne (p .here % 2) ≡ has (setAt (stepOf m c atoms) r) c =
-            ap (λ (x : RowPlan). isOne (x .here % 2)) plan-is ∙ here-bit _ ∙ ap (λ (s : Runs). has s c) set-right in
-            rw er
-            (record {
-              facts-long = length-set facts r (p .here) ∙ fl;
-              modes-long = length-set modes n (p .mode) ∙ ml;
-              right = λ q none.
-                  ⊎-elim
-                  (λ (y : eqb q r ≡ true). let z = eqb-true q r y in rw (z, getD-set-same facts r (p .here) 0 (omega arith)) eh)
-                  (λ (y : eqb q r ≡ false).
-                  let z = eqb-false q r y in
-                  ap (λ (x : ℕ). isOne (x % 2)) (getD-set-other facts r q (p .here) 0 z)
-                  ∙ g .right q (λ j le jt f. ⊎-elim (λ (u : n < j). none j (omega arith) jt f) (λ (u : j ≤ n). let d : j ≡ n = omega arith in z (sym f ∙ ap (ownerAt m) d)) (lt-or-ge n j)))
-                  (either (eqb q r));
-              sets = λ j lt.
-                  ⊎-elim (λ (z : j < n). ap (λ (k : ℕ). setAfter m c k j) (getD-set-other modes n j (p .mode) 0 (omega arith)) ∙ g .sets j z)
-                  (λ (z : n ≤ j). let d : j ≡ n = omega arith in rw (d, getD-set-same modes n (p .mode) 0 (omega arith)) em) (lt-or-ge j n);
-              room = λ j lt. ⊎-elim (λ (z : j < n). g .room j z) (λ (z : n ≤ j). let d : j ≡ n = omega arith in rw d (room-is e)) (lt-or-ge j n);
-            })
-
-        pub going-full : {ms : List ℕ} → p .room ≡ false → Planned m c atoms false ms
-        going-full e = record { fits = no-room n h (room-is e); sets = λ z. absurd (true≢false (sym z)) }
-
-    pub going-done : {facts modes : List ℕ} {n : ℕ} → Going m c atoms facts modes n → temporals m ≤ n → Planned m c atoms true modes
-    going-done g l = record { fits = all-room (λ j lt. g .room j (omega arith)); sets = λ z j lt. g .sets j (omega arith) }
-
-    pub going-start : Going m c atoms (replicate 128 0) (replicate 32 0) 0
-    unfolding has
-    going-start =
-        record {
-          facts-long = length-replicate {A = ℕ} 128 0;
-          modes-long = length-replicate {A = ℕ} 32 0;
-          right = λ q none.
-              ap (λ (x : ℕ). isOne (x % 2)) (getD-zeros 128 q)
-              ∙ sym (ap (λ (s : Runs). has s c) (set-no-owner q (λ j lt. none j (omega arith) lt)));
-          sets = λ j lt. absurd (omega arith);
-          room = λ j lt. absurd (omega arith);
-        }
+  pub going-start : Going m c atoms (replicate 128 0) (replicate 32 0) 0
+  going-start =
+      record {
+        facts-long = length-replicate {A = ℕ} 128 0;
+        modes-long = length-replicate {A = ℕ} 32 0;
+        right = λ j lt. absurd (omega arith);
+        sets = λ j lt. absurd (omega arith);
+        room = λ j lt. absurd (omega arith);
+      }
 
 -- ---- one row, as its plan is made
 module _ {m : List ℕ} {c j r : ℕ} (slot : Slot m c j r) where

@@ -4,8 +4,8 @@ use mathlib.Core.Path.{_≡_, refl, sym, ap, ap₂, _∙_, subst}
 use mathlib.Core.Bool.{Bool, true, false, cond, true≢false}
 use mathlib.Core.List.{List, [], _∷_, map}
 use native.Mathlib.Omega.{arith}
-use lib.ListN.{length, getD, take, replicate, length-map, List·getD-map}
-use lib.Seq.{ext-getD, getD-take, length-take-le, paste}
+use lib.ListN.{length, getD, take, length-map, List·getD-map}
+use lib.Seq.{ext-getD, getD-take, length-take-le}
 use lib.Dec.{ltb, eqb}
 use borrow.Author.Tests.{lt-ltb, le-ltb, ltb-false, ne-eqb}
 use Rattle.pmtl.specs.Book.{H, Rows, widthOf, some}
@@ -17,10 +17,10 @@ use Rattle.rows.specs.Memory.{ATOMS, part, clockOf, widthWord, listed, rowsOf, 
 use Rattle.rows.proofs.Listed.{listed-length, listed-at}
 use Rattle.book.specs.Kept.{Kept}
 use Rattle.store.proofs.Parts.{part-length, part-at}
-use Rattle.oracle.specs.Steps.{Bytes, snapOf, Timely, Advanced}
+use Rattle.oracle.specs.Steps.{firstBytes, Bytes, snapOf, Timely, Advanced}
 use Rattle.oracle.specs.Oracle.{Called}
 use Rattle.oracle.proofs.Plans.{some-hit}
-use Rattle.oracle.proofs.Heads.{copied-bytes, copied-take}
+use Rattle.oracle.proofs.Heads.{first-bytes, first-take}
 
 -- ---- a call that is refused for itself, and one that is not
 called-refused : {m : List ℕ} {k : Call} {n : ℕ} → Kept m → refusal (rowsOf m) (stateOf m .now) k ≡ n → (n ≡ 0 → ⊥) → Called k m m n
@@ -45,26 +45,21 @@ module _ {m : List ℕ} (kept : Kept m) where
   narrow = kept .book .narrow
 
   -- ---- a time call
-  abbrev old : List ℕ
-  old = part ATOMS 256 m
-
   old-long : length (part ATOMS 256 m) ≡ 256
   old-long = part-length ATOMS 256 m (let l = kept .book .long in omega arith)
 
-  pub old-bytes : Bytes (part ATOMS 256 m) (widthWord m)
+  pub old-bytes : Bytes (firstBytes (part ATOMS 256 m) (widthWord m)) (widthWord m)
   old-bytes =
-      record {
-        long = old-long;
-        bits = λ i h. rw (part-at ATOMS 256 m i (omega (arith, narrow))) (kept .atoms i h);
-        rest = λ i h l. part-at ATOMS 256 m i l ∙ kept .tidy .atoms-rest i h l;
-      }
+      first-bytes (widthWord m) (part ATOMS 256 m) (omega (arith, old-long, narrow)) narrow
+      (λ i h. rw (part-at ATOMS 256 m i (omega (arith, narrow))) (kept .atoms i h))
 
-  old-atoms : map isOne (take (widthWord m) (part ATOMS 256 m)) ≡ listed (λ i. isOne (getD m (ATOMS + i) 0)) (widthWord m)
+  old-atoms : map isOne (take (widthWord m) (firstBytes (part ATOMS 256 m) (widthWord m))) ≡ listed (λ i. isOne (getD m (ATOMS + i) 0)) (widthWord m)
   old-atoms =
       let w : ℕ = widthWord m in
       let f : ℕ → Bool = λ i. isOne (getD m (ATOMS + i) 0) in
       let long : length (map isOne (take w (part ATOMS 256 m))) ≡ w = length-map (take w (part ATOMS 256 m)) isOne ∙ length-take-le w (part ATOMS 256 m) (omega (arith, old-long, narrow)) in
-      ext-getD false (map isOne (take w (part ATOMS 256 m))) (listed f w) (long ∙ sym (listed-length f w))
+      ap (map isOne) (first-take w (part ATOMS 256 m) (omega (arith, old-long, narrow)) narrow)
+      ∙ ext-getD false (map isOne (take w (part ATOMS 256 m))) (listed f w) (long ∙ sym (listed-length f w))
       (λ i lt.
       let h : i < w = omega arith in
       List·getD-map isOne (take w (part ATOMS 256 m)) i 0
@@ -84,7 +79,7 @@ module _ {m : List ℕ} (kept : Kept m) where
       pub time-timely : Timely m t
       time-timely = record { kept = kept; clock = k }
 
-      pub time-played : {atoms m′ : List ℕ} {r : ℕ} → atoms ≡ part ATOMS 256 m → Advanced m (snapOf t atoms (widthWord m) ∷ []) m′ r → Called (time t) m m′ r
+      pub time-played : {atoms m′ : List ℕ} {r : ℕ} → atoms ≡ firstBytes (part ATOMS 256 m) (widthWord m) → Advanced m (snapOf t atoms (widthWord m) ∷ []) m′ r → Called (time t) m m′ r
       unfolding refusal stateOf
       time-played {atoms} ea a =
           called-played (let e = le-ltb t (clockOf m) (omega arith) in rw (e, le-ltb H t k))
@@ -116,15 +111,15 @@ module _ {m : List ℕ} (kept : Kept m) where
           bit-each : (i : ℕ) → i < length s → getD s i 0 ≤ 1
           bit-each i lt = ltb-false 1 (getD s i 0) (fails-by (ltb 1 (getD s i 0)) (λ z. true≢false (sym (some-hit (ltb 1) 0 s i lt z) ∙ sym eb ∙ e)))
 
-          pub new-bytes : {atoms : List ℕ} → atoms ≡ paste (replicate 256 0) 0 s w → Bytes atoms (widthWord m)
-          new-bytes ea = rw (ea, ← ew) (copied-bytes w s k new-narrow (λ i lt. bit-each i (omega arith)))
+          pub new-bytes : {atoms : List ℕ} → atoms ≡ firstBytes s w → Bytes atoms (widthWord m)
+          new-bytes ea = rw (ea, ← ew) (first-bytes w s k new-narrow (λ i lt. bit-each i (omega arith)))
 
-          pub state-played : {atoms m′ : List ℕ} {r clock : ℕ} → clock ≡ clockOf m → atoms ≡ paste (replicate 256 0) 0 s w → Advanced m (snapOf clock atoms (widthWord m) ∷ []) m′ r → Called (state s) m m′ r
+          pub state-played : {atoms m′ : List ℕ} {r clock : ℕ} → clock ≡ clockOf m → atoms ≡ firstBytes s w → Advanced m (snapOf clock atoms (widthWord m) ∷ []) m′ r → Called (state s) m m′ r
           unfolding refusal stateOf
           state-played {atoms} ec ea a =
               called-played (rw (le-ltb WIDEST (length s) h, width, le-ltb (length s) w k, ← eb, e))
               (ap₂ (λ (c : ℕ) (xs : List ℕ). record { clock = c; atoms = map isOne xs } ∷ []) ec
-              (ap₂ (λ (n : ℕ) (xs : List ℕ). take n xs) (sym ew) ea ∙ copied-take w s k new-narrow ∙ ap (λ (n : ℕ). take n s) (sym width))) a
+              (ap₂ (λ (n : ℕ) (xs : List ℕ). take n xs) (sym ew) ea ∙ first-take w s k new-narrow ∙ ap (λ (n : ℕ). take n s) (sym width))) a
 
         pub state-timely : {clock : ℕ} → clock ≡ clockOf m → Timely m clock
         state-timely ec = record { kept = kept; clock = rw ec (kept .clock) }

@@ -1,68 +1,36 @@
 -- The definitions' rules at the rows of a memory: values by bytes and facts, and the change of a temporal row's set. Assumes nothing.
 use Prim.Native.Nat.{ℕ, zero, suc, _+_, _*_, _-_, _≤_, _<_}
 use mathlib.Core.Path.{_≡_, refl, sym, ap, ap₂, _∙_, subst⁻¹}
-use mathlib.Core.Logic.{⊎-elim}
 use mathlib.Core.Bool.{Bool, true, false}
 use mathlib.Core.List.{List, [], _∷_, map}
 use native.Mathlib.Omega.{arith}
-use lib.ListN.{length, getD, take, length-map, length-take, List·getD-map, List·getD-eq-default}
+use lib.ListN.{length, getD, take, drop, List·getD-map}
 use lib.Seq.{getD-take}
 use borrow.Author.Tests.{le-leb, lt-leb}
 use Rattle.numset.specs.Runs.{Runs, runs, has}
-use Rattle.numset.proofs.Laws.{lt-or-ge}
 use Rattle.pmtl.specs.Book.{Range, start, stop, Row, mapRow, rowAt}
 use Rattle.pmtl.specs.Book.Row.{never, always, atom, conj, disj, neg, implies, historically, once, since}
 use Rattle.pmtl.specs.Sets.{setRule}
-use Rattle.pmtl.specs.Monitor.{Snap, State, setAt, valueRule, value}
-use Rattle.pmtl.proofs.Table.{answer-local}
-use Rattle.rows.specs.Memory.{rowCount, widthWord, kindAt, argAt, lowerAt, upperAt, startAt, slotAt, ownerAt, operandsOf, setWords, rowFrom, rowOf, rowsOf, setOf, stateOf, isOne}
+use Rattle.pmtl.specs.Monitor.{Snap, State, setAt, value}
+use Rattle.rows.specs.Memory.{rowCount, widthWord, kindAt, argAt, lowerAt, upperAt, startAt, slotAt, ownerAt, operandsOf, setWords, rowFrom, rowOf, rowsOf, setOf, stateOf, isOne, BookKept}
 use Rattle.rows.specs.Facts.{hereIn, outputOf}
-use Rattle.rows.proofs.Listed.{listed-at, listed-out}
+use Rattle.rows.proofs.Listed.{listed-at}
+use Rattle.rows.proofs.Facts.{facts-value}
 use Rattle.change.specs.Change.{changed, modeIn}
 use Rattle.change.proofs.Changes.{set-historically, set-once, set-since}
-use Rattle.oracle.specs.Steps.{Bytes, snapOf, rangeAt}
+use Rattle.oracle.specs.Steps.{snapOf, rangeAt}
 
 -- ---- values
--- atoms that are the same where the book may look give the same value
-rule-same : (xs ys : List Bool) → ((a : ℕ) → getD xs a false ≡ getD ys a false) → (here : Bool) (row : Row Bool) → valueRule xs here row ≡ valueRule ys here row
-unfolding valueRule
-rule-same xs ys e here never = refl
-rule-same xs ys e here always = refl
-rule-same xs ys e here (atom a) = e a
-rule-same xs ys e here (conj vs) = refl
-rule-same xs ys e here (disj vs) = refl
-rule-same xs ys e here (neg v) = refl
-rule-same xs ys e here (implies l r) = refl
-rule-same xs ys e here (historically g v) = refl
-rule-same xs ys e here (once g v) = refl
-rule-same xs ys e here (since g l r) = refl
-
-module _ {atoms : List ℕ} {width : ℕ} (bytes : Bytes atoms width) where
-  past : (a : ℕ) → width ≤ a → getD atoms a 0 ≡ 0
-  past a h = ⊎-elim (λ p. bytes .rest a h p) (λ p. let l = bytes .long in List·getD-eq-default atoms 0 (omega arith)) (lt-or-ge a 256)
-
-  atoms-same : (a : ℕ) → getD (map isOne atoms) a false ≡ getD (map isOne (take width atoms)) a false
-  atoms-same a =
-      List·getD-map isOne atoms a 0
-      ∙ ⊎-elim
-      (λ p. ap isOne (sym (getD-take width atoms a 0 p)) ∙ sym (List·getD-map isOne (take width atoms) a 0))
-      (λ (p : width ≤ a).
-      let k : length (map isOne (take width atoms)) ≤ a = simp (length-map, length-take) (omega arith) in
-      ap isOne (past a p) ∙ sym (List·getD-eq-default (map isOne (take width atoms)) false k))
-      (lt-or-ge a width)
-
-  -- what the code finds by bytes and facts, where the facts are right for the rows up to o
-  pub value-right : (m : List ℕ) (st : State) {c : ℕ} → st .now ≡ snapOf c atoms width → (facts : List ℕ) (o : ℕ)
-      → ((q : ℕ) → q ≤ o → hereIn facts q ≡ has (setAt st q) c) → outputOf m atoms facts o ≡ value (rowsOf m) st o
-  unfolding value
-  value-right m st {c} en facts o right =
-      answer-local (rowsOf m) false (λ r row. valueRule (map isOne atoms) (hereIn facts r) row)
-      (λ r row. valueRule (st .now .atoms) (has (setAt st r) (st .now .clock)) row) o
-      (λ q l f.
-      let row = mapRow f (rowAt (rowsOf m) q) in
-      ap (λ (h : Bool). valueRule (map isOne atoms) h row) (right q l)
-      ∙ rule-same (map isOne atoms) (map isOne (take width atoms)) atoms-same (has (setAt st q) c) row
-      ∙ ap (λ (s : Snap). valueRule (s .atoms) (has (setAt st q) (s .clock)) row) (sym en))
+-- what the code finds by bytes and facts, where the facts are right for the temporal rows up to o
+pub value-right : (m : List ℕ) → BookKept m → (st : State) {c : ℕ} (atoms : List ℕ) → st .now ≡ snapOf c atoms (widthWord m) → (facts : List ℕ) (o : ℕ)
+    → ((q : ℕ) → q ≤ o → q < rowCount m → 7 ≤ kindAt m q → hereIn facts q ≡ has (setAt st q) c) → outputOf m atoms facts o ≡ value (rowsOf m) st o
+value-right m kept st {c} atoms en facts o right =
+    let w : ℕ = widthWord m in
+    facts-value m st facts o atoms
+    (λ a h.
+    let l : a < w = omega (arith, kept .width) in
+    ap isOne (sym (getD-take w atoms a 0 l)) ∙ sym (List·getD-map isOne (take w atoms) a 0) ∙ ap (λ (s : Snap). getD (s .atoms) a false) (sym en))
+    (λ q l h k. right q l h k ∙ ap (λ (s : Snap). has (setAt st q) (s .clock)) (sym en))
 
 -- ---- sets
 -- a row that is not temporal has none
@@ -96,7 +64,7 @@ module _ (c : ℕ) (s : Runs) (f : ℕ → Bool) (m : List ℕ) (r : ℕ) where
   unfolding rowOf
   changed-set h k =
       let e : kindAt m r ≡ suc (suc (suc (suc (suc (suc (suc (kindAt m r - 7))))))) = omega arith in
-      subst⁻¹ (λ (kind : ℕ). let row = mapRow f (rowFrom kind (argAt m r) (lowerAt m r) (upperAt m r) (lib.ListN.drop (startAt m r) (operandsOf m))) in setRule c s row ≡ changed (modeIn row) (start (rangeAt m r) c) (stop (rangeAt m r) c) s) e
+      subst⁻¹ (λ (kind : ℕ). let row = mapRow f (rowFrom kind (argAt m r) (lowerAt m r) (upperAt m r) (drop (startAt m r) (operandsOf m))) in setRule c s row ≡ changed (modeIn row) (start (rangeAt m r) c) (stop (rangeAt m r) c) s) e
       (changed-from c s f (kindAt m r - 7) _ _ _ _ (omega arith))
 
 -- ---- the sets that a memory holds

@@ -3,7 +3,8 @@ use Prim.Native.Nat.{ℕ, _+_, _*_, _≤_, _<_}
 use mathlib.Core.Path.{_≡_}
 use mathlib.Core.Bool.{Bool, true, not}
 use mathlib.Core.List.{List, [], _∷_, map}
-use lib.ListN.{length, getD, take}
+use lib.ListN.{length, getD, take, replicate}
+use lib.Seq.{paste}
 use Rattle.numset.specs.Runs.{MAX, Runs, runs, Good, has, fits, pack}
 use Rattle.pmtl.specs.Book.{H, Range, start, stop, mapRow}
 use Rattle.pmtl.specs.Answer.{bitOf}
@@ -15,11 +16,13 @@ use Rattle.book.specs.Kept.{Kept}
 use Rattle.change.specs.Change.{changed, modeIn}
 use Rattle.oracle.specs.declared.calls.RowPlan.{RowPlan}
 
--- the atoms as a call hands them on, a byte for each: 0 past the book's width
+-- the first so many of a list's bytes, and zeros: the atoms as a call hands them on
+abbrev pub firstBytes : List ℕ → ℕ → List ℕ
+firstBytes bytes width = paste (replicate 256 0) 0 bytes width
+
 pub record Bytes (atoms : List ℕ) (width : ℕ) : Type 0 where
   pub long : length atoms ≡ 256
   pub bits : (i : ℕ) → i < width → getD atoms i 0 ≤ 1
-  pub rest : (i : ℕ) → width ≤ i → i < 256 → getD atoms i 0 ≡ 0
 
 -- the clock and atoms that a call leaves, and the state
 abbrev pub snapOf : ℕ → List ℕ → ℕ → Snap

@@ -3,8 +3,7 @@ ghost use mathlib.Core.Path.{_≡_};
 ghost use mathlib.Core.Bool.{true};
 ghost use mathlib.Core.List.{[], _∷_};
 ghost use Prim.Native.Nat.{_+_, _*_, _≤_, _<_};
-ghost use lib.ListN.{length, getD, replicate};
-ghost use lib.Seq.{paste};
+ghost use lib.ListN.{length, getD};
 ghost use lib.Dec.{ltb};
 ghost use borrow.Rule.Slice.PartMut.{putMid};
 ghost use Rattle.numset.specs.Runs.{pack};
@@ -13,7 +12,7 @@ ghost use Rattle.pmtl.specs.Answer.{bitOf};
 ghost use Rattle.pmtl.specs.Calls.{Call};
 ghost use Rattle.rows.specs.Memory.{ATOMS, SET, SIZE, part, rowCount, widthWord, temporals, kindAt, ownerAt, setStart, setWords, BookKept};
 ghost use Rattle.book.specs.Kept.{Kept};
-ghost use Rattle.oracle.specs.Steps.{Bytes, snapOf, rangeAt, modeAt, setAfter, rowPlan, Bounded, Slot, Planned, Timely, Fit, Fitting, Written, Headed, Advanced};
+ghost use Rattle.oracle.specs.Steps.{firstBytes, Bytes, snapOf, rangeAt, modeAt, setAfter, rowPlan, Bounded, Slot, Planned, Timely, Fit, Fitting, Written, Headed, Advanced};
 ghost use Rattle.oracle.specs.Oracle.{Called};
 
 // The numbers that a call hands back.
@@ -144,7 +143,6 @@ fn plan_row<'a>(
 // The plan of a call, from the lowest temporal row upward, up to the first whose set lacks room.
 fn plan_call<'a>(monitor: &'a [u64], clock: u64, atoms: &'a [u8; WIDEST]) -> Plan
     requires { ⌜ Timely (now monitor) clock ⌝ }
-    requires { ⌜ Bytes (now atoms) (widthWord (now monitor)) ⌝ }
     ensures { λ r. ⌜ Planned (now (monitor .entry)) clock (now (atoms .entry)) (r .room) (r .modes) ⌝ }
 {
     let count = rows::temporal_count(monitor);
@@ -236,7 +234,7 @@ fn advance(monitor: &mut [u64], clock: u64, atoms: &[u8; WIDEST]) -> u64
 // The atoms as they are.
 fn old_atoms(monitor: &[u64]) -> [u8; WIDEST]
     requires { ⌜ Kept (now monitor) ⌝ }
-    ensures { λ r. ⌜ r ≡ part ATOMS 256 (now (monitor .entry)) ⌝ }
+    ensures { λ r. ⌜ r ≡ firstBytes (part ATOMS 256 (now (monitor .entry))) (widthWord (now (monitor .entry))) ⌝ }
 {
     let count = rows::width(monitor);
     let mut atoms = [0u8; WIDEST];
@@ -251,7 +249,7 @@ fn old_atoms(monitor: &[u64]) -> [u8; WIDEST]
 // The atoms of a state: its first bytes.
 fn new_atoms(state: &[u8], count: usize) -> [u8; WIDEST]
     requires { ⌜ (count ≤ length (now state)) × (count ≤ 256) ⌝ }
-    ensures { λ r. ⌜ r ≡ paste (replicate 256 0) 0 (now (state .entry)) count ⌝ }
+    ensures { λ r. ⌜ r ≡ firstBytes (now (state .entry)) count ⌝ }
 {
     let mut atoms = [0u8; WIDEST];
     let mut i = 0;

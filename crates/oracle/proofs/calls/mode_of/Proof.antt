@@ -1,4 +1,4 @@
-use Rattle.oracle.proofs.Modes.{first-inside, first-row, second-inside, second-row, mode-historically, mode-once, mode-since}
+use Rattle.oracle.proofs.Modes.{first-place, first-row, second-place, second-row, mode-historically, mode-once, mode-since}
 use Rattle.rows.specs.Facts.{outputOf}
 use native.Mathlib.Omega.{arith}
 use borrow.Author.Needs.{needs}
@@ -22,7 +22,7 @@ start-at-requires c κs = search needs
 
 -- src/calls.rt:63:53
 operand-at-requires : tie.Need-operand-at-requires
-operand-at-requires c κs = let s = c .before .before .before in (s .pre .0 .long, first-inside (s .pre .0) (s .pre .1 .0) (s .pre .1 .1) (c .before .kind-at .ensures) (c .start-at .ensures))
+operand-at-requires c κs = let s = c .before .before .before in first-place (s .pre .0) (s .pre .1 .0) (s .pre .1 .1) (c .before .kind-at .ensures) (c .start-at .ensures)
 
 -- src/calls.rt:63:9
 output-requires : tie.Need-output-requires
@@ -46,11 +46,11 @@ returns-2 c = let s = c .before .before .before .before .before .before .before 
 
 -- src/calls.rt:70:80
 add-operand-at : tie.Need-add-operand-at
-add-operand-at c = let s = c .before .before .before .before .before .before .before in let q = second-inside (s .pre .0) (s .pre .1 .0) (s .pre .1 .1) (c .before .before .before .before .before .kind-at .ensures) (c .before .before .before .before .start-at .ensures) (c .before .if1 .left) (c .if2 .left) in omega arith
+add-operand-at c = let s = c .before .before .before .before .before .before .before in let q = second-place (s .pre .0) (s .pre .1 .0) (s .pre .1 .1) (c .before .before .before .before .before .kind-at .ensures) (c .before .before .before .before .start-at .ensures) (c .before .if1 .left) (c .if2 .left) in omega arith
 
 -- src/calls.rt:70:54
 operand-at-requires-2 : tie.Need-operand-at-requires-2
-operand-at-requires-2 c κs = let s = c .before .before .before .before .before .before .before in (s .pre .0 .long, second-inside (s .pre .0) (s .pre .1 .0) (s .pre .1 .1) (c .before .before .before .before .before .kind-at .ensures) (c .before .before .before .before .start-at .ensures) (c .before .if1 .left) (c .if2 .left))
+operand-at-requires-2 c κs = let s = c .before .before .before .before .before .before .before in second-place (s .pre .0) (s .pre .1 .0) (s .pre .1 .1) (c .before .before .before .before .before .kind-at .ensures) (c .before .before .before .before .start-at .ensures) (c .before .if1 .left) (c .if2 .left)
 
 -- src/calls.rt:70:9
 output-requires-2 : tie.Need-output-requires-2

@@ -1,5 +1,6 @@
 use Rattle.oracle.proofs.Heads.{copy-more}
-use lib.Seq.{paste, paste-zero}
+use lib.Seq.{paste-zero}
+use Rattle.oracle.specs.Steps.{firstBytes}
 use lib.ListN.{length, getD, replicate}
 use mathlib.Core.Path.{_≡_, refl, ap, _∙_}
 use native.Mathlib.Omega.{arith}
@@ -11,7 +12,7 @@ use Rattle.oracle.proofs.calls.new_atoms.Reads as reads
 use Rattle.oracle.proofs.calls.new_atoms.Lts as lts
 
 abbrev Inv-loop : tie.InvT-loop
-Inv-loop state count atoms₀ i₀ atoms i = (i ≤ count) × (atoms ≡ paste (replicate 256 0) 0 state i)
+Inv-loop state count atoms₀ i₀ atoms i = (i ≤ count) × (atoms ≡ firstBytes state i)
 
 abbrev μ-loop : tie.MeasureT-loop
 μ-loop state count atoms₀ i₀ atoms i = count - i
@@ -42,7 +43,7 @@ loop-again c = let s = c .before .before .before in let l = c .before .before .l
 
 -- src/calls.rt:249:1
 returns : tie.Need-returns Inv-loop μ-loop
-returns c = let s = c .before .before in let l = c .before .loop in let k = s .pre in let e : l .i ≡ s .args .count = let q = l .inv .0 in omega arith in l .inv .1 ∙ ap (paste (replicate 256 0) 0 (s .args .state .now)) e
+returns c = let s = c .before .before in let l = c .before .loop in let k = s .pre in let e : l .i ≡ s .args .count = let q = l .inv .0 in omega arith in l .inv .1 ∙ ap (firstBytes (s .args .state .now)) e
 
 pub new-atoms-spec : {M : Type 1} → statement M
 new-atoms-spec =

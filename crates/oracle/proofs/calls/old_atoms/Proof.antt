@@ -1,7 +1,8 @@
-use Rattle.oracle.proofs.Heads.{copy-more, copied-all}
+use Rattle.oracle.specs.Steps.{firstBytes}
+use Rattle.oracle.proofs.Heads.{copy-more}
 use Rattle.store.proofs.Parts.{part-at, part-length}
 use Rattle.rows.specs.Memory.{ATOMS, part, widthWord}
-use lib.Seq.{paste, paste-zero}
+use lib.Seq.{paste-zero}
 use lib.ListN.{length, getD, replicate}
 use mathlib.Core.Path.{_≡_, sym, ap, _∙_}
 use Prim.Native.Nat.{ℕ, _≤_, _-_}
@@ -15,7 +16,7 @@ use Rattle.rows.proofs.width.Reads as width-reads
 use Rattle.rows.proofs.word.Reads as word-reads
 
 abbrev Inv-loop : tie.InvT-loop
-Inv-loop monitor count atoms₀ i₀ atoms i = (i ≤ count) × (count ≡ widthWord monitor) × (atoms ≡ paste (replicate 256 0) 0 (part ATOMS 256 monitor) i)
+Inv-loop monitor count atoms₀ i₀ atoms i = (i ≤ count) × (count ≡ widthWord monitor) × (atoms ≡ firstBytes (part ATOMS 256 monitor) i)
 
 abbrev μ-loop : tie.MeasureT-loop
 μ-loop monitor count atoms₀ i₀ atoms i = count - i
@@ -58,7 +59,7 @@ loop-again c = let s = c .before .before .before .before .before in let l = c .b
 
 -- src/calls.rt:234:1
 returns : tie.Need-returns Inv-loop μ-loop
-returns c = let s = c .before .before .before .before in let l = c .before .loop in let m = s .args .monitor .now in let g = s .pre .book .long in let long = part-length ATOMS 256 m (omega arith) in let e : l .i ≡ widthWord m = let q = l .inv .0 in let u = l .inv .1 in omega arith in l .inv .2 ∙ ap (paste (replicate 256 0) 0 (part ATOMS 256 m)) e ∙ copied-all (widthWord m) (part ATOMS 256 m) (let k = s .pre .book .narrow in omega arith) (s .pre .book .narrow) long (λ i p q. part-at ATOMS 256 m i q ∙ s .pre .tidy .atoms-rest i p q)
+returns c = let s = c .before .before .before .before in let l = c .before .loop in let m = s .args .monitor .now in let e : l .i ≡ widthWord m = let q = l .inv .0 in let u = l .inv .1 in omega arith in l .inv .2 ∙ ap (firstBytes (part ATOMS 256 m)) e
 
 pub old-atoms-spec : {M : Type 1} → statement M
 old-atoms-spec =
