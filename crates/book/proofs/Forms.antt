@@ -1,20 +1,20 @@
 -- Each test of a row's words, as the code makes it. Assumes nothing.
-use mathlib.Core.Path.{_≡_, refl, sym, ap, _∙_}
-use mathlib.Core.Bool.{Bool, true, false, cond, not, _&&_, _||_}
-use mathlib.Core.List.{List, [], _∷_}
-use Prim.Native.Nat.{ℕ, zero, suc, _+_, _*_, _≤_, _<_}
-use native.Mathlib.Nat.{le-of-suc-le-suc, not-suc-le-zero, not-le-of-lt}
+use mathlib.Core.Path.{_≡_, refl, _∙_}
+use mathlib.Core.Bool.{Bool, true, false, cond, not, _&&_}
+use mathlib.Core.List.{List}
+use Prim.Native.Nat.{ℕ, zero, suc, _≤_, _<_}
+use native.Mathlib.Nat.{not-le-of-lt}
 use native.Mathlib.Omega.{arith}
-use lib.ListN.{length, getD}
-use lib.Dec.{leb, ltb, eqb, lit<, leb·zero, leb·suc-zero, leb·suc-suc, eqb·zero-suc, eqb·suc-zero, eqb·suc-suc}
+use lib.ListN.{getD}
+use lib.Dec.{leb, eqb, lit<, leb·zero, leb·suc-zero, leb·suc-suc, eqb·zero-suc, eqb·suc-zero, eqb·suc-suc}
 use borrow.Author.Tests.{le-leb, lt-leb, eq-eqb, ne-eqb}
 use Rattle.numset.specs.Runs.{MAX}
+use Rattle.pmtl.proofs.Bools.{fails-by, and-intro, and-no-left, and-no-right}
 use Rattle.pmtl.specs.Book.{H}
-use Rattle.pmtl.specs.Answer.{bitOf}
-use Rattle.rows.specs.Memory.{temporal, countOf}
+use Rattle.rows.specs.Memory.{temporal}
 use Rattle.book.specs.Judging.{kindIn, argIn, lowerIn, upperIn, temporalsIn, argGood, formGood, rangeGood, rowNumber}
 use Rattle.book.specs.Placing.{refusal, leastArgs, largestArgs}
-use Rattle.book.proofs.Tests.{fails-by, and-intro, and-no-left, and-no-right, Answers, due, undue, good, stands, stands-and, goes-on}
+use Rattle.book.proofs.Tests.{Answers, due, undue, good, stands, carried, goes-on}
 use Rattle.book.proofs.Accepted.{arg-kind}
 
 -- ---- 3: a table of args, for each kind the least and the largest
@@ -59,7 +59,7 @@ module _ (kind arg : ℕ) (known : kind ≤ 9) where
 module _ (kind arg lower upper : ℕ) where
   pub bad-arg : (w : ℕ) → Answers w 3 (argGood kind arg) → (w ≡ 0 → ⊥) → Answers w 3 (formGood kind arg lower upper)
   unfolding formGood
-  bad-arg w e wrong = stands-and (argGood kind arg) _ 3 w e wrong
+  bad-arg w e wrong = carried (argGood kind arg) (formGood kind arg lower upper) 3 w e wrong (and-no-left (argGood kind arg) _)
 
   module _ (w : ℕ) (e : Answers w 3 (argGood kind arg)) (z : w ≡ 0) where
     arg-passed : argGood kind arg ≡ true

@@ -4,3 +4,7 @@ pub mod Placing
 pub mod Sections
 pub mod Forms
 pub mod Rows
+pub mod All
+pub mod Links
+pub mod Uses
+pub mod Judges

@@ -1,17 +1,16 @@
 -- The rows in their order: what the loop over them keeps. Assumes nothing.
-use mathlib.Core.Path.{_≡_, refl, sym, ap, _∙_}
-use mathlib.Core.Bool.{Bool}
+use mathlib.Core.Path.{_≡_, refl, sym, _∙_}
 use mathlib.Core.Logic.{⊎-elim}
 use mathlib.Core.List.{List}
-use Prim.Native.Nat.{ℕ, zero, suc, _+_, _≤_, _<_}
+use Prim.Native.Nat.{ℕ, zero, suc, _+_, _<_}
 use native.Mathlib.Nat.{le-of-suc-le-suc, not-suc-le-zero, eq-or-lt-of-le}
 use native.Mathlib.Numerals.{add-one}
-use native.Mathlib.Omega.{arith}
 use Rattle.pmtl.specs.Answer.{bitOf}
 use Rattle.rows.specs.Memory.{temporal}
-use Rattle.book.specs.Judging.{kindIn, temporalsIn, firstOf, firstTo, rowNumber}
+use Rattle.book.specs.Judging.{kindIn, temporalsIn, firstOf, firstTo}
 
-stays : (a x : ℕ) → (a ≡ 0 → ⊥) → firstOf a x ≡ a
+-- the first that is not 0 stands
+pub stays : (a x : ℕ) → (a ≡ 0 → ⊥) → firstOf a x ≡ a
 stays zero x wrong = absurd (wrong refl)
 stays (suc n) x wrong = refl
 

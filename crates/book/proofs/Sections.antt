@@ -1,17 +1,16 @@
 -- Reading a section in place: what each answer of the tests on its count and on the words left says of `section`. Assumes nothing.
-use mathlib.Core.Path.{_≡_, refl, sym, ap, _∙_}
-use mathlib.Core.List.{List, [], _∷_}
-use Prim.Native.Nat.{ℕ, zero, suc, _+_, _*_, _-_, _≤_, _<_}
+use mathlib.Core.Path.{_≡_, refl, sym, _∙_}
+use mathlib.Core.List.{List, _∷_}
+use Prim.Native.Nat.{ℕ, _+_, _*_, _-_, _≤_, _<_}
 use native.Mathlib.Numerals.{add-one}
 use native.Mathlib.Omega.{arith}
-use lib.ListN.{length, getD, take, drop, length-drop, drop-of-length-le}
+use lib.ListN.{length, getD, drop, length-drop, drop-of-length-le}
 use lib.Seq.{drop-cons, drop-drop}
-use lib.Dec.{ltb}
 use borrow.Author.Tests.{lt-ltb, le-ltb}
 use Rattle.rows.specs.Memory.{part}
-use Rattle.book.specs.Reading.{Read, got, refused, section, next, sections}
+use Rattle.book.specs.Reading.{got, refused, section, next, sections}
 use Rattle.book.specs.Judging.{refusedWith, whole, loaded}
-use Rattle.book.specs.Placing.{partsOf, sectionsOf, Counted, Told, SectionTold}
+use Rattle.book.specs.Placing.{partsOf, sectionsOf, Told, SectionTold}
 
 module _ (words : List ℕ) (at limit size number count next : ℕ) where
   refuses : (number ≡ 0 → ⊥) → next ≡ 0 → section 1 limit size (drop at words) ≡ refused number → SectionTold words at limit size number count next
@@ -92,7 +91,16 @@ module _ (words : List ℕ) (k number n o a g : ℕ) (none : (number ≡ k) × (
             told-refused (omega arith)
             (rw (t₁ .read z₁, t₂ .read z₂, t₃ .read z₃, t₄ .read z₄, drop-cons words x₄ 0 l, one))
 
--- and where all were read, to the last word
+-- ---- sections that stand where partsOf has them
+pub in-place : (words : List ℕ) (n o a g : ℕ) {x₁ x₂ x₃ x₄ : List ℕ} (p₂ p₃ p₄ : ℕ) → x₁ ≡ part 1 (4 * n) words → x₂ ≡ part p₂ o words → x₃ ≡ part p₃ a words → x₄ ≡ part p₄ g words
+    → p₂ ≡ 4 * n + 2
+    → p₃ ≡ 4 * n + o + 3
+    → p₄ ≡ 4 * n + o + a + 4
+    → sectionsOf x₁ x₂ x₃ x₄ ≡ partsOf words n o a g
+unfolding partsOf
+in-place words n o a g p₂ p₃ p₄ e₁ e₂ e₃ e₄ q₂ q₃ q₄ = rw (e₁, e₂, e₃, e₄, q₂, q₃, q₄)
+
+-- ---- where all were read, to the last word
 module _
     (words : List ℕ)
     {k₁ c₁ x₁ k₂ c₂ x₂ k₃ c₃ x₃ k₄ c₄ x₄ : ℕ}
@@ -109,23 +117,13 @@ module _
     unfolding sections next
     in-turn = rw (t₁ .read z₁, t₂ .read z₂, t₃ .read z₃, t₄ .read z₄)
 
-    same-part : (p q m n : ℕ) → p ≡ q → m ≡ n → part p m words ≡ part q n words
-    same-part p q m n e f = cc
-
-    same-sections : (a b c d a′ b′ c′ d′ : List ℕ) → a ≡ a′ → b ≡ b′ → c ≡ c′ → d ≡ d′ → sectionsOf a b c d ≡ sectionsOf a′ b′ c′ d′
-    same-sections a b c d a′ b′ c′ d′ e f g h = rw (e, f, g, h)
-
     placed : sectionsOf (part (0 + 1) (4 * c₁) words) (part (x₁ + 1) (1 * c₂) words) (part (x₂ + 1) (1 * c₃) words) (part (x₃ + 1) (1 * c₄) words) ≡ partsOf words c₁ c₂ c₃ c₄
-    unfolding partsOf
     placed =
         let p₁ = t₁ .onward z₁ in
         let p₂ = t₂ .onward z₂ in
         let p₃ = t₃ .onward z₃ in
-        same-sections _ _ _ _ _ _ _ _
-        refl
-        (same-part (x₁ + 1) (4 * c₁ + 2) (1 * c₂) c₂ (omega arith) (omega arith))
-        (same-part (x₂ + 1) (4 * c₁ + c₂ + 3) (1 * c₃) c₃ (omega arith) (omega arith))
-        (same-part (x₃ + 1) (4 * c₁ + c₂ + c₃ + 4) (1 * c₄) c₄ (omega arith) (omega arith))
+        let once : (m : ℕ) → 1 * m ≡ m = λ m. omega arith in
+        in-place words c₁ c₂ c₃ c₄ (x₁ + 1) (x₂ + 1) (x₃ + 1) refl (rw once) (rw once) (rw once) (omega arith) (omega arith) (omega arith)
 
     pub to-the-last : length words ≤ x₄ → Told words 0 c₁ c₂ c₃ c₄
     to-the-last l = record {

@@ -1,22 +1,10 @@
--- Tests as facts: a test that passed is b ≡ true, one that failed b ≡ false. What a number that is 0 says of the tests it was picked by.
-use mathlib.Core.Path.{_≡_, refl}
-use mathlib.Core.Bool.{Bool, true, false, cond, not, _&&_, true≢false, false≢true}
+-- What a number says of the tests that it was picked by. Assumes nothing.
+use mathlib.Core.Path.{_≡_, refl, _∙_}
+use mathlib.Core.Bool.{Bool, true, false, cond, not, true≢false, false≢true}
 use Prim.Native.Nat.{ℕ, zero, suc, _<_}
 use native.Mathlib.Omega.{arith}
 use Rattle.book.specs.Judging.{firstOf}
 use Rattle.book.specs.Placing.{refusal}
-
-pub and-left : (a b : Bool) → (a && b) ≡ true → a ≡ true
-and-left true b h = refl
-and-left false b h = h
-
-pub and-right : (a b : Bool) → (a && b) ≡ true → b ≡ true
-and-right true b h = h
-and-right false b h = absurd (false≢true h)
-
-pub and-intro : (a b : Bool) → a ≡ true → b ≡ true → (a && b) ≡ true
-and-intro true b h k = k
-and-intro false b h k = h
 
 -- a refusal that did not come: its test passed, and what comes after it is 0
 pub passed : (b : Bool) (n x : ℕ) → 0 < n → cond (not b) n x ≡ 0 → b ≡ true
@@ -38,18 +26,6 @@ first-none (suc n) m h = h
 pub then-none : (a m : ℕ) → firstOf a m ≡ 0 → m ≡ 0
 then-none zero m h = h
 then-none (suc n) m h = absurd (omega arith)
-
-pub fails-by : (a : Bool) → (a ≡ true → ⊥) → a ≡ false
-fails-by true f = absurd (f refl)
-fails-by false f = refl
-
-pub and-no-left : (a b : Bool) → a ≡ false → (a && b) ≡ false
-and-no-left true b h = absurd (true≢false h)
-and-no-left false b h = refl
-
-pub and-no-right : (a b : Bool) → b ≡ false → (a && b) ≡ false
-and-no-right true b h = h
-and-no-right false b h = refl
 
 -- ---- refusals
 -- w is what the test refuses with
@@ -74,9 +50,10 @@ pub stands : (b : Bool) (n x w : ℕ) → Answers w n b → (w ≡ 0 → ⊥) �
 stands true n x w e wrong = absurd (wrong e)
 stands false n x w e wrong = e
 
-pub stands-and : (a b : Bool) (n w : ℕ) → Answers w n a → (w ≡ 0 → ⊥) → Answers w n (a && b)
-stands-and true b n w e wrong = absurd (wrong e)
-stands-and false b n w e wrong = e
+-- and it is that of any test that fails with it
+pub carried : (a b : Bool) (n w : ℕ) → Answers w n a → (w ≡ 0 → ⊥) → (a ≡ false → b ≡ false) → Answers w n b
+carried true b n w e wrong f = absurd (wrong e)
+carried false b n w e wrong f = e ∙ due b n (f refl)
 
 -- after one that is 0 the number is that of what comes next
 pub goes-on : (b : Bool) (n x w : ℕ) → b ≡ true → w ≡ x → w ≡ cond (not b) n x

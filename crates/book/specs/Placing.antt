@@ -1,12 +1,13 @@
 -- Where the sections of a book stand in its words: private steps on the way from words to a loaded book. Definitions only.
-use Prim.Native.Nat.{ℕ, _+_, _*_, _≤_}
+use Prim.Native.Nat.{ℕ, _+_, _*_, _/_, _≤_, _<_}
 use mathlib.Core.Path.{_≡_}
-use mathlib.Core.Bool.{Bool, cond, not}
+use mathlib.Core.Bool.{Bool, true, cond, not, _&&_}
 use mathlib.Core.List.{List, [], _∷_}
 use lib.ListN.{length, getD, drop}
+use lib.Dec.{ltb, eqb}
 use Rattle.rows.specs.Memory.{part}
-use Rattle.book.specs.Reading.{Read, got, refused, GIVEN, Sections, section, sections}
-use Rattle.book.specs.Judging.{Loaded, refusedWith, loaded}
+use Rattle.book.specs.Reading.{got, refused, GIVEN, Sections, section, sections}
+use Rattle.book.specs.Judging.{rowsIn, startIn, allTo, operandsGood, linksGood, timesIn, refusedWith, loaded}
 
 -- the sections, from how many rows, operands, assumes and guarantees there are: each stands after its count
 unfoldable pub partsOf : List ℕ → ℕ → ℕ → ℕ → ℕ → Sections
@@ -60,3 +61,35 @@ leastArgs = 0 ∷ 0 ∷ 0 ∷ 0 ∷ 0 ∷ 1 ∷ 2 ∷ 1 ∷ 1 ∷ 2 ∷ []
 
 abbrev pub largestArgs : List ℕ
 largestArgs = 0 ∷ 0 ∷ 255 ∷ 128 ∷ 128 ∷ 1 ∷ 2 ∷ 1 ∷ 1 ∷ 2 ∷ []
+
+-- the numbers from a place on, so many, are below a bound
+unfoldable pub allBelow : List ℕ → ℕ → ℕ → ℕ → Bool
+allBelow numbers from count bound = allTo (λ k. ltb (getD numbers (from + k) 0) bound) count
+
+-- the operands are as many as the rows need, and below their owners
+unfoldable pub operandsMet : List ℕ → List ℕ → Bool
+operandsMet rows operands =
+    eqb (startIn rows (length rows / GIVEN)) (length operands)
+    && allTo (operandsGood (sectionsOf rows operands [] [])) (length rows / GIVEN)
+
+-- uses of the 128 rows, few enough to be counted in bytes on top of the counts that a table has
+pub record Countable (uses times : List ℕ) : Type 0 where
+  pub long : length times ≡ 128
+  pub rows : (i : ℕ) → i < length uses → getD uses i 0 < 128
+  pub few : (r : ℕ) → r < 128 → getD times r 0 + length uses ≤ 255
+
+-- a table of counts, before and after
+pub record Tallied (uses times times′ : List ℕ) : Type 0 where
+  pub long : length times′ ≡ 128
+  pub more : (r : ℕ) → r < 128 → getD times′ r 0 ≡ getD times r 0 + timesIn r uses
+
+-- sections within the limits, and such that also link their rows as they should
+pub record Few (s : Sections) : Type 0 where
+  pub rows : rowsIn s ≤ 128
+  pub operands : length (s .operands) ≤ 128
+  pub assumes : length (s .assumes) ≤ 16
+  pub guarantees : length (s .guarantees) ≤ 16
+
+pub record Linked (s : Sections) : Type 0 where
+  pub few : Few s
+  pub links : linksGood s ≡ true

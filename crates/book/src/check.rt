@@ -1,6 +1,6 @@
 // A book handed over as words: the number that it is refused with, and where its sections stand.
 ghost use mathlib.Core.Path.{_≡_};
-ghost use mathlib.Core.Bool.{not, _&&_};
+ghost use mathlib.Core.Bool.{true, not, _&&_};
 ghost use mathlib.Core.List.{[]};
 ghost use Prim.Native.Nat.{ℕ, _+_, _*_, _/_, _≤_, _<_};
 ghost use lib.ListN.{length, getD};
@@ -8,10 +8,10 @@ ghost use lib.Dec.{ltb, leb, eqb};
 ghost use Rattle.pmtl.specs.Answer.{bitOf};
 ghost use Rattle.rows.specs.Memory.{part, temporal, countOf};
 ghost use Rattle.book.specs.Judging.{kindIn, argIn, lowerIn, upperIn, temporalsIn, startIn, firstTo, allTo, argGood, formGood, rangeGood, rowNumber, operandsGood, linksGood, timesIn, usesOf, usedOnce, judged, loaded};
-ghost use Rattle.book.specs.Placing.{partsOf, sectionsOf, refusal, leastArgs, largestArgs, Counted, Placed, Told, SectionTold};
+ghost use Rattle.book.specs.Placing.{partsOf, sectionsOf, refusal, leastArgs, largestArgs, allBelow, operandsMet, Countable, Tallied, Few, Linked, Counted, Placed, Told, SectionTold};
 
 // The numbers that a book is answered with.
-const ACCEPTED: u64 = 0;
+pub const ACCEPTED: u64 = 0;
 
 const WRONG_LENGTH: u64 = 1;
 
@@ -34,8 +34,11 @@ const MOST_PROPERTIES: usize = 16;
 
 const MOST_TEMPORALS: usize = 32;
 
+// A section's count takes a word.
+pub const COUNT_WORD: usize = 1;
+
 // A row's words: kind, arg, lower, upper.
-const ROW_WORDS: usize = 4;
+pub const ROW_WORDS: usize = 4;
 
 const ARG: usize = 1;
 
@@ -114,7 +117,7 @@ fn read_section(words: &[u64], at: usize, limit: usize, size: usize) -> Section
     if limit < count {
         return broken(PAST_LIMIT);
     }
-    let first = at + 1;
+    let first = at + COUNT_WORD;
     let room = size * count;
     if words.len() - first < room {
         return broken(WRONG_LENGTH);
@@ -172,28 +175,28 @@ fn counts(words: &[u64]) -> Places
 }
 
 // What the words of a row say.
-fn kind_in(rows: &[u64], row: usize) -> u64
+pub fn kind_in(rows: &[u64], row: usize) -> u64
     requires { ⌜ row < length (now rows) / 4 ⌝ }
     ensures { λ r. ⌜ r ≡ kindIn (now (rows .entry)) row ⌝ }
 {
     rows[ROW_WORDS * row]
 }
 
-fn arg_in(rows: &[u64], row: usize) -> u64
+pub fn arg_in(rows: &[u64], row: usize) -> u64
     requires { ⌜ row < length (now rows) / 4 ⌝ }
     ensures { λ r. ⌜ r ≡ argIn (now (rows .entry)) row ⌝ }
 {
     rows[ROW_WORDS * row + ARG]
 }
 
-fn lower_in(rows: &[u64], row: usize) -> u64
+pub fn lower_in(rows: &[u64], row: usize) -> u64
     requires { ⌜ row < length (now rows) / 4 ⌝ }
     ensures { λ r. ⌜ r ≡ lowerIn (now (rows .entry)) row ⌝ }
 {
     rows[ROW_WORDS * row + LOWER]
 }
 
-fn upper_in(rows: &[u64], row: usize) -> u64
+pub fn upper_in(rows: &[u64], row: usize) -> u64
     requires { ⌜ row < length (now rows) / 4 ⌝ }
     ensures { λ r. ⌜ r ≡ upperIn (now (rows .entry)) row ⌝ }
 {
@@ -328,4 +331,199 @@ fn rows_number(rows: &[u64]) -> u64
         row += 1;
     }
     ACCEPTED
+}
+
+// Refuses numbers that are not below a bound, so many from a place on.
+fn below_number(numbers: &[u64], from: usize, count: usize, bound: usize) -> u64
+    requires { ⌜ from + count ≤ length (now numbers) ⌝ }
+    ensures { λ r. ⌜ r ≡ refusal 5 (allBelow (now (numbers .entry)) from count bound) ⌝ }
+{
+    let mut k = 0;
+    while k < count {
+        if number_at(numbers, from + k) >= bound {
+            return WRONG_LINK;
+        }
+        k += 1;
+    }
+    ACCEPTED
+}
+
+// How many operands a row takes whose arg its kind takes: from And on the arg counts them.
+pub fn taken_by(kind: u64, arg: u64) -> usize
+    requires { ⌜ argGood kind arg ≡ true ⌝ }
+    ensures { λ r. ⌜ r ≡ countOf kind arg ⌝ }
+{
+    if kind < AND {
+        return 0;
+    }
+    arg as usize
+}
+
+// Refuses operands that are not as many as the rows need, or not below their owners.
+fn operands_number<'a>(rows: &'a [u64], operands: &'a [u64]) -> u64
+    requires { ⌜ firstTo (rowNumber (now rows)) (length (now rows) / 4) ≡ 0 ⌝ }
+    ensures { λ r. ⌜ r ≡ refusal 5 (operandsMet (now (rows .entry)) (now (operands .entry))) ⌝ }
+{
+    let mut start = 0;
+    let mut row = 0;
+    while row < rows.len() / ROW_WORDS {
+        let count = taken_by(kind_in(rows, row), arg_in(rows, row));
+        if operands.len() - start < count {
+            return WRONG_LINK;
+        }
+        let wrong = below_number(operands, start, count, row);
+        if wrong != ACCEPTED {
+            return wrong;
+        }
+        start += count;
+        row += 1;
+    }
+    if start != operands.len() {
+        return WRONG_LINK;
+    }
+    ACCEPTED
+}
+
+// Refuses what links rows wrongly: operands, assumes, guarantees.
+fn links_number<'a>(
+    rows: &'a [u64],
+    operands: &'a [u64],
+    assumes: &'a [u64],
+    guarantees: &'a [u64],
+) -> u64
+    requires { ⌜ firstTo (rowNumber (now rows)) (length (now rows) / 4) ≡ 0 ⌝ }
+    ensures { λ r. ⌜ r ≡ refusal 5 (linksGood (sectionsOf (now (rows .entry)) (now (operands .entry)) (now (assumes .entry)) (now (guarantees .entry)))) ⌝ }
+{
+    let wrong = operands_number(rows, operands);
+    if wrong != ACCEPTED {
+        return wrong;
+    }
+    let count = rows.len() / ROW_WORDS;
+    let wrong = below_number(assumes, 0, assumes.len(), count);
+    if wrong != ACCEPTED {
+        return wrong;
+    }
+    below_number(guarantees, 0, guarantees.len(), count)
+}
+
+// Counts in a table how often each row is used.
+fn tally(uses: &[u64], times: &mut [u8; 128])
+    requires { ⌜ Countable (now uses) (now times) ⌝ }
+    ensures { λ _. ⌜ Tallied (now (uses .entry)) (now (times .entry)) (now (times .exit)) ⌝ }
+{
+    let mut i = 0;
+    while i < uses.len() {
+        let row = number_at(uses, i);
+        times[row] += 1;
+        i += 1;
+    }
+}
+
+// Refuses rows that are not used exactly once.
+fn once_number(times: &[u8; 128], count: usize) -> u64
+    requires { ⌜ (length (now times) ≡ 128) × (count ≤ 128) ⌝ }
+    ensures { λ r. ⌜ r ≡ refusal 6 (allTo (λ row. eqb (getD (now (times .entry)) row 0) 1) count) ⌝ }
+{
+    let mut row = 0;
+    while row < count {
+        if times[row] != 1 {
+            return WRONG_USE;
+        }
+        row += 1;
+    }
+    ACCEPTED
+}
+
+// Refuses rows that are used never or twice.
+fn uses_number<'a>(
+    rows: &'a [u64],
+    operands: &'a [u64],
+    assumes: &'a [u64],
+    guarantees: &'a [u64],
+) -> u64
+    requires { ⌜ Linked (sectionsOf (now rows) (now operands) (now assumes) (now guarantees)) ⌝ }
+    ensures { λ r. ⌜ r ≡ refusal 6 (usedOnce (sectionsOf (now (rows .entry)) (now (operands .entry)) (now (assumes .entry)) (now (guarantees .entry)))) ⌝ }
+{
+    let mut times = [0u8; 128];
+    tally(operands, &mut times);
+    tally(assumes, &mut times);
+    tally(guarantees, &mut times);
+    once_number(&times, rows.len() / ROW_WORDS)
+}
+
+// What sections are refused with: rows in order, then links, then uses.
+fn judge<'a>(rows: &'a [u64], operands: &'a [u64], assumes: &'a [u64], guarantees: &'a [u64]) -> u64
+    requires { ⌜ Few (sectionsOf (now rows) (now operands) (now assumes) (now guarantees)) ⌝ }
+    ensures { λ r. ⌜ r ≡ judged (sectionsOf (now (rows .entry)) (now (operands .entry)) (now (assumes .entry)) (now (guarantees .entry))) ⌝ }
+{
+    let wrong = rows_number(rows);
+    if wrong != ACCEPTED {
+        return wrong;
+    }
+    let wrong = links_number(rows, operands, assumes, guarantees);
+    if wrong != ACCEPTED {
+        return wrong;
+    }
+    uses_number(rows, operands, assumes, guarantees)
+}
+
+// So many words from a place on.
+pub fn part_of(words: &[u64], from: usize, count: usize) -> &[u64]
+    requires { ⌜ from + count ≤ length (now words) ⌝ }
+    ensures { λ r. ⌜ now r ≡ part from count (now (words .entry)) ⌝ }
+{
+    let end = from + count;
+    &words[from..end]
+}
+
+// What words are refused with that are so many rows, operands, assumes and guarantees.
+fn judge_parts(
+    words: &[u64],
+    rows: usize,
+    operands: usize,
+    assumes: usize,
+    guarantees: usize,
+) -> u64
+    requires { ⌜ Counted (now words) rows operands assumes guarantees ⌝ }
+    ensures { λ r. ⌜ r ≡ judged (partsOf (now (words .entry)) rows operands assumes guarantees) ⌝ }
+{
+    let row_words = ROW_WORDS * rows;
+    let operands_at = COUNT_WORD + row_words + COUNT_WORD;
+    let assumes_at = operands_at + operands + COUNT_WORD;
+    let guarantees_at = assumes_at + assumes + COUNT_WORD;
+    judge(
+        part_of(words, COUNT_WORD, row_words),
+        part_of(words, operands_at, operands),
+        part_of(words, assumes_at, assumes),
+        part_of(words, guarantees_at, guarantees),
+    )
+}
+
+// Where the sections of an accepted book stand, or what it is refused with.
+pub fn place(words: &[u64]) -> Places
+    ensures { λ r. ⌜ Placed (now (words .entry)) (r .number) (r .rows) (r .operands) (r .assumes) (r .guarantees) ⌝ }
+{
+    let told = counts(words);
+    if told.number != ACCEPTED {
+        return told;
+    }
+    let wrong = judge_parts(
+        words,
+        told.rows,
+        told.operands,
+        told.assumes,
+        told.guarantees,
+    );
+    if wrong != ACCEPTED {
+        return refused(wrong);
+    }
+    told
+}
+
+// What a book handed over as words is refused with: 0 if it is accepted.
+pub fn check(words: &[u64]) -> u64
+    ensures { λ r. ⌜ r ≡ loaded (now (words .entry)) .number ⌝ }
+{
+    let placed = place(words);
+    placed.number
 }

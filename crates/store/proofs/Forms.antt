@@ -17,27 +17,6 @@ use Rattle.rows.specs.Memory.{countOf, rowFrom, listed}
 use Rattle.book.specs.Judging.{kindIn, argIn, argGood}
 use Rattle.store.specs.Stored.{reach, widthIn}
 
-pub count-none : (kind arg : ℕ) → kind < 3 → countOf kind arg ≡ 0
-unfolding countOf
-count-none zero arg h = refl
-count-none (suc zero) arg h = refl
-count-none (suc (suc zero)) arg h = refl
-count-none (suc (suc (suc kind))) arg h = absurd (omega arith)
-
-pub count-arg : (kind arg : ℕ) → 3 ≤ kind → argGood kind arg ≡ true → countOf kind arg ≡ arg
-unfolding countOf argGood
-count-arg zero arg h g = absurd (omega arith)
-count-arg (suc zero) arg h g = absurd (omega arith)
-count-arg (suc (suc zero)) arg h g = absurd (omega arith)
-count-arg (suc (suc (suc zero))) arg h g = refl
-count-arg (suc (suc (suc (suc zero)))) arg h g = refl
-count-arg (suc (suc (suc (suc (suc zero))))) arg h g = sym (eqb-true arg 1 g)
-count-arg (suc (suc (suc (suc (suc (suc zero)))))) arg h g = sym (eqb-true arg 2 g)
-count-arg (suc (suc (suc (suc (suc (suc (suc zero))))))) arg h g = sym (eqb-true arg 1 g)
-count-arg (suc (suc (suc (suc (suc (suc (suc (suc zero)))))))) arg h g = sym (eqb-true arg 1 g)
-count-arg (suc (suc (suc (suc (suc (suc (suc (suc (suc zero))))))))) arg h g = sym (eqb-true arg 2 g)
-count-arg (suc (suc (suc (suc (suc (suc (suc (suc (suc (suc kind)))))))))) arg h g = absurd (let z : _≡_ {A = ℕ} 0 1 = cc in omega arith)
-
 pub atom-arg : (kind arg : ℕ) → argGood kind arg ≡ true → kind ≡ 2 → arg ≤ 255
 unfolding argGood
 atom-arg kind arg g e = leb-true arg 255 (rw e at g)

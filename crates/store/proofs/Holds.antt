@@ -37,8 +37,8 @@ module _ (s : Sections) (ok : Accepted s) where
   pub rowed : Rowed (s .rows)
   rowed =
       let t = operands-taken s (ok .good) in
-      let f = ok .operands-few in
-      record { rows-few = ok .rows-few; operands-few = omega arith; temporals-few = temporals-fit s (ok .good); args = args-good }
+      let f = ok .few .operands in
+      record { rows-few = ok .few .rows; operands-few = omega arith; temporals-few = temporals-fit s (ok .good); args = args-good }
 
   property-below : (i : ℕ) → i < length (s .assumes) + length (s .guarantees) → getD (s .assumes ++ s .guarantees) i 0 < rowsIn s
   property-below i h =
@@ -56,7 +56,7 @@ runs-zeros n = refl
 
 module _ (s : Sections) (m : List ℕ) (ok : Accepted s) (st : Stands s m) where
   few : rowsIn s ≤ 128
-  few = let f = ok .rows-few in omega arith
+  few = let f = ok .few .rows in omega arith
 
   room : temporalsIn (s .rows) (rowsIn s) ≤ 32
   room = temporals-fit s (ok .good)
@@ -93,7 +93,7 @@ module _ (s : Sections) (m : List ℕ) (ok : Accepted s) (st : Stands s m) where
     unfolding rowOf rowIn
     row-is =
         let t = there in
-        let f = ok .operands-few in
+        let f = ok .few .operands in
         let l = st .long in
         let a = startIn (s .rows) r in
         let p = part-length OPERANDS 128 m (omega arith) in
@@ -107,7 +107,7 @@ module _ (s : Sections) (m : List ℕ) (ok : Accepted s) (st : Stands s m) where
     row-kept : RowKept m r
     row-kept =
         let t = there in
-        let f = ok .operands-few in
+        let f = ok .few .operands in
         let g = form s (ok .good) r h in
         let b = range s (ok .good) r h in
         record {
@@ -130,7 +130,7 @@ module _ (s : Sections) (m : List ℕ) (ok : Accepted s) (st : Stands s m) where
 
   assumes-are : part PROPERTIES (assumeCount m) m ≡ s .assumes
   assumes-are =
-      let a = ok .assumes-few in
+      let a = ok .few .assumes in
       let l = st .long in
       rw (st .assume-count)
       (part-is PROPERTIES (length (s .assumes)) m (s .assumes) (omega arith) refl
@@ -138,8 +138,8 @@ module _ (s : Sections) (m : List ℕ) (ok : Accepted s) (st : Stands s m) where
 
   guarantees-are : part (PROPERTIES + assumeCount m) (guaranteeCount m) m ≡ s .guarantees
   guarantees-are =
-      let a = ok .assumes-few in
-      let g = ok .guarantees-few in
+      let a = ok .few .assumes in
+      let g = ok .few .guarantees in
       let l = st .long in
       rw (st .assume-count, st .guarantee-count)
       (part-is (PROPERTIES + length (s .assumes)) (length (s .guarantees)) m (s .guarantees) (omega arith) refl
@@ -193,8 +193,8 @@ module _ (s : Sections) (m : List ℕ) (ok : Accepted s) (st : Stands s m) where
   book-kept =
       let f = few in
       let t = room in
-      let a = ok .assumes-few in
-      let g = ok .guarantees-few in
+      let a = ok .few .assumes in
+      let g = ok .few .guarantees in
       let the = temporal-of (s .rows) (rowsIn s) in
       record {
         long = st .long;

@@ -10,3 +10,4 @@ pub mod Stands
 pub mod Holds
 pub mod Codes
 pub mod Same
+pub mod Loads

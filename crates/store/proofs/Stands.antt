@@ -116,19 +116,19 @@ module _ (s : Sections) (ok : Accepted s) where
   zeros i h = getD-replicate SIZE i 0 0 h
 
   fits-operands : OPERANDS + length (s .operands) ≤ length {A = ℕ} (replicate SIZE 0)
-  fits-operands = let f = ok .operands-few in omega (arith, length-replicate {A = ℕ} SIZE 0)
+  fits-operands = let f = ok .few .operands in omega (arith, length-replicate {A = ℕ} SIZE 0)
 
   operands-long : length with-operands ≡ SIZE
   operands-long = put-length (replicate SIZE 0) OPERANDS (s .operands) fits-operands ∙ length-replicate {A = ℕ} SIZE 0
 
   fits-assumes : PROPERTIES + length (s .assumes) ≤ length with-operands
-  fits-assumes = let f = ok .assumes-few in let e = operands-long in omega arith
+  fits-assumes = let f = ok .few .assumes in let e = operands-long in omega arith
 
   assumes-long : length with-assumes ≡ SIZE
   assumes-long = put-length with-operands PROPERTIES (s .assumes) fits-assumes ∙ operands-long
 
   fits-guarantees : PROPERTIES + length (s .assumes) + length (s .guarantees) ≤ length with-assumes
-  fits-guarantees = let f = ok .assumes-few in let g = ok .guarantees-few in let e = assumes-long in omega arith
+  fits-guarantees = let f = ok .few .assumes in let g = ok .few .guarantees in let e = assumes-long in omega arith
 
   links-long : length (linksPut s) ≡ SIZE
   links-long = put-length with-assumes (PROPERTIES + length (s .assumes)) (s .guarantees) fits-guarantees ∙ assumes-long
@@ -139,8 +139,8 @@ module _ (s : Sections) (ok : Accepted s) where
       put-below with-assumes (PROPERTIES + length (s .assumes)) (s .guarantees) fits-guarantees i (omega arith)
       ∙ put-below with-operands PROPERTIES (s .assumes) fits-assumes i l
   links-outside i (inr l) =
-      let f = ok .assumes-few in
-      let g = ok .guarantees-few in
+      let f = ok .few .assumes in
+      let g = ok .few .guarantees in
       put-above with-assumes (PROPERTIES + length (s .assumes)) (s .guarantees) fits-guarantees i (omega arith)
       ∙ put-above with-operands PROPERTIES (s .assumes) fits-assumes i (omega arith)
 
@@ -151,7 +151,7 @@ module _ (s : Sections) (ok : Accepted s) where
 
   operands-after : (i : ℕ) → PROPERTIES ≤ i → i < SIZE → getD with-operands i 0 ≡ 0
   operands-after i l u =
-      let f = ok .operands-few in
+      let f = ok .few .operands in
       put-above (replicate SIZE 0) OPERANDS (s .operands) fits-operands i (omega arith) ∙ zeros i u
 
   links-before : (i : ℕ) → i < OPERANDS → getD (linksPut s) i 0 ≡ 0
@@ -163,7 +163,7 @@ module _ (s : Sections) (ok : Accepted s) where
 
   links-property : (i : ℕ) → i < 32 → getD (linksPut s) (PROPERTIES + i) 0 ≡ getD (s .assumes ++ s .guarantees) i 0
   links-property i h =
-      let f = ok .assumes-few in
+      let f = ok .few .assumes in
       let z = put-over with-operands PROPERTIES (s .assumes) fits-assumes i (operands-after (PROPERTIES + i) (omega arith) (omega arith)) in
       ⊎-elim
       (λ p.
@@ -182,7 +182,7 @@ module _ (s : Sections) (ok : Accepted s) where
 
   -- ---- and the rows
   few : rowsIn s ≤ 128
-  few = let f = ok .rows-few in omega arith
+  few = let f = ok .few .rows in omega arith
 
   abbrev with-rows : List ℕ
   with-rows = rowsPut (s .rows) (linksPut s) (rowsIn s)

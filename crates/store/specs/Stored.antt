@@ -10,6 +10,7 @@ use Rattle.pmtl.specs.Monitor.{initial}
 use Rattle.rows.specs.Memory.{ROWS, ROW, OPERANDS, PROPERTIES, OWNERS, SIZE, temporal, bookOf, stateOf}
 use Rattle.book.specs.Reading.{GIVEN, Sections}
 use Rattle.book.specs.Judging.{kindIn, argIn, lowerIn, upperIn, rowsIn, temporalsIn, startIn, argGood, judged, bookIn}
+use Rattle.book.specs.Placing.{Few}
 use Rattle.book.specs.Kept.{Kept}
 
 -- the largest atom of the first n rows plus 1; 0 if there is no atom
@@ -63,20 +64,14 @@ stored s =
 
 -- the rows are within the limits, and each arg suits its kind
 pub record Rowed (ws : List ℕ) : Type 0 where
-  pub rows-few : length ws ≤ 512
+  pub rows-few : length ws / GIVEN ≤ 128
   pub operands-few : startIn ws (length ws / GIVEN) ≤ 128
   pub temporals-few : temporalsIn ws (length ws / GIVEN) ≤ 32
   pub args : (r : ℕ) → r < length ws / GIVEN → argGood (kindIn ws r) (argIn ws r) ≡ true
 
-abbrev pub sectionsOf : List ℕ → List ℕ → List ℕ → List ℕ → Sections
-sectionsOf rows operands assumes guarantees = record { rows = rows; operands = operands; assumes = assumes; guarantees = guarantees }
-
 -- the sections are within the limits, and accepted
 pub record Accepted (s : Sections) : Type 0 where
-  pub rows-few : length (s .rows) ≤ 512
-  pub operands-few : length (s .operands) ≤ 128
-  pub assumes-few : length (s .assumes) ≤ 16
-  pub guarantees-few : length (s .guarantees) ≤ 16
+  pub few : Few s
   pub good : judged s ≡ 0
 
 -- the memory holds the book that the sections say, with a fresh monitor

@@ -1,15 +1,23 @@
 // An accepted book put into a monitor's lent memory, and loading.
 ghost use mathlib.Core.Path.{_≡_};
-ghost use mathlib.Core.Bool.{true};
 ghost use Prim.Native.Nat.{_+_, _*_, _/_, _≤_, _<_, max};
-ghost use lib.ListN.{length, replicate, getD};
+ghost use lib.ListN.{length, replicate};
 ghost use lib.Seq.{paste};
-ghost use mathlib.Core.List.{List, [], _∷_};
-ghost use Rattle.rows.specs.Memory.{ROWS, ROW, SIZE, countOf};
+ghost use Rattle.rows.specs.Memory.{ROWS, ROW, SIZE};
 ghost use Rattle.book.specs.Reading.{GIVEN};
-ghost use Rattle.book.specs.Judging.{kindIn, argGood, startIn, temporalsIn};
-ghost use Rattle.store.specs.Stored.{reach, widthIn, wordsWith, rowPut, rowsPut, put, headPut, Rowed, sectionsOf, Accepted, Holds};
-use rows::AND;
+ghost use Rattle.book.specs.Placing.{sectionsOf, partsOf, Counted};
+ghost use Rattle.book.specs.Judging.{startIn, temporalsIn};
+ghost use Rattle.store.specs.Loading.{Loads};
+ghost use Rattle.store.specs.Stored.{reach, widthIn, wordsWith, rowPut, rowsPut, put, headPut, Rowed, Accepted, Holds};
+use book::check::ACCEPTED;
+use book::check::COUNT_WORD;
+use book::check::ROW_WORDS;
+use book::check::arg_in;
+use book::check::kind_in;
+use book::check::lower_in;
+use book::check::part_of;
+use book::check::taken_by;
+use book::check::upper_in;
 use rows::ASSUMES;
 use rows::ATOM;
 use rows::GUARANTEES;
@@ -20,12 +28,11 @@ use rows::PROPERTIES;
 use rows::ROW;
 use rows::ROW_COUNT;
 use rows::ROWS;
+use rows::SIZE;
 use rows::TEMPORALS;
 use rows::WIDTH;
 
-// Words of a row as it is given: kind, arg, lower, upper; in a memory two more.
-const GIVEN_WORDS: usize = 4;
-
+// Where a row's words stand in it, after its kind.
 const ARG: usize = 1;
 
 const LOWER: usize = 2;
@@ -63,17 +70,6 @@ fn copy(from: &[u64], monitor: &mut [u64], at: usize)
     }
 }
 
-// How many operands a row takes.
-fn count_of(kind: u64, arg: u64) -> u64
-    requires { ⌜ argGood kind arg ≡ true ⌝ }
-    ensures { λ r. ⌜ r ≡ countOf kind arg ⌝ }
-{
-    if kind < AND {
-        return 0;
-    }
-    arg
-}
-
 // The width with one more row.
 fn wider(width: u64, kind: u64, arg: u64) -> u64
     requires { ⌜ reach kind arg ≤ 256 ⌝ }
@@ -88,47 +84,32 @@ fn wider(width: u64, kind: u64, arg: u64) -> u64
     width
 }
 
-// A row's kind, and another of its words.
-fn kind_at(given: &[u64], row: usize) -> u64
-    requires { ⌜ GIVEN * row < length (now given) ⌝ }
-    ensures { λ r. ⌜ r ≡ kindIn (now (given .entry)) row ⌝ }
-{
-    given[GIVEN_WORDS * row]
-}
-
-fn given_at(given: &[u64], row: usize, which: usize) -> u64
-    requires { ⌜ GIVEN * row + which < length (now given) ⌝ }
-    ensures { λ r. ⌜ r ≡ getD (now (given .entry)) (GIVEN * row + which) 0 ⌝ }
-{
-    given[GIVEN_WORDS * row + which]
-}
-
 // The six words of a row.
-fn put_words(given: &[u64], row: usize, start: u64, slot: u64, monitor: &mut [u64])
-    requires { ⌜ (row < 128) × (GIVEN * row + 4 ≤ length (now given)) × (length (now monitor) ≡ SIZE) ⌝ }
+fn put_words(given: &[u64], row: usize, start: usize, slot: usize, monitor: &mut [u64])
+    requires { ⌜ (row < 128) × (row < length (now given) / GIVEN) × (length (now monitor) ≡ SIZE) ⌝ }
     ensures { λ _. ⌜ now (monitor .exit) ≡ paste (now (monitor .entry)) (ROWS + ROW * row) (wordsWith (now (given .entry)) row start slot) ROW ⌝ }
 {
     let at = ROWS + ROW * row;
-    monitor[at] = kind_at(given, row);
-    monitor[at + ARG] = given_at(given, row, ARG);
-    monitor[at + LOWER] = given_at(given, row, LOWER);
-    monitor[at + UPPER] = given_at(given, row, UPPER);
-    monitor[at + START] = start;
-    monitor[at + SLOT] = slot;
+    monitor[at] = kind_in(given, row);
+    monitor[at + ARG] = arg_in(given, row);
+    monitor[at + LOWER] = lower_in(given, row);
+    monitor[at + UPPER] = upper_in(given, row);
+    monitor[at + START] = start as u64;
+    monitor[at + SLOT] = slot as u64;
 }
 
 // A row, and where it is temporal its set's owner; answers with the next row's set.
-fn put_row(given: &[u64], row: usize, start: u64, slot: usize, monitor: &mut [u64]) -> usize
+fn put_row(given: &[u64], row: usize, start: usize, slot: usize, monitor: &mut [u64]) -> usize
     requires { ⌜ Rowed (now given) ⌝ }
     requires { ⌜ (row < length (now given) / GIVEN) × (length (now monitor) ≡ SIZE) ⌝ }
     requires { ⌜ (start ≡ startIn (now given) row) × (slot ≡ temporalsIn (now given) row) ⌝ }
     ensures { λ r. ⌜ (r ≡ temporalsIn (now (given .entry)) (row + 1)) × (now (monitor .exit) ≡ rowPut (now (given .entry)) (now (monitor .entry)) row) ⌝ }
 {
-    if kind_at(given, row) < HISTORICALLY {
+    if kind_in(given, row) < HISTORICALLY {
         put_words(given, row, start, 0, monitor);
         return slot;
     }
-    put_words(given, row, start, slot as u64, monitor);
+    put_words(given, row, start, slot, monitor);
     monitor[OWNERS + slot] = row as u64;
     slot + 1
 }
@@ -139,16 +120,16 @@ fn put_rows(given: &[u64], monitor: &mut [u64]) -> Totals
     requires { ⌜ length (now monitor) ≡ SIZE ⌝ }
     ensures { λ r. ⌜ (r .width ≡ widthIn (now (given .entry)) (length (now (given .entry)) / GIVEN)) × (r .temporals ≡ temporalsIn (now (given .entry)) (length (now (given .entry)) / GIVEN)) × (now (monitor .exit) ≡ rowsPut (now (given .entry)) (now (monitor .entry)) (length (now (given .entry)) / GIVEN)) ⌝ }
 {
-    let rows = given.len() / GIVEN_WORDS;
+    let rows = given.len() / ROW_WORDS;
     let mut row = 0;
-    let mut start: u64 = 0;
+    let mut start = 0;
     let mut slot = 0;
     let mut width: u64 = 0;
     while row < rows {
-        let kind = kind_at(given, row);
-        let arg = given_at(given, row, ARG);
+        let kind = kind_in(given, row);
+        let arg = arg_in(given, row);
         slot = put_row(given, row, start, slot, monitor);
-        start += count_of(kind, arg);
+        start += taken_by(kind, arg);
         width = wider(width, kind, arg);
         row += 1;
     }
@@ -171,7 +152,7 @@ fn put_head(monitor: &mut [u64], rows: u64, totals: Totals, assumes: u64, guaran
 }
 
 // The memory of an accepted book, whatever stood there before.
-pub fn store<'a>(
+fn store<'a>(
     given: &'a [u64],
     operands: &'a [u64],
     assumes: &'a [u64],
@@ -189,9 +170,63 @@ pub fn store<'a>(
     let totals = put_rows(given, monitor);
     put_head(
         monitor,
-        (given.len() / GIVEN_WORDS) as u64,
+        (given.len() / ROW_WORDS) as u64,
         totals,
         assumes.len() as u64,
         guarantees.len() as u64,
     );
+}
+
+// The book whose sections are so many rows, operands, assumes and guarantees of these words.
+fn store_parts(
+    words: &[u64],
+    rows: usize,
+    operands: usize,
+    assumes: usize,
+    guarantees: usize,
+    monitor: &mut [u64],
+)
+    requires { ⌜ Counted (now words) rows operands assumes guarantees ⌝ }
+    requires { ⌜ Accepted (partsOf (now words) rows operands assumes guarantees) × (length (now monitor) ≡ SIZE) ⌝ }
+    ensures { λ _. ⌜ Holds (partsOf (now (words .entry)) rows operands assumes guarantees) (now (monitor .exit)) ⌝ }
+{
+    let row_words = ROW_WORDS * rows;
+    let operands_at = COUNT_WORD + row_words + COUNT_WORD;
+    let assumes_at = operands_at + operands + COUNT_WORD;
+    let guarantees_at = assumes_at + assumes + COUNT_WORD;
+    store(
+        part_of(words, COUNT_WORD, row_words),
+        part_of(words, operands_at, operands),
+        part_of(words, assumes_at, assumes),
+        part_of(words, guarantees_at, guarantees),
+        monitor,
+    );
+}
+
+fn load_into(words: &[u64], monitor: &mut [u64]) -> u64
+    requires { ⌜ length (now monitor) ≡ SIZE ⌝ }
+    ensures { λ r. ⌜ Loads (now (words .entry)) (now (monitor .exit)) r ⌝ }
+{
+    let placed = book::check::place(words);
+    let number = placed.number;
+    if number != ACCEPTED {
+        wipe(monitor);
+        return number;
+    }
+    store_parts(
+        words,
+        placed.rows,
+        placed.operands,
+        placed.assumes,
+        placed.guarantees,
+        monitor,
+    );
+    number
+}
+
+// Loads a book from words: a fresh monitor of it, or of an empty book where it is refused, whatever stood in the memory before.
+pub fn load(words: &[u64], monitor: &mut [u64; SIZE]) -> u64
+    ensures { λ r. ⌜ Loads (now (words .entry)) (now (monitor .exit)) r ⌝ }
+{
+    load_into(words, monitor)
 }

@@ -1,5 +1,5 @@
 use Rattle.store.proofs.Holds.{rowed, store-holds}
-use Rattle.store.specs.Stored.{sectionsOf}
+use Rattle.book.specs.Placing.{sectionsOf}
 use native.Mathlib.Omega.{arith}
 use borrow.Author.Needs.{needs}
 use Rattle.store.proofs.store.Statement.{statement}

@@ -3,32 +3,22 @@ use native.Mathlib.Omega.{arith}
 use borrow.Author.Needs.{needs}
 use Rattle.book.proofs.check.arg_number.Statement.{statement}
 use Rattle.book.proofs.check.arg_number.Tie as tie
-use Rattle.book.proofs.check.arg_number.Reads as reads
-use Rattle.book.proofs.check.arg_number.Lts as lts
-use Rattle.book.proofs.check.largest_arg.Reads as largest-arg-reads
-use Rattle.book.proofs.check.least_arg.Reads as least-arg-reads
 
--- src/check.rt:223:9
 returns : tie.Need-returns
 returns c = no-kind _ _ (omega arith)
 
--- src/check.rt:226:14
 least-arg-requires : tie.Need-least-arg-requires
 least-arg-requires c κs = search needs
 
--- src/check.rt:227:9
 returns-2 : tie.Need-returns-2
 returns-2 c = low-arg _ _ (omega arith) _ (c .before .least-arg .ensures) (omega arith)
 
--- src/check.rt:229:8
 largest-arg-requires : tie.Need-largest-arg-requires
 largest-arg-requires c κs = search needs
 
--- src/check.rt:230:9
 returns-3 : tie.Need-returns-3
 returns-3 c = high-arg _ _ (omega arith) _ (c .before .largest-arg .ensures) (omega arith)
 
--- src/check.rt:219:1
 returns-4 : tie.Need-returns-4
 returns-4 c = good-arg _ _ (omega arith) _ _ (c .before .before .before .least-arg .ensures) (c .before .largest-arg .ensures) (omega arith) (omega arith)
 

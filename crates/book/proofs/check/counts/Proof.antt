@@ -4,68 +4,49 @@ use Rattle.book.proofs.Sections.{in-rows, in-operands, in-assumes, in-g
 use borrow.Author.Needs.{needs}
 use Rattle.book.proofs.check.counts.Statement.{statement}
 use Rattle.book.proofs.check.counts.Tie as tie
-use Rattle.book.proofs.check.counts.Reads as reads
-use Rattle.book.proofs.check.counts.Lts as lts
-use Rattle.book.proofs.check.read_section.Reads as read-section-reads
-use Rattle.book.proofs.check.refused.Reads as refused-reads
 
--- src/check.rt:130:9
 read-section-requires : tie.Need-read-section-requires
 read-section-requires c κs = search needs
 
--- src/check.rt:132:9
 refused-requires : tie.Need-refused-requires
 refused-requires c κs = search needs
 
--- src/check.rt:132:9
 returns : tie.Need-returns
 returns c = in-rows _ _ _ _ _ _ _ (c .refused .ensures) (c .before .before .before .read-section .ensures) (c .before .if1 .taken)
 
--- src/check.rt:134:9
 read-section-requires-2 : tie.Need-read-section-requires-2
 read-section-requires-2 c κs = search needs
 
--- src/check.rt:136:9
 refused-requires-2 : tie.Need-refused-requires-2
 refused-requires-2 c κs = search needs
 
--- src/check.rt:136:9
 returns-2 : tie.Need-returns-2
 returns-2 c = in-operands _ _ _ _ _ _ _ (c .refused2 .ensures) (c .before .before .before .before .before .before .read-section .ensures) (c .before .before .before .before .if1 .left) (c .before .before .before .read-section2 .ensures) (c .before .if2 .taken)
 
--- src/check.rt:138:9
 read-section-requires-3 : tie.Need-read-section-requires-3
 read-section-requires-3 c κs = search needs
 
--- src/check.rt:140:9
 refused-requires-3 : tie.Need-refused-requires-3
 refused-requires-3 c κs = search needs
 
--- src/check.rt:140:9
 returns-3 : tie.Need-returns-3
 returns-3 c = in-assumes _ _ _ _ _ _ _ (c .refused3 .ensures) (c .before .before .before .before .before .before .before .before .before .read-section .ensures) (c .before .before .before .before .before .before .before .if1 .left) (c .before .before .before .before .before .before .read-section2 .ensures) (c .before .before .before .before .if2 .left) (c .before .before .before .read-section3 .ensures) (c .before .if3 .taken)
 
--- src/check.rt:142:9
 read-section-requires-4 : tie.Need-read-section-requires-4
 read-section-requires-4 c κs = search needs
 
--- src/check.rt:144:9
 refused-requires-4 : tie.Need-refused-requires-4
 refused-requires-4 c κs = search needs
 
--- src/check.rt:144:9
 returns-4 : tie.Need-returns-4
 returns-4 c = in-guarantees _ _ _ _ _ _ _ (c .refused4 .ensures) (c .before .before .before .before .before .before .before .before .before .before .before .before .read-section .ensures) (c .before .before .before .before .before .before .before .before .before .before .if1 .left) (c .before .before .before .before .before .before .before .before .before .read-section2 .ensures) (c .before .before .before .before .before .before .before .if2 .left) (c .before .before .before .before .before .before .read-section3 .ensures) (c .before .before .before .before .if3 .left) (c .before .before .before .read-section4 .ensures) (c .before .if4 .taken)
 
--- src/check.rt:147:9
 refused-requires-5 : tie.Need-refused-requires-5
 refused-requires-5 c κs = search needs
 
--- src/check.rt:147:9
 returns-5 : tie.Need-returns-5
 returns-5 c = left-over _ _ _ _ _ _ _ (c .refused5 .ensures) (c .before .before .before .before .before .before .before .before .before .before .before .before .before .before .read-section .ensures) (c .before .before .before .before .before .before .before .before .before .before .before .before .if1 .left) (c .before .before .before .before .before .before .before .before .before .before .before .read-section2 .ensures) (c .before .before .before .before .before .before .before .before .before .if2 .left) (c .before .before .before .before .before .before .before .before .read-section3 .ensures) (c .before .before .before .before .before .before .if3 .left) (c .before .before .before .before .before .read-section4 .ensures) (c .before .before .before .if4 .left) refl (omega arith)
 
--- src/check.rt:127:1
 returns-6 : tie.Need-returns-6
 returns-6 c = to-the-last _ (c .before .before .before .before .before .before .before .before .before .before .before .before .before .read-section .ensures) (c .before .before .before .before .before .before .before .before .before .before .before .if1 .left) (c .before .before .before .before .before .before .before .before .before .before .read-section2 .ensures) (c .before .before .before .before .before .before .before .before .if2 .left) (c .before .before .before .before .before .before .before .read-section3 .ensures) (c .before .before .before .before .before .if3 .left) (c .before .before .before .before .read-section4 .ensures) (c .before .before .if4 .left) (omega arith)
 

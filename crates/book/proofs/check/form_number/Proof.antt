@@ -3,31 +3,22 @@ use native.Mathlib.Omega.{arith}
 use borrow.Author.Needs.{needs}
 use Rattle.book.proofs.check.form_number.Statement.{statement}
 use Rattle.book.proofs.check.form_number.Tie as tie
-use Rattle.book.proofs.check.form_number.Reads as reads
-use Rattle.book.proofs.check.form_number.Lts as lts
-use Rattle.book.proofs.check.arg_number.Reads as arg-number-reads
 
--- src/check.rt:239:9
 arg-number-requires : tie.Need-arg-number-requires
 arg-number-requires c κs = search needs
 
--- src/check.rt:241:9
 returns : tie.Need-returns
 returns c = bad-arg _ _ _ _ _ (c .before .arg-number .ensures) (c .if1 .taken)
 
--- src/check.rt:244:9
 returns-2 : tie.Need-returns-2
 returns-2 c = temporal-form _ _ _ _ _ (c .before .before .arg-number .ensures) (c .before .if1 .left) (omega arith)
 
--- src/check.rt:247:9
 returns-3 : tie.Need-returns-3
 returns-3 c = bounded _ _ _ _ _ (c .before .before .before .arg-number .ensures) (c .before .before .if1 .left) (omega arith) (c .if3 .taken)
 
--- src/check.rt:250:9
 returns-4 : tie.Need-returns-4
 returns-4 c = bounded-above _ _ _ _ _ (c .before .before .before .before .arg-number .ensures) (c .before .before .before .if1 .left) (omega arith) (c .before .if3 .left) (c .if4 .taken)
 
--- src/check.rt:236:1
 returns-5 : tie.Need-returns-5
 returns-5 c = plain-form _ _ _ _ _ (c .before .before .before .before .arg-number .ensures) (c .before .before .before .if1 .left) (omega arith) (c .before .if3 .left) (c .if4 .left)
 

@@ -1,28 +1,20 @@
 use Rattle.book.proofs.Forms.{upside-down, late, unbounded, far, finite}
 use native.Mathlib.Omega.{arith}
-use borrow.Author.Needs.{needs}
 use Rattle.book.proofs.check.range_number.Statement.{statement}
 use Rattle.book.proofs.check.range_number.Tie as tie
-use Rattle.book.proofs.check.range_number.Reads as reads
-use Rattle.book.proofs.check.range_number.Lts as lts
 
--- src/check.rt:260:9
 returns : tie.Need-returns
 returns c = upside-down _ _ (omega arith)
 
--- src/check.rt:263:9
 returns-2 : tie.Need-returns-2
 returns-2 c = late _ _ (omega arith) (omega arith)
 
--- src/check.rt:266:9
 returns-3 : tie.Need-returns-3
 returns-3 c = unbounded _ _ (omega arith) (omega arith) (c .if3 .taken)
 
--- src/check.rt:269:9
 returns-4 : tie.Need-returns-4
 returns-4 c = far _ _ (omega arith) (omega arith) (c .before .if3 .left) (omega arith)
 
--- src/check.rt:256:1
 returns-5 : tie.Need-returns-5
 returns-5 c = finite _ _ (omega arith) (omega arith) (c .before .if3 .left) (omega arith)
 

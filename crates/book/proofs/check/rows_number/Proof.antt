@@ -4,15 +4,10 @@ use Rattle.book.specs.Judging.{temporalsIn, firstTo, rowNumber}
 use lib.ListN.{length}
 use mathlib.Core.Path.{_≡_, sym, ap, _∙_}
 use native.Mathlib.Omega.{arith}
-use Prim.Native.Nat.{_+_, _-_, _/_, _≤_}
+use Prim.Native.Nat.{_-_, _/_, _≤_}
 use borrow.Author.Needs.{needs}
 use Rattle.book.proofs.check.rows_number.Statement.{statement}
 use Rattle.book.proofs.check.rows_number.Tie as tie
-use Rattle.book.proofs.check.rows_number.Reads as reads
-use Rattle.book.proofs.check.rows_number.Lts as lts
-use Rattle.book.proofs.check.kind_in.Reads as kind-in-reads
-use Rattle.book.proofs.check.row_number.Reads as row-number-reads
-use Rattle.book.proofs.check.temporal_bit.Reads as temporal-bit-reads
 
 abbrev Inv-loop : tie.InvT-loop
 Inv-loop rows temporals₀ row₀ temporals row =
@@ -21,43 +16,33 @@ Inv-loop rows temporals₀ row₀ temporals row =
 abbrev μ-loop : tie.MeasureT-loop
 μ-loop rows temporals₀ row₀ temporals row = length rows / 4 - row
 
--- src/check.rt:322:5
 loop-holds : tie.Need-loop-holds Inv-loop μ-loop
 loop-holds c = (omega arith, temporals-start _, first-start _)
 
--- src/check.rt:323:13
 row-number-requires : tie.Need-row-number-requires Inv-loop μ-loop
 row-number-requires c κs = search needs
 
--- src/check.rt:325:13
 returns : tie.Need-returns Inv-loop μ-loop
 returns c = first-at _ _ _ _ (c .before .before .before .loop .inv .2) (c .before .row-number .ensures) (c .if1 .taken) (omega arith)
 
--- src/check.rt:327:35
 kind-in-requires : tie.Need-kind-in-requires Inv-loop μ-loop
 kind-in-requires c κs = search needs
 
--- src/check.rt:327:22
 temporal-bit-requires : tie.Need-temporal-bit-requires Inv-loop μ-loop
 temporal-bit-requires c κs = search needs
 
--- src/check.rt:327:9
 add-temporals : tie.Need-add-temporals Inv-loop μ-loop
 add-temporals c = record { fits = omega (arith, temporals-more _ _ _ _ _ (c .before .before .before .before .before .loop .inv .1) (c .before .kind-in .ensures) (c .temporal-bit .ensures), temporals-few _ _ (first-more _ _ _ (c .before .before .before .before .before .loop .inv .2) (c .before .before .before .row-number .ensures) (c .before .before .if1 .left))) }
 
--- src/check.rt:328:9
 add-row : tie.Need-add-row Inv-loop μ-loop
 add-row c = search needs
 
--- src/check.rt:322:5
 loop-less : tie.Need-loop-less Inv-loop μ-loop
 loop-less c = search needs
 
--- src/check.rt:322:5
 loop-again : tie.Need-loop-again Inv-loop μ-loop
 loop-again c = (omega arith, temporals-more _ _ _ _ _ (c .before .before .before .before .before .loop .inv .1) (c .before .kind-in .ensures) (c .temporal-bit .ensures), first-more _ _ _ (c .before .before .before .before .before .loop .inv .2) (c .before .before .before .row-number .ensures) (c .before .before .if1 .left))
 
--- src/check.rt:317:1
 returns-2 : tie.Need-returns-2 Inv-loop μ-loop
 returns-2 c = sym (c .before .loop .inv .2) ∙ ap (firstTo (rowNumber _)) (omega arith)
 

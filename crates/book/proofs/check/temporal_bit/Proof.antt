@@ -1,15 +1,10 @@
 use borrow.Author.Tests.{lt-leb, le-leb}
-use borrow.Author.Needs.{needs}
 use Rattle.book.proofs.check.temporal_bit.Statement.{statement}
 use Rattle.book.proofs.check.temporal_bit.Tie as tie
-use Rattle.book.proofs.check.temporal_bit.Reads as reads
-use Rattle.book.proofs.check.temporal_bit.Lts as lts
 
--- src/check.rt:311:9
 returns : tie.Need-returns
 returns c = rw (lt-leb 7 _ (c .if1 .taken))
 
--- src/check.rt:307:1
 returns-2 : tie.Need-returns-2
 returns-2 c = rw (le-leb 7 _ (c .if1 .left))
 
