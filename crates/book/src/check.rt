@@ -34,8 +34,10 @@ const MOST_PROPERTIES: usize = 16;
 
 const MOST_TEMPORALS: usize = 32;
 
-// A section's count takes a word.
+// A section's count takes a word, and so does an operand or a property.
 const COUNT_WORD: usize = 1;
+
+const NUMBER_WORDS: usize = 1;
 
 // A row's words: kind, arg, lower, upper.
 const ROW_WORDS: usize = 4;
@@ -150,15 +152,15 @@ fn counts(words: &[u64]) -> Places
     if rows.number != ACCEPTED {
         return refused(rows.number);
     }
-    let operands = read_section(words, rows.next, MOST_OPERANDS, 1);
+    let operands = read_section(words, rows.next, MOST_OPERANDS, NUMBER_WORDS);
     if operands.number != ACCEPTED {
         return refused(operands.number);
     }
-    let assumes = read_section(words, operands.next, MOST_PROPERTIES, 1);
+    let assumes = read_section(words, operands.next, MOST_PROPERTIES, NUMBER_WORDS);
     if assumes.number != ACCEPTED {
         return refused(assumes.number);
     }
-    let guarantees = read_section(words, assumes.next, MOST_PROPERTIES, 1);
+    let guarantees = read_section(words, assumes.next, MOST_PROPERTIES, NUMBER_WORDS);
     if guarantees.number != ACCEPTED {
         return refused(guarantees.number);
     }
@@ -225,11 +227,11 @@ fn arg_number(kind: u64, arg: u64) -> u64
     if SINCE < kind {
         return WRONG_FORM;
     }
-    let row = kind as usize;
-    if arg < least_arg(row) {
+    let at = kind as usize;
+    if arg < least_arg(at) {
         return WRONG_FORM;
     }
-    if largest_arg(row) < arg {
+    if largest_arg(at) < arg {
         return WRONG_FORM;
     }
     ACCEPTED
@@ -295,13 +297,13 @@ fn row_number(rows: &[u64], row: usize, temporals: usize) -> u64
     let kind = kind_in(rows, row);
     let lower = lower_in(rows, row);
     let upper = upper_in(rows, row);
-    let wrong = form_number(kind, arg_in(rows, row), lower, upper);
-    if wrong != ACCEPTED {
-        return wrong;
+    let form = form_number(kind, arg_in(rows, row), lower, upper);
+    let range = range_number(lower, upper);
+    if form != ACCEPTED {
+        return form;
     }
-    let wrong = range_number(lower, upper);
-    if wrong != ACCEPTED {
-        return wrong;
+    if range != ACCEPTED {
+        return range;
     }
     room_number(kind, temporals)
 }
@@ -407,7 +409,7 @@ fn links_number<'a>(
 }
 
 // Counts in a table how often each row is used.
-fn tally(uses: &[u64], times: &mut [u8; 128])
+fn tally(uses: &[u64], times: &mut [u8; MOST_ROWS])
     requires { ⌜ Countable (now uses) (now times) ⌝ }
     ensures { λ _. ⌜ Tallied (now (uses .entry)) (now (times .entry)) (now (times .exit)) ⌝ }
 {
@@ -420,7 +422,7 @@ fn tally(uses: &[u64], times: &mut [u8; 128])
 }
 
 // Refuses rows that are not used exactly once.
-fn once_number(times: &[u8; 128], count: usize) -> u64
+fn once_number(times: &[u8; MOST_ROWS], count: usize) -> u64
     requires { ⌜ (length (now times) ≡ 128) × (count ≤ 128) ⌝ }
     ensures { λ r. ⌜ r ≡ refusal 6 (allTo (λ row. eqb (getD (now (times .entry)) row 0) 1) count) ⌝ }
 {
@@ -444,7 +446,7 @@ fn uses_number<'a>(
     requires { ⌜ Linked (sectionsOf (now rows) (now operands) (now assumes) (now guarantees)) ⌝ }
     ensures { λ r. ⌜ r ≡ refusal 6 (usedOnce (sectionsOf (now (rows .entry)) (now (operands .entry)) (now (assumes .entry)) (now (guarantees .entry)))) ⌝ }
 {
-    let mut times = [0u8; 128];
+    let mut times = [0u8; MOST_ROWS];
     tally(operands, &mut times);
     tally(assumes, &mut times);
     tally(guarantees, &mut times);
