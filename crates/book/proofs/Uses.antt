@@ -13,7 +13,7 @@ use borrow.Author.Tests.{eqb-true, eqb-false, eq-eqb, ne-eqb}
 use Rattle.pmtl.specs.Answer.{bitOf}
 use Rattle.book.specs.Reading.{Sections}
 use Rattle.book.specs.Judging.{rowsIn, allTo, timesIn, usesOf, usedOnce}
-use Rattle.book.specs.Placing.{refusal, Countable, Tallied, Linked}
+use Rattle.book.specs.Steps.{refusal, Countable, Tallied, Linked}
 use Rattle.book.proofs.Tests.{Answers}
 use Rattle.book.proofs.Accepted.{linked-operand, linked-assume, linked-guarantee}
 use Rattle.book.proofs.All.{one-fails, all-more, all-same}

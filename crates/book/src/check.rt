@@ -1,14 +1,14 @@
 // A book handed over as words: the number that it is refused with, and where its sections stand.
 ghost use mathlib.Core.Path.{_≡_};
 ghost use mathlib.Core.Bool.{true, not, _&&_};
-ghost use mathlib.Core.List.{[]};
-ghost use Prim.Native.Nat.{ℕ, _+_, _*_, _/_, _≤_, _<_};
+ghost use Prim.Native.Nat.{_+_, _/_, _≤_, _<_};
 ghost use lib.ListN.{length, getD};
-ghost use lib.Dec.{ltb, leb, eqb};
+ghost use lib.Dec.{leb, eqb};
 ghost use Rattle.pmtl.specs.Answer.{bitOf};
 ghost use Rattle.rows.specs.Memory.{part, temporal, countOf};
-ghost use Rattle.book.specs.Judging.{kindIn, argIn, lowerIn, upperIn, temporalsIn, startIn, firstTo, allTo, argGood, formGood, rangeGood, rowNumber, operandsGood, linksGood, timesIn, usesOf, usedOnce, judged, loaded};
-ghost use Rattle.book.specs.Placing.{partsOf, sectionsOf, refusal, leastArgs, largestArgs, allBelow, operandsMet, Countable, Tallied, Few, Linked, Counted, Placed, Told, SectionTold};
+ghost use Rattle.book.specs.Judging.{kindIn, argIn, lowerIn, upperIn, temporalsIn, firstTo, allTo, argGood, formGood, rangeGood, rowNumber, linksGood, usedOnce, judged, loaded};
+ghost use Rattle.book.specs.Placing.{partsOf, sectionsOf, Counted, Placed};
+ghost use Rattle.book.specs.Steps.{refusal, leastArgs, largestArgs, allBelow, operandsMet, Countable, Tallied, Few, Linked, Told, SectionTold};
 
 // The numbers that a book is answered with.
 const ACCEPTED: u64 = 0;
