@@ -1,13 +1,12 @@
 -- The test `covers` says of a canonical set that every instant from the given one to MAX is in it. Assumes nothing.
 use Prim.Native.Nat.{ℕ, _+_, _-_, _≤_, _<_, max}
-use mathlib.Core.Path.{_≡_, refl, sym, _∙_}
+use mathlib.Core.Path.{_≡_, sym, _∙_}
 use mathlib.Core.Logic.{⊎-elim, _↔_}
-use mathlib.Core.Bool.{Bool, true, false, _&&_, _||_, and-false, or-true, false≢true}
-use mathlib.Core.List.{List, [], _∷_}
+use mathlib.Core.Bool.{Bool, true, and-false, or-true, false≢true}
+use mathlib.Core.List.{[], _∷_}
 use native.Mathlib.Omega.{arith}
-use lib.Dec.{leb}
 use borrow.Author.Tests.{le-leb, lt-leb}
-use Rattle.numset.specs.Runs.{MAX, Run, run, Runs, Under, Canonical, has, Covers, covers}
+use Rattle.numset.specs.Runs.{MAX, run, Runs, Canonical, has, Covers, covers}
 use Rattle.numset.proofs.Laws.{lt-or-ge, clash, same-test, canonical-older, newest-in, older-same, above-out, gap-out}
 
 module _ (from l u : ℕ) (rs : Runs) where

@@ -2,3 +2,12 @@ pub mod Laws
 pub mod Union
 pub mod Unique
 pub mod Covering
+pub mod Words
+pub mod Packs
+pub mod Halving
+pub mod Moves
+pub mod Walk
+pub mod Place
+pub mod Last
+pub mod Changes
+pub mod Resets

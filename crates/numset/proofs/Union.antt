@@ -1,13 +1,12 @@
 -- `union` has the members of both, and keeps sets canonical. Assumes nothing.
 use Prim.Native.Nat.{ℕ, _+_, _≤_, _<_, min, max}
-use mathlib.Core.Path.{_≡_, refl, sym, _∙_}
+use mathlib.Core.Path.{_≡_, refl, _∙_}
 use mathlib.Core.Logic.{⊎-elim}
 use mathlib.Core.Bool.{Bool, true, false, _||_, or-assoc}
-use mathlib.Core.List.{List, [], _∷_}
+use mathlib.Core.List.{[], _∷_}
 use native.Mathlib.Omega.{arith}
-use lib.Dec.{ltb}
 use borrow.Author.Tests.{lt-ltb, le-ltb}
-use Rattle.numset.specs.Runs.{Run, run, Runs, Under, Canonical, within, has, insert, union}
+use Rattle.numset.specs.Runs.{run, Runs, Under, Canonical, within, has, insert, union}
 use Rattle.numset.proofs.Laws.{lt-or-ge, inside, outside-above, outside-below, outside-none, in-or-out, under-mono, canonical, topOf, under-topOf}
 
 -- ---- the three ways of `insert`

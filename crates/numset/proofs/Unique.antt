@@ -1,11 +1,10 @@
 -- A canonical set is determined by its members. Assumes nothing.
-use Prim.Native.Nat.{ℕ, _+_, _-_, _≤_, _<_}
+use Prim.Native.Nat.{ℕ, _-_, _≤_}
 use mathlib.Core.Path.{_≡_, refl, sym, _∙_}
 use mathlib.Core.Logic.{⊎-elim}
-use mathlib.Core.Bool.{Bool, true, false}
-use mathlib.Core.List.{List, [], _∷_}
+use mathlib.Core.List.{[], _∷_}
 use native.Mathlib.Omega.{arith}
-use Rattle.numset.specs.Runs.{Run, run, Runs, Under, Canonical, has}
+use Rattle.numset.specs.Runs.{run, Runs, Canonical, has}
 use Rattle.numset.proofs.Laws.{lt-or-ge, clash, under-has, canonical-older, newest-in, older-same, above-out, gap-out}
 
 module _ (l u : ℕ) (rs : Runs) (w : Canonical (run l u ∷ rs)) (a b : ℕ) (qs : Runs) (v : Canonical (run a b ∷ qs)) (e : (t : ℕ) → has (run l u ∷ rs) t ≡ has (run a b ∷ qs) t) where

@@ -1,9 +1,34 @@
+// A set of instants in lent words, as the runs that it consists of: sorted, disjoint and never adjacent.
+//
+// Word 0 is the number of runs. Run `j`, counted from the oldest (the lowest), is words 2 * j + 1 and 2 * j + 2:
+// its lower and its upper end, both in the set. Words not in use are 0, so that a set has one form only.
+// The slice's length decides how many runs there is room for.
 ghost use mathlib.Core.Path.{_≡_};
-ghost use Prim.Native.Nat.{_+_, _*_, _<_};
-ghost use lib.ListN.{length};
-ghost use Rattle.numset.specs.Runs.{lo, hi};
+ghost use mathlib.Core.Bool.{true};
+ghost use mathlib.Core.List.{[]};
+ghost use mathlib.Core.Logic.{_↔_};
+ghost use Prim.Native.Nat.{_+_, _*_, _-_, _<_, _≤_, min, max};
+ghost use lib.ListN.{length, getD, replicate};
+ghost use Rattle.numset.specs.Runs.{Good, Covers, runs, has, lo, hi, union, fits, pack, addNumber, addWords, setNumber, setWords};
+ghost use Rattle.numset.specs.Words.{Moved, Cleared, Placed, Ended, Spanned, stored};
 
-// The lower end of run `j`, counted from the oldest.
+mod by_value; // by_value.rt: a set of 64 runs by value
+
+pub use by_value::Added;
+pub use by_value::NumSet;
+
+// The largest instant.
+const MAX: u64 = 0xffff_ffff_ffff_ffff;
+
+// What a change hands back: it was made, or there is no room and the set is as it was.
+const DONE: u64 = 0;
+
+const NO_ROOM: u64 = 11;
+
+// The words of a set of one run.
+const ONE_RUN: usize = 3;
+
+// The lower end of run `j`.
 fn lower_at(set: &[u64], j: usize) -> u64
     requires { ⌜ 2 * j + 2 < length (now set) ⌝ }
     ensures { λ r. ⌜ r ≡ lo (now (set .entry)) j ⌝ }
@@ -17,4 +42,299 @@ fn upper_at(set: &[u64], j: usize) -> u64
     ensures { λ r. ⌜ r ≡ hi (now (set .entry)) j ⌝ }
 {
     set[2 * j + 2]
+}
+
+// Whether `t` is in the set: the newest run that begins at or before `t` decides.
+pub fn contains(set: &[u64], t: u64) -> bool
+    requires { ⌜ Good (now set) ⌝ }
+    ensures { λ r. ⌜ r ≡ has (runs (now (set .entry))) t ⌝ }
+{
+    // Runs below `low` begin at or before `t`, those from `high` on after it.
+    let mut low = 0;
+    let mut high = set[0] as usize;
+    while low < high {
+        let mid = low + (high - low) / 2;
+        if lower_at(set, mid) <= t {
+            low = mid + 1;
+        } else {
+            high = mid;
+        }
+    }
+    if low == 0 {
+        return false;
+    }
+    t <= upper_at(set, low - 1)
+}
+
+// Whether every instant from `from` to MAX is in the set: only the last run can hold MAX.
+pub fn covers(set: &[u64], from: u64) -> bool
+    requires { ⌜ Good (now set) ⌝ }
+    ensures { λ r. ⌜ (r ≡ true) ↔ Covers from (runs (now (set .entry))) ⌝ }
+{
+    let n = set[0] as usize;
+    if n == 0 {
+        return false;
+    }
+    if from < lower_at(set, n - 1) {
+        return false;
+    }
+    upper_at(set, n - 1) == MAX
+}
+
+// Copies `count` words from `src` on to `dst` on, which is not below; the last first, so that none is lost.
+fn move_up(set: &mut [u64], src: usize, dst: usize, count: usize)
+    requires { ⌜ (src ≤ dst) × (dst + count ≤ length (now set)) ⌝ }
+    ensures { λ _. ⌜ Moved (now (set .entry)) (now (set .exit)) src dst count ⌝ }
+{
+    let mut i = count;
+    while 0 < i {
+        i -= 1;
+        set[dst + i] = set[src + i];
+    }
+}
+
+// Copies `count` words from `src` on to `dst` on, which is not above; the first first.
+fn move_down(set: &mut [u64], src: usize, dst: usize, count: usize)
+    requires { ⌜ (dst ≤ src) × (src + count ≤ length (now set)) ⌝ }
+    ensures { λ _. ⌜ Moved (now (set .entry)) (now (set .exit)) src dst count ⌝ }
+{
+    let mut i = 0;
+    while i < count {
+        set[dst + i] = set[src + i];
+        i += 1;
+    }
+}
+
+// Makes the words from `from` up to `to` 0.
+fn wipe(set: &mut [u64], from: usize, to: usize)
+    requires { ⌜ (from ≤ to) × (to ≤ length (now set)) ⌝ }
+    ensures { λ _. ⌜ Cleared (now (set .entry)) (now (set .exit)) from to ⌝ }
+{
+    let mut i = from;
+    while i < to {
+        set[i] = 0;
+        i += 1;
+    }
+}
+
+// How far `b` is past `a`, 0 where it is not. Two runs are apart where the gap is over 1: so asked, no sum wraps at MAX.
+fn gap(a: u64, b: u64) -> u64
+    ensures { λ r. ⌜ r ≡ b - a ⌝ }
+{
+    if a < b { b - a } else { 0 }
+}
+
+fn lesser(a: u64, b: u64) -> u64
+    ensures { λ r. ⌜ r ≡ min a b ⌝ }
+{
+    if a < b { a } else { b }
+}
+
+fn greater(a: u64, b: u64) -> u64
+    ensures { λ r. ⌜ r ≡ max a b ⌝ }
+{
+    if a < b { b } else { a }
+}
+
+// The runs `start .. end` that an interval joins, and the run that they become with it.
+struct Span {
+    start: usize,
+    end: usize,
+    lower: u64,
+    upper: u64,
+}
+
+// How many runs begin at or before `upper + 1`.
+fn end_of(set: &[u64], upper: u64) -> usize
+    requires { ⌜ Good (now set) ⌝ }
+    ensures { λ r. ⌜ Ended (now (set .entry)) upper r ⌝ }
+{
+    let mut i = set[0] as usize;
+    while 0 < i {
+        if gap(upper, lower_at(set, i - 1)) < 2 {
+            return i;
+        }
+        i -= 1;
+    }
+    i
+}
+
+// Joins `lower ..= upper` with the runs below `end` that it touches, the newest first.
+fn join(set: &[u64], end: usize, lower: u64, upper: u64) -> Span
+    requires { ⌜ Good (now set) ⌝ }
+    requires { ⌜ Ended (now set) upper end ⌝ }
+    ensures { λ r. ⌜ Spanned (now (set .entry)) lower upper (r .start) (r .end) (r .lower) (r .upper) ⌝ }
+{
+    let mut start = end;
+    let mut low = lower;
+    let mut high = upper;
+    while 0 < start {
+        let top = upper_at(set, start - 1);
+        if 1 < gap(top, low) {
+            return Span {
+                start,
+                end,
+                lower: low,
+                upper: high,
+            };
+        }
+        start -= 1;
+        low = lesser(low, lower_at(set, start));
+        high = greater(high, top);
+    }
+    Span {
+        start,
+        end,
+        lower: low,
+        upper: high,
+    }
+}
+
+// The runs that `lower ..= upper` joins. The last run is looked at first: what touches or follows it, as whatever
+// a clock adds, takes no search.
+fn find_span(set: &[u64], lower: u64, upper: u64) -> Span
+    requires { ⌜ Good (now set) ⌝ }
+    requires { ⌜ lower ≤ upper ⌝ }
+    ensures { λ r. ⌜ Spanned (now (set .entry)) lower upper (r .start) (r .end) (r .lower) (r .upper) ⌝ }
+{
+    let n = set[0] as usize;
+    if n == 0 {
+        return Span {
+            start: n,
+            end: n,
+            lower,
+            upper,
+        };
+    }
+    let low = lower_at(set, n - 1);
+    if lower < low {
+        return join(set, end_of(set, upper), lower, upper);
+    }
+    let high = upper_at(set, n - 1);
+    if 1 < gap(high, lower) {
+        return Span {
+            start: n,
+            end: n,
+            lower,
+            upper,
+        };
+    }
+    Span {
+        start: n - 1,
+        end: n,
+        lower: low,
+        upper: greater(upper, high),
+    }
+}
+
+// Makes `lower ..= upper` run `s`, and `n` the number of runs.
+fn store(set: &mut [u64], s: usize, lower: u64, upper: u64, n: usize)
+    requires { ⌜ 2 * s + 2 < length (now set) ⌝ }
+    ensures { λ _. ⌜ now (set .exit) ≡ stored (now (set .entry)) s lower upper n ⌝ }
+{
+    set[2 * s + 1] = lower;
+    set[2 * s + 2] = upper;
+    set[0] = n as u64;
+}
+
+// Puts a run before run `s`.
+fn put_new(set: &mut [u64], s: usize, lower: u64, upper: u64)
+    requires { ⌜ Good (now set) ⌝ }
+    requires { ⌜ (s ≤ getD (now set) 0 0) × (2 * getD (now set) 0 0 + 2 < length (now set)) ⌝ }
+    ensures { λ _. ⌜ Placed (now (set .entry)) (now (set .exit)) s s (getD (now (set .entry)) 0 0) lower upper ⌝ }
+{
+    let n = set[0] as usize;
+    move_up(set, 2 * s + 1, 2 * s + 3, 2 * (n - s));
+    store(set, s, lower, upper, s + 1 + (n - s));
+}
+
+// Puts a run in the place of the runs `s .. e`; the words that become free are wiped.
+fn put_over(set: &mut [u64], s: usize, e: usize, lower: u64, upper: u64)
+    requires { ⌜ Good (now set) ⌝ }
+    requires { ⌜ (s < e) × (e ≤ getD (now set) 0 0) ⌝ }
+    ensures { λ _. ⌜ Placed (now (set .entry)) (now (set .exit)) s e (getD (now (set .entry)) 0 0) lower upper ⌝ }
+{
+    let n = set[0] as usize;
+    let m = s + 1 + (n - e);
+    move_down(set, 2 * e + 1, 2 * s + 3, 2 * (n - e));
+    wipe(set, 2 * m + 1, 2 * n + 1);
+    store(set, s, lower, upper, m);
+}
+
+// Adds `lower ..= upper`, in place. The answer is 0, or 11 where there is no room: then the set is as it was.
+pub fn add(set: &mut [u64], lower: u64, upper: u64) -> u64
+    requires { ⌜ Good (now set) ⌝ }
+    ensures { λ r. ⌜ (r ≡ addNumber (now (set .entry)) lower upper) × (now (set .exit) ≡ addWords (now (set .entry)) lower upper) ⌝ }
+{
+    // Skip if empty range
+    if upper < lower {
+        return DONE;
+    }
+    let n = set[0] as usize;
+    let joined = find_span(set, lower, upper);
+    let start = joined.start;
+    let end = joined.end;
+    if start < end {
+        put_over(set, start, end, joined.lower, joined.upper);
+        return DONE;
+    }
+    if set.len() < 2 * n + ONE_RUN {
+        return NO_ROOM;
+    }
+    put_new(set, start, joined.lower, joined.upper);
+    DONE
+}
+
+// Whether there is room to add `lower ..= upper`: only a run that joins no other takes more.
+pub fn has_room(set: &[u64], lower: u64, upper: u64) -> bool
+    requires { ⌜ Good (now set) ⌝ }
+    ensures { λ r. ⌜ r ≡ fits (length (now (set .entry))) (union lower upper (runs (now (set .entry)))) ⌝ }
+{
+    if upper < lower {
+        return true;
+    }
+    let n = set[0] as usize;
+    let joined = find_span(set, lower, upper);
+    let start = joined.start;
+    let end = joined.end;
+    if start < end {
+        return true;
+    }
+    if set.len() < 2 * n + ONE_RUN {
+        return false;
+    }
+    true
+}
+
+// Empties the set. Only the words in use are touched.
+pub fn clear(set: &mut [u64])
+    requires { ⌜ Good (now set) ⌝ }
+    ensures { λ _. ⌜ now (set .exit) ≡ pack (length (now (set .entry))) [] ⌝ }
+{
+    let n = set[0] as usize;
+    wipe(set, 0, 2 * n + 1);
+}
+
+// Sets the set to `lower ..= upper`, which empties it where `lower` is above `upper`. The answer is that of `add`.
+pub fn set_to(set: &mut [u64], lower: u64, upper: u64) -> u64
+    requires { ⌜ Good (now set) ⌝ }
+    ensures { λ r. ⌜ (r ≡ setNumber (now (set .entry)) lower upper) × (now (set .exit) ≡ setWords (now (set .entry)) lower upper) ⌝ }
+{
+    if upper < lower {
+        clear(set);
+        return DONE;
+    }
+    if set.len() < ONE_RUN {
+        return NO_ROOM;
+    }
+    clear(set);
+    add(set, lower, upper)
+}
+
+// Makes any words the empty set.
+pub fn empty(set: &mut [u64])
+    ensures { λ _. ⌜ now (set .exit) ≡ replicate (length (now (set .entry))) 0 ⌝ }
+{
+    let n = set.len();
+    wipe(set, 0, n);
 }

@@ -2,6 +2,7 @@
 -- Assumes nothing.
 use Prim.Native.Nat.{ℕ, _<_, _≤_}
 use native.Mathlib.Omega.{arith}
+use native.Mathlib.Decide.{decLt}
 use mathlib.Core.Path.{_≡_, refl, sym, ap, ap₂, _∙_, fun-ext}
 use mathlib.Core.Bool.{Bool, true, false, cond}
 use mathlib.Core.List.{map}
@@ -9,11 +10,12 @@ use lib.ListN.{length, getD, length-map, List·getD-map}
 use Rattle.numset.specs.Runs.{Runs, has, covers}
 use Rattle.pmtl.specs.declared.Answer.the-variants.{Open}
 use Rattle.pmtl.specs.Book.{Row, mapRow, Rows, rowAt, Ordered, table, answer}
+use Rattle.pmtl.specs.Book.Row.{never}
 use Rattle.pmtl.specs.Sets.{gone, setRule}
 use Rattle.pmtl.specs.Monitor.{Snap, State, setAt, valueRule, Cell, setIn, valueIn, noCell, cellRule, step, value}
 use Rattle.pmtl.specs.Early.{earlyRule, early}
 use Rattle.pmtl.specs.Settled.{settledRule, settled}
-use Rattle.pmtl.proofs.Table.{answer-in, answer-out, answer-fix, answer-only, mapRow-mapRow, mapRow-local, table-length, by-rows}
+use Rattle.pmtl.proofs.Table.{answer-in, answer-out, answer-made, answer-fix, answer-only, mapRow-mapRow, mapRow-local, table-length, by-rows}
 
 module _ (b : Rows) (st : State) where
   -- rows that are not there
@@ -32,17 +34,29 @@ module _ (b : Rows) (st : State) where
 
   pub settled-out : (r : ℕ) → length b ≤ r → settled b st r ≡ Open
   unfolding settled
-  settled-out r h = go (st .begun)
+  settled-out r h = ap (λ a. cond (st .begun) a Open) (answer-out b Open _ r h) ∙ either-open (st .begun)
     where
-      go : (x : Bool) → cond x (answer b Open (λ n row. settledRule (covers (st .now .clock) (setAt st n)) (gone (st .now .clock) (setAt st n)) row) r) Open ≡ Open
-      go true = answer-out b Open _ r h
-      go false = refl
+      either-open : (x : Bool) → cond x Open Open ≡ Open
+      either-open true = refl
+      either-open false = refl
 
 module _ (b : Rows) (st : State) (now : Snap) where
   -- one set for each row
   pub step-sets : length (step b st now .sets) ≡ length b
   unfolding step
   step-sets = length-map (table b noCell (cellRule st now) (length b)) setIn ∙ table-length b noCell (cellRule st now) (length b)
+
+  -- a row's set after a call is its set before it, renewed by some values of its operands
+  pub set-made : (r : ℕ) → (row : Row Bool) × (setAt (step b st now) r ≡ setRule (now .clock) (setAt st r) row)
+  unfolding step answer setRule
+  set-made r = go (decLt r (length b))
+    where
+      is : setAt (step b st now) r ≡ answer b noCell (cellRule st now) r .set
+      is = List·getD-map setIn (table b noCell (cellRule st now) (length b)) r noCell
+
+      go : Dec (r < length b) → (row : Row Bool) × (setAt (step b st now) r ≡ setRule (now .clock) (setAt st r) row)
+      go (yes l) = let m = answer-made b noCell (cellRule st now) r l in (mapRow valueIn (mapRow (m .0) (rowAt b r)), is ∙ ap setIn (m .1))
+      go (no l) = (never, is ∙ ap setIn (answer-out b noCell (cellRule st now) r (omega arith)))
 
   -- what a step leaves besides the sets
   pub step-now : step b st now .now ≡ now

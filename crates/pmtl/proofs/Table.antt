@@ -108,6 +108,11 @@ module _ {A : Type 0} (b : Rows) (none : A) (rule : ℕ → Row A → A) where
   unfolding answer
   answer-out r h = List·getD-eq-default (table b none rule (length b)) none (omega (arith, table-length (length b)))
 
+  -- the answer of a row that is there is made by the rule, from some answers of its operands
+  pub answer-made : (r : ℕ) → r < length b → (f : ℕ → A) × (answer b none rule r ≡ rule r (mapRow f (rowAt b r)))
+  unfolding answer look
+  answer-made r h = (look r, look-stable (length b) r h ∙ look-new r)
+
   module _ (w : Ordered b) where
     -- each answer is the rule at the operands' answers
     pub answer-in : (r : ℕ) → r < length b → answer b none rule r ≡ rule r (mapRow (answer b none rule) (rowAt b r))

@@ -1,10 +1,10 @@
 -- 01, "Calls and values" and "Numbers that calls hand back": calls, refused or accepted. Definitions only.
-use Prim.Native.Nat.{ℕ, _≤_}
+use Prim.Native.Nat.{ℕ}
 use mathlib.Core.Bool.{Bool, true, false, cond}
 use mathlib.Core.List.{List, [], _∷_, map}
 use lib.ListN.{length, take}
 use lib.Dec.{ltb, eqb}
-use Rattle.numset.specs.Runs.{MAX, Runs}
+use Rattle.numset.specs.Runs.{Runs}
 use Rattle.pmtl.specs.Book.{H, Rows, widthOf, some}
 use Rattle.pmtl.specs.Monitor.{Snap, State, fresh, initial, step}
 

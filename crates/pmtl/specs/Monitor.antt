@@ -1,7 +1,7 @@
 -- 01, "Calls and values": a monitor's state, what one call makes of it, and the value of a row. Definitions only.
 use Prim.Native.Nat.{ℕ}
-use mathlib.Core.Bool.{Bool, true, false, not, _&&_, _||_}
-use mathlib.Core.List.{List, [], _∷_, map}
+use mathlib.Core.Bool.{Bool, true, false, not, _||_}
+use mathlib.Core.List.{List, [], map}
 use lib.ListN.{length, getD, replicate}
 use Rattle.numset.specs.Runs.{Runs, has}
 use Rattle.pmtl.specs.Book.{Row, mapRow, Rows, widthOf, table, answer, every, some, itself}

@@ -1,8 +1,8 @@
 -- 01, "Calls and values": how a call changes the set of a temporal row. Definitions only.
 use Prim.Native.Nat.{ℕ}
 use mathlib.Core.Bool.{Bool, true, false, not}
-use mathlib.Core.List.{List, [], _∷_}
-use Rattle.numset.specs.Runs.{Run, Runs, union}
+use mathlib.Core.List.{[], _∷_}
+use Rattle.numset.specs.Runs.{Runs, union}
 use Rattle.pmtl.specs.Book.{Range, start, stop, Row}
 use Rattle.pmtl.specs.Book.Row.{never, always, atom, conj, disj, neg, implies, historically, once, since}
 

@@ -1,0 +1,63 @@
+// A set by value, with room for 64 runs. Each function lends the words to the core, and does nothing of its own.
+ghost use mathlib.Core.Path.{_≡_};
+ghost use mathlib.Core.Bool.{true};
+ghost use mathlib.Core.List.{[]};
+ghost use mathlib.Core.Logic.{_↔_};
+ghost use Rattle.numset.specs.Runs.{Good, Covers, runs, has, union, pack, addNumber, addWords};
+
+// The number of runs, and two words for each of 64.
+const WORDS: usize = 129;
+
+pub struct NumSet {
+    pub words: [u64; WORDS],
+}
+
+// What an addition hands back: its number, and the set.
+pub struct Added {
+    pub number: u64,
+    pub set: NumSet,
+}
+
+impl NumSet {
+    pub fn empty() -> Self
+        ensures { λ r. ⌜ r .words ≡ pack 129 [] ⌝ }
+    {
+        let words = [0u64; WORDS];
+        Self { words }
+    }
+
+    // The set of `lower ..= upper`, empty where `lower` is above `upper`.
+    pub fn from_interval(lower: u64, upper: u64) -> Self
+        ensures { λ r. ⌜ r .words ≡ pack 129 (union lower upper []) ⌝ }
+    {
+        let mut words = [0u64; WORDS];
+        crate::set_to(&mut words, lower, upper);
+        Self { words }
+    }
+
+    pub fn add(self, lower: u64, upper: u64) -> Added
+        requires { ⌜ Good (self .words) ⌝ }
+        ensures { λ r. ⌜ (r .number ≡ addNumber (self .words) lower upper) × (r .set .words ≡ addWords (self .words) lower upper) ⌝ }
+    {
+        let mut words = self.words;
+        let number = crate::add(&mut words, lower, upper);
+        let set = Self { words };
+        Added { number, set }
+    }
+
+    pub fn contains(self, t: u64) -> bool
+        requires { ⌜ Good (self .words) ⌝ }
+        ensures { λ r. ⌜ r ≡ has (runs (self .words)) t ⌝ }
+    {
+        let words = self.words;
+        crate::contains(&words, t)
+    }
+
+    pub fn covers(self, from: u64) -> bool
+        requires { ⌜ Good (self .words) ⌝ }
+        ensures { λ r. ⌜ (r ≡ true) ↔ Covers from (runs (self .words)) ⌝ }
+    {
+        let words = self.words;
+        crate::covers(&words, from)
+    }
+}
