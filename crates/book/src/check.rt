@@ -9,6 +9,10 @@ ghost use Rattle.rows.specs.Memory.{part, temporal, countOf};
 ghost use Rattle.book.specs.Judging.{kindIn, argIn, lowerIn, upperIn, temporalsIn, firstTo, allTo, argGood, formGood, rangeGood, rowNumber, linksGood, usedOnce, judged, loaded};
 ghost use Rattle.book.specs.Placing.{partsOf, sectionsOf, Counted, Placed};
 ghost use Rattle.book.specs.Steps.{refusal, leastArgs, largestArgs, allBelow, operandsMet, Countable, Tallied, Few, Linked, Told, SectionTold};
+use rows::AND;
+use rows::HISTORICALLY;
+use rows::MOST_ROWS;
+use rows::SINCE;
 
 // The numbers that a book is answered with.
 const ACCEPTED: u64 = 0;
@@ -26,8 +30,6 @@ const WRONG_LINK: u64 = 5;
 const WRONG_USE: u64 = 6;
 
 // How many there may be.
-const MOST_ROWS: usize = 128;
-
 const MOST_OPERANDS: usize = 128;
 
 const MOST_PROPERTIES: usize = 16;
@@ -47,13 +49,6 @@ const ARG: usize = 1;
 const LOWER: usize = 2;
 
 const UPPER: usize = 3;
-
-// The first kind whose arg counts its operands, the first that is temporal, and the last.
-const AND: u64 = 3;
-
-const HISTORICALLY: u64 = 7;
-
-const SINCE: u64 = 9;
 
 // The least and the largest arg of each kind.
 const LEAST_ARGS: [u64; 10] = [0, 0, 0, 0, 0, 1, 2, 1, 1, 2];
@@ -220,7 +215,7 @@ fn largest_arg(kind: usize) -> u64
     LARGEST_ARGS[kind]
 }
 
-// Refuses what is no kind, and an arg that its kind does not take.
+// Refuses what is no kind, Since being the last, and an arg that its kind does not take.
 fn arg_number(kind: u64, arg: u64) -> u64
     ensures { λ r. ⌜ r ≡ refusal 3 (argGood kind arg) ⌝ }
 {
@@ -308,7 +303,7 @@ fn row_number(rows: &[u64], row: usize, temporals: usize) -> u64
     room_number(kind, temporals)
 }
 
-// 1 for a temporal row, 0 for another.
+// 1 for a temporal row, from Historically on, 0 for another.
 fn temporal_bit(kind: u64) -> usize
     ensures { λ r. ⌜ r ≡ bitOf (temporal kind) ⌝ }
 {
