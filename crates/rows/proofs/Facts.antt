@@ -3,21 +3,21 @@
 use Prim.Native.Nat.{ℕ, zero, suc, _%_, _/_, _<_, _≤_}
 use native.Mathlib.Omega.{arith}
 use native.Mathlib.Decide.{decLt}
-use mathlib.Core.Path.{_≡_, refl, sym, ap, ap₂, subst, _∙_}
-use mathlib.Core.Bool.{Bool, true, false, not, cond}
+use mathlib.Core.Path.{_≡_, refl, ap, ap₂, subst, _∙_}
+use mathlib.Core.Bool.{Bool, true, false, not}
 use mathlib.Core.List.{List, [], _∷_, map}
 use lib.ListN.{getD, List·getD-map}
 use Rattle.numset.specs.Runs.{has, covers}
 use Rattle.pmtl.specs.declared.Answer.{Answer}
 use Rattle.pmtl.specs.declared.Answer.the-variants.{Open}
-use Rattle.pmtl.specs.Book.{Row, mapRow, Rows, rowAt, atomWidth, widthOf, answer}
+use Rattle.pmtl.specs.Book.{Row, mapRow, Rows, rowAt, atomWidth, widthOf}
 use Rattle.pmtl.specs.Book.Row.{never, always, atom, conj, disj, neg, implies, historically, once, since}
 use Rattle.pmtl.specs.Sets.{gone}
 use Rattle.pmtl.specs.Monitor.{State, setAt, valueRule, value}
 use Rattle.pmtl.specs.Early.{earlyRule, early}
 use Rattle.pmtl.specs.Settled.{settledTrue, settledFalse, settledRule, settled}
 use Rattle.pmtl.proofs.Table.{answer-local, row-out}
-use Rattle.rows.specs.Memory.{rowCount, kindAt, argAt, lowerAt, upperAt, startAt, operandsOf, rowFrom, rowOf, rowsOf, isOne}
+use Rattle.rows.specs.Memory.{rowCount, kindAt, argAt, lowerAt, upperAt, rowFrom, rowOf, rowsOf, isOne}
 use Rattle.rows.specs.Facts.{factOf, hereIn, coversIn, goneIn, outputOf, valuationOf, settledOf}
 use Rattle.rows.proofs.Kept.{rows-length, row-at}
 
