@@ -1,22 +1,24 @@
 -- What an accepted book has: the facts that `judged s ≡ 0` says, each by its own name. Assumes nothing.
-use mathlib.Core.Path.{_≡_, refl, sym, _∙_, subst}
+use mathlib.Core.Path.{_≡_}
 use mathlib.Core.Bool.{Bool, true, false, cond, not, _&&_, _||_}
 use mathlib.Core.Logic.{⊎-elim}
 use mathlib.Core.List.{List, [], _∷_, _++_}
-use Prim.Native.Nat.{ℕ, zero, suc, _+_, _*_, _≤_, _<_}
+use Prim.Native.Nat.{ℕ, zero, suc, _+_, _-_, _≤_, _<_}
 use native.Mathlib.Nat.{le-of-suc-le-suc, not-suc-le-zero, eq-or-lt-of-le}
 use native.Mathlib.Omega.{arith}
 use lib.ListN.{length, getD, length-append, List·getD-append}
 use lib.Seq.{getD-append-add}
 use lib.Dec.{leb, ltb, eqb, lit<}
 use borrow.Author.Tests.{ltb-true, leb-true, leb-false, eqb-true, lt-leb, ne-eqb}
+use Rattle.numset.proofs.Laws.{lt-or-ge}
 use Rattle.numset.specs.Runs.{MAX}
+use Rattle.pmtl.proofs.Bools.{and-left, and-right}
 use Rattle.pmtl.specs.Book.{H, every}
 use Rattle.pmtl.specs.Answer.{bitOf}
 use Rattle.rows.specs.Memory.{temporal, countOf}
 use Rattle.book.specs.Reading.{Sections}
-use Rattle.book.specs.Judging.{kindIn, argIn, lowerIn, upperIn, rowsIn, temporalsIn, startIn, firstOf, firstTo, allTo, argGood, formGood, rangeGood, rowNumber, operandsGood, linksGood, timesIn, usesOf, usedOnce, judged}
-use Rattle.book.proofs.Tests.{and-left, and-right, passed, after-passed, not-held, first-none, then-none}
+use Rattle.book.specs.Judging.{kindIn, argIn, lowerIn, upperIn, rowsIn, temporalsIn, startIn, firstTo, allTo, argGood, formGood, rangeGood, rowNumber, operandsGood, linksGood, timesIn, usesOf, usedOnce, judged}
+use Rattle.book.proofs.Tests.{passed, after-passed, not-held, first-none, then-none}
 
 -- ---- what a number or a test over all rows says of each
 pub first-each : (f : ℕ → ℕ) (n : ℕ) → firstTo f n ≡ 0 → (r : ℕ) → r < n → f r ≡ 0
@@ -122,6 +124,66 @@ temporals-few ws zero h = omega arith
 temporals-few ws (suc n) h =
     one-more (temporal (kindIn ws n)) (temporalsIn ws n) (temporals-few ws n (first-none (firstTo (rowNumber ws) n) (rowNumber ws n) h)) (row-room ws n (then-none (firstTo (rowNumber ws) n) (rowNumber ws n) h))
 
+-- ---- rows that are linked as they should be
+operand-owned : (s : Sections) (r : ℕ) → operandsGood s r ≡ true → (k : ℕ) → k < countOf (kindIn (s .rows) r) (argIn (s .rows) r)
+    → getD (s .operands) (startIn (s .rows) r + k) 0 < r
+unfolding operandsGood
+operand-owned s r h k l = ltb-true _ _ (all-each _ _ h k l)
+
+operand-under : (s : Sections) (n : ℕ) → allTo (operandsGood s) n ≡ true → (i : ℕ) → i < startIn (s .rows) n → getD (s .operands) i 0 < n
+unfolding allTo startIn
+operand-under s zero h i l = absurd (not-suc-le-zero l)
+operand-under s (suc n) h i l =
+    ⊎-elim
+    (λ p. omega (arith, operand-under s n (and-left (allTo (operandsGood s) n) (operandsGood s n) h) i p))
+    (λ p.
+    let owned = operand-owned s n (and-right (allTo (operandsGood s) n) (operandsGood s n) h) (i - startIn (s .rows) n) (omega arith) in
+    omega (arith, rw (back (startIn (s .rows) n) i p) at owned))
+    (lt-or-ge i (startIn (s .rows) n))
+  where
+    back : (a b : ℕ) → a ≤ b → a + (b - a) ≡ b
+    back a b p = omega arith
+
+module _ (s : Sections) (linked : linksGood s ≡ true) where
+  abbrev operand-count : Bool
+  operand-count = eqb (startIn (s .rows) (rowsIn s)) (length (s .operands))
+
+  -- the rows take all operands
+  pub linked-taken : startIn (s .rows) (rowsIn s) ≡ length (s .operands)
+  unfolding linksGood
+  linked-taken = eqb-true _ _ (and-left operand-count _ (and-left (operand-count && allTo (operandsGood s) (rowsIn s)) _ linked))
+
+  -- where a row's operands stand there are operands
+  pub linked-there : (r : ℕ) → r < rowsIn s → startIn (s .rows) r + countOf (kindIn (s .rows) r) (argIn (s .rows) r) ≤ length (s .operands)
+  linked-there r l = omega (arith, linked-taken, start-mono (s .rows) r (rowsIn s) l)
+
+  -- an operand's number is below its owner's
+  pub linked-below : (r : ℕ) → r < rowsIn s → (k : ℕ) → k < countOf (kindIn (s .rows) r) (argIn (s .rows) r)
+      → getD (s .operands) (startIn (s .rows) r + k) 0 < r
+  unfolding linksGood
+  linked-below r l =
+      operand-owned s r (all-each (operandsGood s) (rowsIn s) (and-right operand-count _ (and-left (operand-count && allTo (operandsGood s) (rowsIn s)) _ linked)) r l)
+
+  linked-property : (i : ℕ) → i < length (s .assumes ++ s .guarantees) → getD (s .assumes ++ s .guarantees) i 0 < rowsIn s
+  unfolding linksGood
+  linked-property i l =
+      ltb-true _ _
+      (every-each (λ p. ltb p (rowsIn s)) (s .assumes ++ s .guarantees) (and-right (operand-count && allTo (operandsGood s) (rowsIn s)) _ linked) i l)
+
+  -- a property's number is below the row count
+  pub linked-assume : (i : ℕ) → i < length (s .assumes) → getD (s .assumes) i 0 < rowsIn s
+  linked-assume i l = rw (List·getD-append (s .assumes) (s .guarantees) 0 i l) at (linked-property i (omega (arith, length-append (s .assumes) (s .guarantees))))
+
+  pub linked-guarantee : (i : ℕ) → i < length (s .guarantees) → getD (s .guarantees) i 0 < rowsIn s
+  linked-guarantee i l =
+      rw (getD-append-add (s .assumes) (s .guarantees) i 0) at (linked-property (length (s .assumes) + i) (omega (arith, length-append (s .assumes) (s .guarantees))))
+
+  -- so all operands are below the row count
+  pub linked-operand : (i : ℕ) → i < length (s .operands) → getD (s .operands) i 0 < rowsIn s
+  unfolding linksGood
+  linked-operand i l =
+      operand-under s (rowsIn s) (and-right operand-count _ (and-left (operand-count && allTo (operandsGood s) (rowsIn s)) _ linked)) i (omega (arith, linked-taken))
+
 -- ---- an accepted book, all its rows r below rowsIn s
 module _ (s : Sections) (ok : judged s ≡ 0) where
   abbrev after-rows : ℕ
@@ -153,39 +215,23 @@ module _ (s : Sections) (ok : judged s ≡ 0) where
   pub temporals-fit : temporalsIn (s .rows) (rowsIn s) ≤ 32
   temporals-fit = temporals-few (s .rows) (rowsIn s) rows-good
 
-  abbrev operand-count : Bool
-  operand-count = eqb (startIn (s .rows) (rowsIn s)) (length (s .operands))
-
-  -- the rows take all operands
+  -- the rows take all operands, and where a row's stand there are some
   pub operands-taken : startIn (s .rows) (rowsIn s) ≡ length (s .operands)
-  unfolding linksGood
-  operands-taken = eqb-true _ _ (and-left operand-count _ (and-left (operand-count && allTo (operandsGood s) (rowsIn s)) _ links))
+  operands-taken = linked-taken s links
 
-  -- where a row's operands stand there are operands
   pub operands-there : (r : ℕ) → r < rowsIn s → startIn (s .rows) r + countOf (kindIn (s .rows) r) (argIn (s .rows) r) ≤ length (s .operands)
-  operands-there r l = omega (arith, operands-taken, start-mono (s .rows) r (rowsIn s) l)
+  operands-there = linked-there s links
 
-  -- an operand's number is below its owner's
+  -- an operand's number is below its owner's, a property's below the row count
   pub operand-below : (r : ℕ) → r < rowsIn s → (k : ℕ) → k < countOf (kindIn (s .rows) r) (argIn (s .rows) r)
       → getD (s .operands) (startIn (s .rows) r + k) 0 < r
-  unfolding linksGood operandsGood
-  operand-below r l k m =
-      ltb-true _ _
-      (all-each _ _ (all-each (operandsGood s) (rowsIn s) (and-right operand-count _ (and-left (operand-count && allTo (operandsGood s) (rowsIn s)) _ links)) r l) k m)
+  operand-below = linked-below s links
 
-  property-below : (i : ℕ) → i < length (s .assumes ++ s .guarantees) → getD (s .assumes ++ s .guarantees) i 0 < rowsIn s
-  unfolding linksGood
-  property-below i l =
-      ltb-true _ _
-      (every-each (λ p. ltb p (rowsIn s)) (s .assumes ++ s .guarantees) (and-right (operand-count && allTo (operandsGood s) (rowsIn s)) _ links) i l)
-
-  -- a property's number is below the row count
   pub assume-below : (i : ℕ) → i < length (s .assumes) → getD (s .assumes) i 0 < rowsIn s
-  assume-below i l = rw (List·getD-append (s .assumes) (s .guarantees) 0 i l) at (property-below i (omega (arith, length-append (s .assumes) (s .guarantees))))
+  assume-below = linked-assume s links
 
   pub guarantee-below : (i : ℕ) → i < length (s .guarantees) → getD (s .guarantees) i 0 < rowsIn s
-  guarantee-below i l =
-      rw (getD-append-add (s .assumes) (s .guarantees) i 0) at (property-below (length (s .assumes) + i) (omega (arith, length-append (s .assumes) (s .guarantees))))
+  guarantee-below = linked-guarantee s links
 
   -- each row is used exactly once
   pub used : (r : ℕ) → r < rowsIn s → timesIn r (usesOf s) ≡ 1

@@ -2,9 +2,9 @@
 use mathlib.Core.Path.{_≡_, refl, sym, ap, _∙_}
 use mathlib.Core.Bool.{Bool, true, false}
 use mathlib.Core.List.{List, [], _∷_}
-use Prim.Native.Nat.{ℕ, zero, suc, _+_, _*_, _≤_, _<_}
+use Prim.Native.Nat.{ℕ, _+_, _*_, _≤_}
 use native.Mathlib.Omega.{arith}
-use lib.ListN.{length, take, drop, length-drop}
+use lib.ListN.{length, drop, length-drop}
 use lib.Seq.{length-take-le}
 use lib.Dec.{eqb}
 use borrow.Author.Tests.{eqb-true}
@@ -12,7 +12,7 @@ use Rattle.pmtl.specs.Book.{Book}
 use Rattle.rows.specs.Memory.{part}
 use Rattle.book.specs.Reading.{Read, got, refused, Sections, sections}
 use Rattle.book.specs.Judging.{rowsIn, judged, bookIn, Loaded, refusedWith, loadedFrom, whole, loaded}
-use Rattle.book.specs.Placing.{partsOf, Counted, Placed}
+use Rattle.book.specs.Placing.{partsOf, Counted, Few, Placed}
 
 -- ---- what is loaded, by the number
 abbrev picked : Bool → ℕ → Book → Loaded
@@ -73,6 +73,14 @@ module _ (words : List ℕ) (n o a g : ℕ) (c : Counted words n o a g) where
   pub loaded-from : loaded words ≡ loadedFrom (partsOf words n o a g)
   unfolding loaded whole
   loaded-from = ap whole (c .read)
+
+  pub parts-few : Few (partsOf words n o a g)
+  parts-few = record {
+    rows = omega (arith, rows-counted, c .rows-few);
+    operands = omega (arith, operands-counted, c .operands-few);
+    assumes = omega (arith, assumes-counted, c .assumes-few);
+    guarantees = omega (arith, guarantees-counted, c .guarantees-few);
+  }
 
 -- ---- words whose sections are placed
 module _ (words : List ℕ) (number n o a g : ℕ) (p : Placed words number n o a g) where

@@ -1,26 +1,15 @@
 -- A memory of zeros is kept, and holds the empty book and its first state. Assumes nothing.
-use Prim.Native.Nat.{ℕ, zero, suc, _+_, _*_, _≤_, _<_}
-use mathlib.Core.Path.{_≡_, refl, sym, ap, _∙_}
-use mathlib.Core.Logic.{⊎-elim}
-use mathlib.Core.List.{List, [], _∷_}
+use Prim.Native.Nat.{ℕ, _+_, _<_}
+use mathlib.Core.Path.{_≡_, _∙_}
+use mathlib.Core.List.{List, []}
 use native.Mathlib.Omega.{arith}
-use lib.ListN.{length, getD, replicate, length-replicate, getD-replicate, List·getD-eq-default}
-use Rattle.numset.specs.Runs.{Good, Under, runsTo}
-use Rattle.numset.proofs.Laws.{lt-or-ge}
+use lib.ListN.{length, getD, replicate}
+use Rattle.numset.proofs.Packs.{good-zeros}
 use Rattle.pmtl.specs.Book.{emptyBook, widthOf}
 use Rattle.pmtl.specs.Monitor.{initial}
 use Rattle.rows.specs.Memory.{SET, SIZE, setStart, setWords, listed, rowsOf, bookOf, stateOf, BookKept}
 use Rattle.book.specs.Kept.{slotTo, Tidy, Kept}
 use Rattle.store.proofs.Parts.{part-zeros}
-
-getD-zeros : (n i : ℕ) → _≡_ {A = ℕ} (getD (replicate n 0) i 0) 0
-getD-zeros n i = ⊎-elim (λ h. getD-replicate n i 0 0 h) (λ h. List·getD-eq-default (replicate n 0) 0 (rw length-replicate h)) (lt-or-ge i n)
-
-good-zeros : (n : ℕ) → 0 < n → Good (replicate n 0)
-unfolding runsTo Under
-good-zeros n h =
-    let z = getD-zeros n 0 in
-    record { room = rw (z, length-replicate) h; apart = rw (z, runsTo) tt; rest = λ i p. getD-zeros n i }
 
 module _ (m : List ℕ) (long : length m ≡ SIZE) (zeros : (i : ℕ) → getD m i 0 ≡ 0) where
   no-sets : (j : ℕ) → j < 32 → setWords m j ≡ replicate SET 0

@@ -2,3 +2,12 @@ pub mod Parts
 pub mod Listed
 pub mod Empty
 pub mod Steps
+pub mod Pastes
+pub mod Forms
+pub mod Puts
+pub mod Rows
+pub mod Stands
+pub mod Holds
+pub mod Codes
+pub mod Same
+pub mod Loads

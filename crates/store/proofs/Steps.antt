@@ -11,9 +11,9 @@ use Rattle.numset.proofs.Laws.{lt-or-ge}
 use Rattle.pmtl.specs.Book.{H, Row, widthOf}
 use Rattle.pmtl.specs.Answer.{bitOf}
 use Rattle.rows.specs.Memory.{ROWS, ROW, OPERANDS, PROPERTIES, ATOMS, OWNERS, SET, SIZE, part, rowCount, begunWord, clockOf, widthWord, temporals, assumeCount, guaranteeCount, kindAt, argAt, lowerAt, upperAt, startAt, slotAt, operandsOf, ownerAt, setWords, countOf, temporal, listed, rowOf, rowsOf, bookOf, RowKept, BookKept}
+use Rattle.rows.proofs.Listed.{listed-agree}
 use Rattle.book.specs.Kept.{startTo, slotTo, Tidy, Kept}
 use Rattle.store.proofs.Parts.{part-same}
-use Rattle.store.proofs.Listed.{listed-same}
 
 -- m′ is m after a call: every other word is the same
 pub record Stepped (m m′ : List ℕ) : Type 0 where
@@ -101,7 +101,7 @@ module _ (m m′ : List ℕ) (kept : Kept m) (step : Stepped m m′) where
 
   pub rows-of-same : rowsOf m′ ≡ rowsOf m
   unfolding rowsOf
-  rows-of-same = rw rows-same (listed-same (rowOf m′) (rowOf m) (rowCount m) (λ r h. let f = few in row-same r (omega arith)))
+  rows-of-same = rw rows-same (listed-agree (rowOf m′) (rowOf m) (rowCount m) (λ r h. let f = few in row-same r (omega arith)))
 
   pub step-book : bookOf m′ ≡ bookOf m
   unfolding bookOf

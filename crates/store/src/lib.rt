@@ -1,4 +1,232 @@
 // An accepted book put into a monitor's lent memory, and loading.
-pub fn same(x: u64) -> u64 {
-    x
+ghost use mathlib.Core.Path.{_≡_};
+ghost use Prim.Native.Nat.{_+_, _*_, _/_, _≤_, _<_, max};
+ghost use lib.ListN.{length, replicate};
+ghost use lib.Seq.{paste};
+ghost use Rattle.rows.specs.Memory.{ROWS, ROW, SIZE};
+ghost use Rattle.book.specs.Reading.{GIVEN};
+ghost use Rattle.book.specs.Placing.{sectionsOf, partsOf, Counted};
+ghost use Rattle.book.specs.Judging.{startIn, temporalsIn};
+ghost use Rattle.store.specs.Loading.{Loads};
+ghost use Rattle.store.specs.Stored.{reach, widthIn, wordsWith, rowPut, rowsPut, put, headPut, Rowed, Accepted, Holds};
+use book::check::ACCEPTED;
+use book::check::COUNT_WORD;
+use book::check::ROW_WORDS;
+use book::check::arg_in;
+use book::check::kind_in;
+use book::check::lower_in;
+use book::check::part_of;
+use book::check::taken_by;
+use book::check::upper_in;
+use rows::ASSUMES;
+use rows::ATOM;
+use rows::GUARANTEES;
+use rows::HISTORICALLY;
+use rows::OPERANDS;
+use rows::OWNERS;
+use rows::PROPERTIES;
+use rows::ROW;
+use rows::ROW_COUNT;
+use rows::ROWS;
+use rows::SIZE;
+use rows::TEMPORALS;
+use rows::WIDTH;
+
+// Where a row's words stand in it, after its kind.
+const ARG: usize = 1;
+
+const LOWER: usize = 2;
+
+const UPPER: usize = 3;
+
+const START: usize = 4;
+
+const SLOT: usize = 5;
+
+// What the head of a memory says of its rows.
+pub struct Totals {
+    pub width: u64,
+    pub temporals: u64,
+}
+
+fn wipe(monitor: &mut [u64])
+    ensures { λ _. ⌜ now (monitor .exit) ≡ replicate (length (now (monitor .entry))) 0 ⌝ }
+{
+    let mut i = 0;
+    while i < monitor.len() {
+        monitor[i] = 0;
+        i += 1;
+    }
+}
+
+fn copy(from: &[u64], monitor: &mut [u64], at: usize)
+    requires { ⌜ at + length (now from) ≤ length (now monitor) ⌝ }
+    ensures { λ _. ⌜ now (monitor .exit) ≡ put (now (monitor .entry)) at (now (from .entry)) ⌝ }
+{
+    let mut i = 0;
+    while i < from.len() {
+        monitor[at + i] = from[i];
+        i += 1;
+    }
+}
+
+// The width with one more row.
+fn wider(width: u64, kind: u64, arg: u64) -> u64
+    requires { ⌜ reach kind arg ≤ 256 ⌝ }
+    ensures { λ r. ⌜ r ≡ max width (reach kind arg) ⌝ }
+{
+    if kind == ATOM {
+        if width <= arg {
+            return arg + 1;
+        }
+        return width;
+    }
+    width
+}
+
+// The six words of a row.
+fn put_words(given: &[u64], row: usize, start: usize, slot: usize, monitor: &mut [u64])
+    requires { ⌜ (row < 128) × (row < length (now given) / GIVEN) × (length (now monitor) ≡ SIZE) ⌝ }
+    ensures { λ _. ⌜ now (monitor .exit) ≡ paste (now (monitor .entry)) (ROWS + ROW * row) (wordsWith (now (given .entry)) row start slot) ROW ⌝ }
+{
+    let at = ROWS + ROW * row;
+    monitor[at] = kind_in(given, row);
+    monitor[at + ARG] = arg_in(given, row);
+    monitor[at + LOWER] = lower_in(given, row);
+    monitor[at + UPPER] = upper_in(given, row);
+    monitor[at + START] = start as u64;
+    monitor[at + SLOT] = slot as u64;
+}
+
+// A row, and where it is temporal its set's owner; answers with the next row's set.
+fn put_row(given: &[u64], row: usize, start: usize, slot: usize, monitor: &mut [u64]) -> usize
+    requires { ⌜ Rowed (now given) ⌝ }
+    requires { ⌜ (row < length (now given) / GIVEN) × (length (now monitor) ≡ SIZE) ⌝ }
+    requires { ⌜ (start ≡ startIn (now given) row) × (slot ≡ temporalsIn (now given) row) ⌝ }
+    ensures { λ r. ⌜ (r ≡ temporalsIn (now (given .entry)) (row + 1)) × (now (monitor .exit) ≡ rowPut (now (given .entry)) (now (monitor .entry)) row) ⌝ }
+{
+    if kind_in(given, row) < HISTORICALLY {
+        put_words(given, row, start, 0, monitor);
+        return slot;
+    }
+    put_words(given, row, start, slot, monitor);
+    monitor[OWNERS + slot] = row as u64;
+    slot + 1
+}
+
+// All rows.
+fn put_rows(given: &[u64], monitor: &mut [u64]) -> Totals
+    requires { ⌜ Rowed (now given) ⌝ }
+    requires { ⌜ length (now monitor) ≡ SIZE ⌝ }
+    ensures { λ r. ⌜ (r .width ≡ widthIn (now (given .entry)) (length (now (given .entry)) / GIVEN)) × (r .temporals ≡ temporalsIn (now (given .entry)) (length (now (given .entry)) / GIVEN)) × (now (monitor .exit) ≡ rowsPut (now (given .entry)) (now (monitor .entry)) (length (now (given .entry)) / GIVEN)) ⌝ }
+{
+    let rows = given.len() / ROW_WORDS;
+    let mut row = 0;
+    let mut start = 0;
+    let mut slot = 0;
+    let mut width: u64 = 0;
+    while row < rows {
+        let kind = kind_in(given, row);
+        let arg = arg_in(given, row);
+        slot = put_row(given, row, start, slot, monitor);
+        start += taken_by(kind, arg);
+        width = wider(width, kind, arg);
+        row += 1;
+    }
+    Totals {
+        width,
+        temporals: slot as u64,
+    }
+}
+
+// The words before the rows.
+fn put_head(monitor: &mut [u64], rows: u64, totals: Totals, assumes: u64, guarantees: u64)
+    requires { ⌜ length (now monitor) ≡ SIZE ⌝ }
+    ensures { λ _. ⌜ now (monitor .exit) ≡ headPut (now (monitor .entry)) rows (totals .width) (totals .temporals) assumes guarantees ⌝ }
+{
+    monitor[ROW_COUNT] = rows;
+    monitor[WIDTH] = totals.width;
+    monitor[TEMPORALS] = totals.temporals;
+    monitor[ASSUMES] = assumes;
+    monitor[GUARANTEES] = guarantees;
+}
+
+// The memory of an accepted book, whatever stood there before.
+fn store<'a>(
+    given: &'a [u64],
+    operands: &'a [u64],
+    assumes: &'a [u64],
+    guarantees: &'a [u64],
+    monitor: &mut [u64],
+)
+    requires { ⌜ Accepted (sectionsOf (now given) (now operands) (now assumes) (now guarantees)) ⌝ }
+    requires { ⌜ length (now monitor) ≡ SIZE ⌝ }
+    ensures { λ _. ⌜ Holds (sectionsOf (now (given .entry)) (now (operands .entry)) (now (assumes .entry)) (now (guarantees .entry))) (now (monitor .exit)) ⌝ }
+{
+    wipe(monitor);
+    copy(operands, monitor, OPERANDS);
+    copy(assumes, monitor, PROPERTIES);
+    copy(guarantees, monitor, PROPERTIES + assumes.len());
+    let totals = put_rows(given, monitor);
+    put_head(
+        monitor,
+        (given.len() / ROW_WORDS) as u64,
+        totals,
+        assumes.len() as u64,
+        guarantees.len() as u64,
+    );
+}
+
+// The book whose sections are so many rows, operands, assumes and guarantees of these words.
+fn store_parts(
+    words: &[u64],
+    rows: usize,
+    operands: usize,
+    assumes: usize,
+    guarantees: usize,
+    monitor: &mut [u64],
+)
+    requires { ⌜ Counted (now words) rows operands assumes guarantees ⌝ }
+    requires { ⌜ Accepted (partsOf (now words) rows operands assumes guarantees) × (length (now monitor) ≡ SIZE) ⌝ }
+    ensures { λ _. ⌜ Holds (partsOf (now (words .entry)) rows operands assumes guarantees) (now (monitor .exit)) ⌝ }
+{
+    let row_words = ROW_WORDS * rows;
+    let operands_at = COUNT_WORD + row_words + COUNT_WORD;
+    let assumes_at = operands_at + operands + COUNT_WORD;
+    let guarantees_at = assumes_at + assumes + COUNT_WORD;
+    store(
+        part_of(words, COUNT_WORD, row_words),
+        part_of(words, operands_at, operands),
+        part_of(words, assumes_at, assumes),
+        part_of(words, guarantees_at, guarantees),
+        monitor,
+    );
+}
+
+fn load_into(words: &[u64], monitor: &mut [u64]) -> u64
+    requires { ⌜ length (now monitor) ≡ SIZE ⌝ }
+    ensures { λ r. ⌜ Loads (now (words .entry)) (now (monitor .exit)) r ⌝ }
+{
+    let placed = book::check::place(words);
+    let number = placed.number;
+    if number != ACCEPTED {
+        wipe(monitor);
+        return number;
+    }
+    store_parts(
+        words,
+        placed.rows,
+        placed.operands,
+        placed.assumes,
+        placed.guarantees,
+        monitor,
+    );
+    number
+}
+
+// Loads a book from words: a fresh monitor of it, or of an empty book where it is refused, whatever stood in the memory before.
+pub fn load(words: &[u64], monitor: &mut [u64; SIZE]) -> u64
+    ensures { λ r. ⌜ Loads (now (words .entry)) (now (monitor .exit)) r ⌝ }
+{
+    load_into(words, monitor)
 }
