@@ -73,15 +73,15 @@ pub const COVERS: u8 = 2;
 pub const GONE: u8 = 4;
 
 // Where a row's words stand in it, after its kind.
-const ARG: usize = 1;
+pub const ARG: usize = 1;
 
-const LOWER: usize = 2;
+pub const LOWER: usize = 2;
 
-const UPPER: usize = 3;
+pub const UPPER: usize = 3;
 
-const START: usize = 4;
+pub const START: usize = 4;
 
-const SLOT: usize = 5;
+pub const SLOT: usize = 5;
 
 // The kinds of a row.
 pub const FALSE: u64 = 0;
