@@ -5,3 +5,4 @@ pub mod Plans
 pub mod Heads
 pub mod Advances
 pub mod Public
+pub mod Theorems

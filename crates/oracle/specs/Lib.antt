@@ -1,2 +1,3 @@
 pub mod Oracle
+pub mod Made
 pub mod Steps

@@ -14,6 +14,9 @@ ghost use Rattle.rows.specs.Memory.{ATOMS, SET, SIZE, part, rowCount, widthWord
 ghost use Rattle.book.specs.Kept.{Kept};
 ghost use Rattle.oracle.specs.Steps.{firstBytes, Bytes, snapOf, rangeAt, modeAt, setAfter, rowPlan, Bounded, Slot, Planned, Timely, Fit, Fitting, Written, Headed, Advanced};
 ghost use Rattle.oracle.specs.Oracle.{Called};
+use rows::HERE;
+use rows::MOST_ATOMS;
+use rows::MOST_ROWS;
 
 // The numbers that a call hands back.
 const ACCEPTED: u64 = 0;
@@ -30,11 +33,7 @@ const NOT_A_BIT: u64 = 10;
 
 const NO_ROOM: u64 = 11;
 
-// The widest state, the most rows and the most temporal rows.
-const WIDEST: usize = 256;
-
-const MOST_ROWS: usize = 128;
-
+// The most temporal rows.
 const MOST_TEMPORALS: usize = 32;
 
 // The last time that a call may set, and the upper bound that means none.
@@ -58,7 +57,7 @@ pub struct Plan {
 // How a temporal row's set changes, by the values of its operands.
 fn mode_of<'a>(
     monitor: &'a [u64],
-    atoms: &'a [u8; WIDEST],
+    atoms: &'a [u8; MOST_ATOMS],
     facts: &'a [u8; MOST_ROWS],
     row: usize,
 ) -> u8
@@ -112,14 +111,14 @@ fn set_at(monitor: &[u64], slot: usize) -> &[u64]
 fn bit(b: bool) -> u8
     ensures { λ r. ⌜ r ≡ bitOf b ⌝ }
 {
-    if b { 1 } else { 0 }
+    if b { HERE } else { 0 }
 }
 
 // The plan of one temporal row, by what is known of the rows below it.
 fn plan_row<'a>(
     monitor: &'a [u64],
     clock: u64,
-    atoms: &'a [u8; WIDEST],
+    atoms: &'a [u8; MOST_ATOMS],
     facts: &'a [u8; MOST_ROWS],
     slot: usize,
     row: usize,
@@ -141,7 +140,7 @@ fn plan_row<'a>(
 }
 
 // The plan of a call, from the lowest temporal row upward, up to the first whose set lacks room.
-fn plan_call<'a>(monitor: &'a [u64], clock: u64, atoms: &'a [u8; WIDEST]) -> Plan
+fn plan_call<'a>(monitor: &'a [u64], clock: u64, atoms: &'a [u8; MOST_ATOMS]) -> Plan
     requires { ⌜ Timely (now monitor) clock ⌝ }
     ensures { λ r. ⌜ Planned (now (monitor .entry)) clock (now (atoms .entry)) (r .room) (r .modes) ⌝ }
 {
@@ -200,7 +199,7 @@ fn wide(x: u8) -> u64
 }
 
 // Sets the atoms, the clock, and that a call was accepted.
-fn put_head(monitor: &mut [u64], clock: u64, atoms: &[u8; WIDEST])
+fn put_head(monitor: &mut [u64], clock: u64, atoms: &[u8; MOST_ATOMS])
     requires { ⌜ (length (now monitor) ≡ SIZE) × (length (now atoms) ≡ 256) × (widthWord (now monitor) ≤ 256) ⌝ }
     ensures { λ _. ⌜ Headed (now (monitor .entry)) clock (now (atoms .entry)) (now (monitor .exit)) ⌝ }
 {
@@ -215,7 +214,7 @@ fn put_head(monitor: &mut [u64], clock: u64, atoms: &[u8; WIDEST])
 }
 
 // A call at a clock and atoms: planned, and then carried out. Where a set lacks room, nothing is.
-fn advance(monitor: &mut [u64], clock: u64, atoms: &[u8; WIDEST]) -> u64
+fn advance(monitor: &mut [u64], clock: u64, atoms: &[u8; MOST_ATOMS]) -> u64
     requires { ⌜ Timely (now monitor) clock ⌝ }
     requires { ⌜ Bytes (now atoms) (widthWord (now monitor)) ⌝ }
     ensures { λ r. ⌜ Advanced (now (monitor .entry)) (snapOf clock (now (atoms .entry)) (widthWord (now (monitor .entry))) ∷ []) (now (monitor .exit)) r ⌝ }
@@ -232,12 +231,12 @@ fn advance(monitor: &mut [u64], clock: u64, atoms: &[u8; WIDEST]) -> u64
 }
 
 // The atoms as they are.
-fn old_atoms(monitor: &[u64]) -> [u8; WIDEST]
+fn old_atoms(monitor: &[u64]) -> [u8; MOST_ATOMS]
     requires { ⌜ Kept (now monitor) ⌝ }
     ensures { λ r. ⌜ r ≡ firstBytes (part ATOMS 256 (now (monitor .entry))) (widthWord (now (monitor .entry))) ⌝ }
 {
     let count = rows::width(monitor);
-    let mut atoms = [0u8; WIDEST];
+    let mut atoms = [0u8; MOST_ATOMS];
     let mut i = 0;
     while i < count {
         atoms[i] = rows::word(monitor, rows::ATOMS + i) as u8;
@@ -247,11 +246,11 @@ fn old_atoms(monitor: &[u64]) -> [u8; WIDEST]
 }
 
 // The atoms of a state: its first bytes.
-fn new_atoms(state: &[u8], count: usize) -> [u8; WIDEST]
+fn new_atoms(state: &[u8], count: usize) -> [u8; MOST_ATOMS]
     requires { ⌜ (count ≤ length (now state)) × (count ≤ 256) ⌝ }
     ensures { λ r. ⌜ r ≡ firstBytes (now (state .entry)) count ⌝ }
 {
-    let mut atoms = [0u8; WIDEST];
+    let mut atoms = [0u8; MOST_ATOMS];
     let mut i = 0;
     while i < count {
         atoms[i] = state[i];
@@ -294,7 +293,7 @@ pub fn state_call(monitor: &mut [u64], state: &[u8]) -> u64
     requires { ⌜ Kept (now monitor) ⌝ }
     ensures { λ r. ⌜ Called (Call.state (now (state .entry))) (now (monitor .entry)) (now (monitor .exit)) r ⌝ }
 {
-    if WIDEST < state.len() {
+    if MOST_ATOMS < state.len() {
         return TOO_WIDE;
     }
     let count = rows::width(monitor);

@@ -9,12 +9,6 @@ ghost use Rattle.oracle.specs.Oracle.{Called};
 // The words of a monitor.
 pub const SIZE: usize = rows::SIZE;
 
-pub struct Verdict {
-    pub value: bool,
-    pub early: pmtl::Answer,
-    pub settled: pmtl::Answer,
-}
-
 // The clock becomes `time`, and every row is evaluated anew. The answer is 0, or the number of the refusal: then nothing changed.
 pub fn update_time(monitor: &mut [u64; SIZE], time: u64) -> u64
     requires { ⌜ Kept (now monitor) ⌝ }
