@@ -1,18 +1,18 @@
 -- The laws of `changed`: it is what the definitions say of a set, and what the code asks and does, arm by arm. Assumes nothing.
-use Prim.Native.Nat.{ℕ, zero, suc, _+_, _*_, _-_, _^_, _≤_, _<_}
+use Prim.Native.Nat.{ℕ, zero, suc, _+_, _-_, _≤_, _<_}
 use mathlib.Core.Path.{_≡_, refl, sym, ap, _∙_, subst⁻¹}
 use mathlib.Core.Logic.{⊎-elim}
-use mathlib.Core.Bool.{Bool, true, false, not, _||_, or-false}
-use mathlib.Core.List.{List, [], _∷_}
+use mathlib.Core.Bool.{Bool, true, false, not, or-false}
+use mathlib.Core.List.{List, []}
 use native.Mathlib.Omega.{arith}
 use lib.ListN.{length, getD}
 use borrow.Author.Tests.{lt-ltb}
 use Rattle.numset.specs.Runs.{Runs, runs, Good, Under, Canonical, within, has, insert, union, fits, pack, addWords, setWords}
-use Rattle.numset.proofs.Laws.{lt-or-ge, canonical}
+use Rattle.numset.proofs.Laws.{lt-or-ge}
 use Rattle.numset.proofs.Union.{union-has, union-under, union-none, union-some}
 use Rattle.numset.proofs.Words.{length-runs}
 use Rattle.numset.proofs.Packs.{packed}
-use Rattle.pmtl.specs.Book.{Range, start, stop, Row}
+use Rattle.pmtl.specs.Book.{Range, start, stop}
 use Rattle.pmtl.specs.Book.Row.{historically, once, since}
 use Rattle.pmtl.specs.Sets.{kept, staysIf, addedIf, renewed, setRule}
 use Rattle.change.specs.Change.{modeOf, changed, modeIn}

@@ -2,7 +2,7 @@
 -- 3, it is dropped and the range is added. Private steps of the calls. Definitions only.
 use Prim.Native.Nat.{ℕ, zero, suc}
 use mathlib.Core.Bool.{Bool, true, false, not}
-use mathlib.Core.List.{List, [], _∷_}
+use mathlib.Core.List.{[]}
 use Rattle.numset.specs.Runs.{Runs, union}
 use Rattle.pmtl.specs.Book.{Row}
 use Rattle.pmtl.specs.Book.Row.{never, always, atom, conj, disj, neg, implies, historically, once, since}

@@ -1,31 +1,30 @@
 -- A planned call carried out: the memory that it leaves holds the definitions' next state, and is kept. Assumes nothing.
-use Prim.Native.Nat.{ℕ, zero, suc, _+_, _*_, _-_, _^_, _≤_, _<_}
-use mathlib.Core.Path.{_≡_, refl, sym, ap, ap₂, _∙_, subst}
+use Prim.Native.Nat.{ℕ, _+_, _^_, _≤_, _<_}
+use mathlib.Core.Path.{_≡_, refl, sym, ap, ap₂, _∙_}
 use mathlib.Core.Logic.{⊎-elim}
-use mathlib.Core.Bool.{Bool, true, false, not, cond}
+use mathlib.Core.Bool.{Bool, true, false}
 use mathlib.Core.List.{List, [], _∷_, map}
 use native.Mathlib.Omega.{arith}
 use lib.ListN.{length, getD, take, length-map, List·getD-map}
 use lib.Seq.{ext-getD, getD-take, length-take-le}
 use lib.Dec.{eqb}
-use borrow.Author.Tests.{not-true, not-false, eqb-true, eqb-false}
-use Rattle.numset.specs.Runs.{MAX, Runs, runs, Good, fits, pack, Under}
+use borrow.Author.Tests.{eqb-false}
+use Rattle.numset.specs.Runs.{MAX, Runs, runs, Good, fits, pack}
 use Rattle.numset.proofs.Laws.{either, lt-or-ge}
 use Rattle.numset.proofs.Packs.{runs-pack, good-pack}
-use Rattle.pmtl.specs.Book.{H, Rows, Range, start, stop}
-use Rattle.pmtl.specs.Monitor.{Snap, State, setAt, step}
-use Rattle.pmtl.specs.Calls.{Outcome, crowded, play}
+use Rattle.pmtl.specs.Book.{H, Range, start, stop}
+use Rattle.pmtl.specs.Monitor.{Snap, State, setAt}
+use Rattle.pmtl.specs.Calls.{crowded, play}
 use Rattle.pmtl.proofs.Steps.{step-sets, step-now, step-begun}
-use Rattle.rows.specs.Memory.{ATOMS, OWNERS, SETS, SET, SIZE, begunWord, clockOf, widthWord, temporals, rowCount, kindAt, slotAt, ownerAt, upperAt, setStart, setWords, listed, rowsOf, setOf, stateOf, isOne}
+use Rattle.rows.specs.Memory.{ATOMS, OWNERS, SET, widthWord, temporals, rowCount, kindAt, slotAt, ownerAt, setStart, setWords, listed, rowsOf, setOf, stateOf, isOne}
 use Rattle.rows.proofs.Kept.{rows-length}
 use Rattle.rows.proofs.Listed.{listed-length, listed-at}
-use Rattle.book.specs.Kept.{Kept}
 use Rattle.store.proofs.Parts.{part-same}
 use Rattle.store.proofs.Steps.{Stepped, kept-step, step-book, kind-same, slot-same, width-same}
 use Rattle.change.proofs.Changes.{changed-under}
 use Rattle.oracle.specs.Steps.{Bytes, snapOf, stepOf, rangeAt, setAfter, Planned, Written, Headed, Timely, Fitting, Advanced}
 use Rattle.oracle.proofs.Rules.{set-of-slot, set-of-none}
-use Rattle.oracle.proofs.Plans.{crowds, all-room, set-none, fits-each}
+use Rattle.oracle.proofs.Plans.{set-none, fits-each}
 use Rattle.oracle.proofs.Commits.{room-is}
 
 -- the end of a range is a time or MAX

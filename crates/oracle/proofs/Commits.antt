@@ -1,9 +1,9 @@
 -- The sets changed in place, one by one. Assumes nothing.
-use Prim.Native.Nat.{ℕ, zero, suc, _+_, _*_, _-_, _≤_, _<_}
+use Prim.Native.Nat.{ℕ, _+_, _*_, _-_, _≤_, _<_}
 use mathlib.Core.Path.{_≡_, refl, sym, ap, ap₂, _∙_}
 use mathlib.Core.Logic.{⊎-elim}
 use mathlib.Core.Bool.{true}
-use mathlib.Core.List.{List, [], _∷_, _++_}
+use mathlib.Core.List.{List, _++_}
 use native.Mathlib.Omega.{arith}
 use lib.ListN.{length, getD, take, drop, List·getD-append}
 use lib.Seq.{getD-append-add, getD-take, getD-drop, length-take-le, take-at, drop-at}
@@ -13,11 +13,11 @@ use Rattle.numset.specs.Runs.{Runs, runs, Good, fits, pack}
 use Rattle.numset.proofs.Laws.{lt-or-ge}
 use Rattle.numset.proofs.Packs.{length-pack, packed}
 use Rattle.pmtl.specs.Book.{Range, start, stop}
-use Rattle.rows.specs.Memory.{ROWS, ROW, OWNERS, SETS, SET, SIZE, part, temporals, lowerAt, upperAt, ownerAt, setStart, setWords}
+use Rattle.rows.specs.Memory.{ROWS, ROW, OWNERS, SET, SIZE, part, temporals, lowerAt, upperAt, ownerAt, setStart, setWords}
 use Rattle.store.proofs.Parts.{word-at, part-length, part-same}
 use Rattle.change.specs.Change.{changed}
 use Rattle.change.proofs.Changes.{changed-0}
-use Rattle.oracle.specs.Steps.{rangeAt, setAfter, Bounded, Fit, Fitting, Written}
+use Rattle.oracle.specs.Steps.{rangeAt, setAfter, Fit, Fitting, Written}
 
 -- ---- a part of a memory put anew
 module _ (b k : ℕ) (xs ys : List ℕ) (hb : b + k ≤ length xs) (hk : length ys ≡ k) where

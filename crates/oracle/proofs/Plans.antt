@@ -1,9 +1,9 @@
 -- The plan of a call: where the facts are right for the rows below, a row's plan is what the definitions make of it. Assumes nothing.
-use Prim.Native.Nat.{ℕ, zero, suc, _+_, _*_, _-_, _%_, _≤_, _<_}
+use Prim.Native.Nat.{ℕ, zero, suc, _+_, _*_, _%_, _≤_, _<_}
 use mathlib.Core.Path.{_≡_, refl, sym, ap, ap₂, _∙_, subst}
 use mathlib.Core.Logic.{⊎-elim}
-use mathlib.Core.Bool.{Bool, true, false, not, cond, _||_, true≢false}
-use mathlib.Core.List.{List, [], _∷_, map}
+use mathlib.Core.Bool.{Bool, true, false, not, true≢false}
+use mathlib.Core.List.{List, [], _∷_}
 use native.Mathlib.Omega.{arith}
 use lib.ListN.{length, getD, set, replicate, length-set, length-replicate}
 use lib.Seq.{getD-set-same, getD-set-other}
@@ -11,10 +11,10 @@ use lib.Dec.{ltb}
 use borrow.Author.Tests.{lt-ltb, le-ltb}
 use Rattle.numset.specs.Runs.{Runs, runs, Good, has, fits}
 use Rattle.numset.proofs.Laws.{lt-or-ge}
-use Rattle.pmtl.specs.Book.{Row, mapRow, rowAt, Below, start, stop, some}
+use Rattle.pmtl.specs.Book.{Row, mapRow, Below, start, stop, some}
 use Rattle.pmtl.specs.Answer.{bitOf}
 use Rattle.pmtl.specs.Sets.{setRule}
-use Rattle.pmtl.specs.Monitor.{State, setAt, value}
+use Rattle.pmtl.specs.Monitor.{setAt, value}
 use Rattle.pmtl.specs.Calls.{ROOM, crowded}
 use Rattle.pmtl.proofs.Bools.{or-left, or-right, or-no}
 use Rattle.pmtl.proofs.Table.{mapRow-local}

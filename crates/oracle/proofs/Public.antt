@@ -1,15 +1,15 @@
 -- The public calls, arm by arm: refused for themselves, or played. Assumes nothing.
-use Prim.Native.Nat.{ℕ, zero, suc, _+_, _≤_, _<_}
-use mathlib.Core.Path.{_≡_, refl, sym, ap, ap₂, _∙_, subst}
-use mathlib.Core.Bool.{Bool, true, false, cond, true≢false}
+use Prim.Native.Nat.{ℕ, _+_, _≤_, _<_}
+use mathlib.Core.Path.{_≡_, refl, sym, ap, ap₂, _∙_}
+use mathlib.Core.Bool.{Bool, true, false, true≢false}
 use mathlib.Core.List.{List, [], _∷_, map}
 use native.Mathlib.Omega.{arith}
 use lib.ListN.{length, getD, take, length-map, List·getD-map}
 use lib.Seq.{ext-getD, getD-take, length-take-le}
-use lib.Dec.{ltb, eqb}
+use lib.Dec.{ltb}
 use borrow.Author.Tests.{lt-ltb, le-ltb, ltb-false, ne-eqb}
-use Rattle.pmtl.specs.Book.{H, Rows, widthOf, some}
-use Rattle.pmtl.specs.Monitor.{Snap, State}
+use Rattle.pmtl.specs.Book.{H, widthOf, some}
+use Rattle.pmtl.specs.Monitor.{Snap}
 use Rattle.pmtl.specs.Calls.{Call, WIDEST, turns, refusal, play, call}
 use Rattle.pmtl.specs.Calls.Call.{time, state}
 use Rattle.pmtl.proofs.Bools.{fails-by}

@@ -1,18 +1,17 @@
 -- The definitions' rules at the rows of a memory: values by bytes and facts, and the change of a temporal row's set. Assumes nothing.
-use Prim.Native.Nat.{ℕ, zero, suc, _+_, _*_, _-_, _≤_, _<_}
-use mathlib.Core.Path.{_≡_, refl, sym, ap, ap₂, _∙_, subst⁻¹}
-use mathlib.Core.Bool.{Bool, true, false}
-use mathlib.Core.List.{List, [], _∷_, map}
+use Prim.Native.Nat.{ℕ, zero, suc, _-_, _≤_, _<_}
+use mathlib.Core.Path.{_≡_, refl, sym, ap, _∙_, subst⁻¹}
+use mathlib.Core.Bool.{Bool, false}
+use mathlib.Core.List.{List, []}
 use native.Mathlib.Omega.{arith}
-use lib.ListN.{length, getD, take, drop, List·getD-map}
+use lib.ListN.{getD, take, drop, List·getD-map}
 use lib.Seq.{getD-take}
 use borrow.Author.Tests.{le-leb, lt-leb}
 use Rattle.numset.specs.Runs.{Runs, runs, has}
-use Rattle.pmtl.specs.Book.{Range, start, stop, Row, mapRow, rowAt}
-use Rattle.pmtl.specs.Book.Row.{never, always, atom, conj, disj, neg, implies, historically, once, since}
+use Rattle.pmtl.specs.Book.{start, stop, mapRow}
 use Rattle.pmtl.specs.Sets.{setRule}
 use Rattle.pmtl.specs.Monitor.{Snap, State, setAt, value}
-use Rattle.rows.specs.Memory.{rowCount, widthWord, kindAt, argAt, lowerAt, upperAt, startAt, slotAt, ownerAt, operandsOf, setWords, rowFrom, rowOf, rowsOf, setOf, stateOf, isOne, BookKept}
+use Rattle.rows.specs.Memory.{rowCount, widthWord, kindAt, argAt, lowerAt, upperAt, startAt, slotAt, operandsOf, setWords, rowFrom, rowOf, rowsOf, setOf, stateOf, isOne, BookKept}
 use Rattle.rows.specs.Facts.{hereIn, outputOf}
 use Rattle.rows.proofs.Listed.{listed-at}
 use Rattle.rows.proofs.Facts.{facts-value}

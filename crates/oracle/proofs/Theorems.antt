@@ -3,7 +3,7 @@
 use Prim.Native.Nat.{ℕ}
 use mathlib.Core.Path.{_≡_, sym, ap, ap₂, _∙_}
 use mathlib.Core.Bool.{Bool}
-use mathlib.Core.List.{List, [], _∷_, _++_}
+use mathlib.Core.List.{List, _++_}
 use Rattle.pmtl.specs.Answer.{known}
 use Rattle.pmtl.specs.Book.{Book, Ordered}
 use Rattle.pmtl.specs.Monitor.{State}

@@ -1,15 +1,15 @@
 -- Private steps of the calls: what a call plans, and the words that it then changes. No public contract cites these. Definitions only.
-use Prim.Native.Nat.{ℕ, _+_, _*_, _≤_, _<_}
+use Prim.Native.Nat.{ℕ, _+_, _≤_, _<_}
 use mathlib.Core.Path.{_≡_}
 use mathlib.Core.Bool.{Bool, true, not}
-use mathlib.Core.List.{List, [], _∷_, map}
+use mathlib.Core.List.{List, map}
 use lib.ListN.{length, getD, take, replicate}
 use lib.Seq.{paste}
 use Rattle.numset.specs.Runs.{MAX, Runs, runs, Good, has, fits, pack}
 use Rattle.pmtl.specs.Book.{H, Range, start, stop, mapRow}
 use Rattle.pmtl.specs.Answer.{bitOf}
 use Rattle.pmtl.specs.Monitor.{Snap, State, setAt, step}
-use Rattle.pmtl.specs.Calls.{Outcome, crowded, play}
+use Rattle.pmtl.specs.Calls.{crowded, play}
 use Rattle.rows.specs.Memory.{ATOMS, SETS, SET, SIZE, begunWord, clockOf, widthWord, temporals, lowerAt, upperAt, ownerAt, setWords, rowOf, rowsOf, bookOf, stateOf, isOne}
 use Rattle.rows.specs.Facts.{outputOf}
 use Rattle.book.specs.Kept.{Kept}
@@ -20,6 +20,7 @@ use Rattle.oracle.specs.declared.calls.RowPlan.{RowPlan}
 abbrev pub firstBytes : List ℕ → ℕ → List ℕ
 firstBytes bytes width = paste (replicate 256 0) 0 bytes width
 
+-- bytes that can be a call's atoms
 pub record Bytes (atoms : List ℕ) (width : ℕ) : Type 0 where
   pub long : length atoms ≡ 256
   pub bits : (i : ℕ) → i < width → getD atoms i 0 ≤ 1

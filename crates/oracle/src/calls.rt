@@ -10,7 +10,7 @@ ghost use Rattle.numset.specs.Runs.{pack};
 ghost use Rattle.pmtl.specs.Book.{start, stop, some};
 ghost use Rattle.pmtl.specs.Answer.{bitOf};
 ghost use Rattle.pmtl.specs.Calls.{Call};
-ghost use Rattle.rows.specs.Memory.{ATOMS, SET, SIZE, part, rowCount, widthWord, temporals, kindAt, ownerAt, setStart, setWords, BookKept};
+ghost use Rattle.rows.specs.Memory.{ATOMS, SET, SIZE, part, rowCount, widthWord, temporals, kindAt, setStart, setWords, BookKept};
 ghost use Rattle.book.specs.Kept.{Kept};
 ghost use Rattle.oracle.specs.Steps.{firstBytes, Bytes, snapOf, rangeAt, modeAt, setAfter, rowPlan, Bounded, Slot, Planned, Timely, Fit, Fitting, Written, Headed, Advanced};
 ghost use Rattle.oracle.specs.Oracle.{Called};

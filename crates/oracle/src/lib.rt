@@ -1,7 +1,6 @@
 // The oracle: `PmtlOracle` of the original, in lent words.
 mod calls;
 
-ghost use mathlib.Core.Path.{_≡_};
 ghost use Rattle.pmtl.specs.Calls.{Call};
 ghost use Rattle.book.specs.Kept.{Kept};
 ghost use Rattle.oracle.specs.Oracle.{Called};

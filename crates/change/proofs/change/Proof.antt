@@ -3,11 +3,6 @@ use native.Mathlib.Omega.{arith}
 use borrow.Author.Needs.{needs}
 use Rattle.change.proofs.change.Statement.{statement}
 use Rattle.change.proofs.change.Tie as tie
-use Rattle.change.proofs.change.Reads as reads
-use Rattle.change.proofs.change.Lts as lts
-use Rattle.numset.proofs.add.Reads as add-reads
-use Rattle.numset.proofs.clear.Reads as clear-reads
-use Rattle.numset.proofs.set_to.Reads as set-to-reads
 
 -- src/lib.rt:73:9
 returns : tie.Need-returns

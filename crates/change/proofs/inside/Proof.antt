@@ -1,10 +1,7 @@
 use borrow.Author.Tests.{le-leb, lt-leb}
 use mathlib.Core.Path.{sym}
-use borrow.Author.Needs.{needs}
 use Rattle.change.proofs.inside.Statement.{statement}
 use Rattle.change.proofs.inside.Tie as tie
-use Rattle.change.proofs.inside.Reads as reads
-use Rattle.change.proofs.inside.Lts as lts
 
 -- src/lib.rt:31:9
 returns : tie.Need-returns

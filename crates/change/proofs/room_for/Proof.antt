@@ -3,9 +3,6 @@ use mathlib.Core.Path.{_∙_, sym}
 use borrow.Author.Needs.{needs}
 use Rattle.change.proofs.room_for.Statement.{statement}
 use Rattle.change.proofs.room_for.Tie as tie
-use Rattle.change.proofs.room_for.Reads as reads
-use Rattle.change.proofs.room_for.Lts as lts
-use Rattle.numset.proofs.has_room.Reads as has-room-reads
 
 -- src/lib.rt:43:9
 has-room-requires : tie.Need-has-room-requires

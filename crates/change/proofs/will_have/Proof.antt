@@ -4,10 +4,6 @@ use native.Mathlib.Omega.{arith}
 use borrow.Author.Needs.{needs}
 use Rattle.change.proofs.will_have.Statement.{statement}
 use Rattle.change.proofs.will_have.Tie as tie
-use Rattle.change.proofs.will_have.Reads as reads
-use Rattle.change.proofs.will_have.Lts as lts
-use Rattle.change.proofs.inside.Reads as inside-reads
-use Rattle.numset.proofs.contains.Reads as contains-reads
 
 -- src/lib.rt:54:18
 contains-requires : tie.Need-contains-requires

@@ -6,11 +6,6 @@ use native.Mathlib.Omega.{arith}
 use borrow.Author.Needs.{needs}
 use Rattle.oracle.proofs.calls.advance.Statement.{statement}
 use Rattle.oracle.proofs.calls.advance.Tie as tie
-use Rattle.oracle.proofs.calls.advance.Reads as reads
-use Rattle.oracle.proofs.calls.advance.Lts as lts
-use Rattle.oracle.proofs.calls.commit.Reads as commit-reads
-use Rattle.oracle.proofs.calls.plan_call.Reads as plan-call-reads
-use Rattle.oracle.proofs.calls.put_head.Reads as put-head-reads
 
 -- src/calls.rt:222:9
 plan-call-requires : tie.Need-plan-call-requires

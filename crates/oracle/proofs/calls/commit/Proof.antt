@@ -3,15 +3,11 @@ use Rattle.oracle.specs.Steps.{setAfter, Written}
 use Rattle.rows.specs.Memory.{temporals}
 use lib.ListN.{getD}
 use mathlib.Core.Path.{_≡_, sym, _∙_}
-use Prim.Native.Nat.{ℕ, _≤_, _-_}
+use Prim.Native.Nat.{_≤_, _-_}
 use native.Mathlib.Omega.{arith}
 use borrow.Author.Needs.{needs}
 use Rattle.oracle.proofs.calls.commit.Statement.{statement}
 use Rattle.oracle.proofs.calls.commit.Tie as tie
-use Rattle.oracle.proofs.calls.commit.Reads as reads
-use Rattle.oracle.proofs.calls.commit.Lts as lts
-use Rattle.oracle.proofs.calls.commit_slot.Reads as commit-slot-reads
-use Rattle.rows.proofs.temporal_count.Reads as temporal-count-reads
 
 abbrev Inv-loop : tie.InvT-loop
 Inv-loop monitor₀ clock modes count slot₀ monitor slot = (slot ≤ count) × (count ≡ temporals monitor₀) × Written monitor₀ (λ j. setAfter monitor₀ clock (getD modes j 0) j) slot monitor

@@ -2,16 +2,9 @@ use Rattle.oracle.proofs.Commits.{cut, put-as, commit-none, fit-good, f
 use Rattle.rows.specs.Memory.{SETS, SET}
 use mathlib.Core.Path.{refl}
 use Prim.Native.Nat.{ℕ, _+_, _*_}
-use native.Mathlib.Omega.{arith}
 use borrow.Author.Needs.{needs}
 use Rattle.oracle.proofs.calls.commit_slot.Statement.{statement}
 use Rattle.oracle.proofs.calls.commit_slot.Tie as tie
-use Rattle.oracle.proofs.calls.commit_slot.Reads as reads
-use Rattle.oracle.proofs.calls.commit_slot.Lts as lts
-use Rattle.change.proofs.change.Reads as change-reads
-use Rattle.oracle.proofs.calls.start_of.Reads as start-of-reads
-use Rattle.oracle.proofs.calls.stop_of.Reads as stop-of-reads
-use Rattle.rows.proofs.owner_at.Reads as owner-at-reads
 
 -- src/calls.rt:172:9
 returns : tie.Need-returns

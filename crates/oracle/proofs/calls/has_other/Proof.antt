@@ -10,8 +10,6 @@ use Prim.Native.Nat.{ℕ, _≤_, _<_, _-_}
 use borrow.Author.Needs.{needs}
 use Rattle.oracle.proofs.calls.has_other.Statement.{statement}
 use Rattle.oracle.proofs.calls.has_other.Tie as tie
-use Rattle.oracle.proofs.calls.has_other.Reads as reads
-use Rattle.oracle.proofs.calls.has_other.Lts as lts
 
 abbrev Inv-loop : tie.InvT-loop
 Inv-loop state i₀ i = (i ≤ length state) × ((k : ℕ) → k < i → ltb 1 (getD state k 0) ≡ false)

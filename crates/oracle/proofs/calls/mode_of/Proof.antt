@@ -4,13 +4,6 @@ use native.Mathlib.Omega.{arith}
 use borrow.Author.Needs.{needs}
 use Rattle.oracle.proofs.calls.mode_of.Statement.{statement}
 use Rattle.oracle.proofs.calls.mode_of.Tie as tie
-use Rattle.oracle.proofs.calls.mode_of.Reads as reads
-use Rattle.oracle.proofs.calls.mode_of.Lts as lts
-use Rattle.change.proofs.mode.Reads as mode-reads
-use Rattle.rows.proofs.kind_at.Reads as kind-at-reads
-use Rattle.rows.proofs.operand_at.Reads as operand-at-reads
-use Rattle.rows.proofs.output.Reads as output-reads
-use Rattle.rows.proofs.start_at.Reads as start-at-reads
 
 -- src/calls.rt:61:9
 kind-at-requires : tie.Need-kind-at-requires

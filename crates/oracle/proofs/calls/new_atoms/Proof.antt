@@ -1,15 +1,13 @@
 use Rattle.oracle.proofs.Heads.{copy-more}
 use lib.Seq.{paste-zero}
 use Rattle.oracle.specs.Steps.{firstBytes}
-use lib.ListN.{length, getD, replicate}
+use lib.ListN.{replicate}
 use mathlib.Core.Path.{_≡_, refl, ap, _∙_}
 use native.Mathlib.Omega.{arith}
-use Prim.Native.Nat.{ℕ, _≤_, _<_, _-_}
+use Prim.Native.Nat.{_≤_, _-_}
 use borrow.Author.Needs.{needs}
 use Rattle.oracle.proofs.calls.new_atoms.Statement.{statement}
 use Rattle.oracle.proofs.calls.new_atoms.Tie as tie
-use Rattle.oracle.proofs.calls.new_atoms.Reads as reads
-use Rattle.oracle.proofs.calls.new_atoms.Lts as lts
 
 abbrev Inv-loop : tie.InvT-loop
 Inv-loop state count atoms₀ i₀ atoms i = (i ≤ count) × (atoms ≡ firstBytes state i)

@@ -3,17 +3,13 @@ use Rattle.oracle.proofs.Heads.{copy-more}
 use Rattle.store.proofs.Parts.{part-at, part-length}
 use Rattle.rows.specs.Memory.{ATOMS, part, widthWord}
 use lib.Seq.{paste-zero}
-use lib.ListN.{length, getD, replicate}
+use lib.ListN.{replicate}
 use mathlib.Core.Path.{_≡_, sym, ap, _∙_}
-use Prim.Native.Nat.{ℕ, _≤_, _-_}
+use Prim.Native.Nat.{_≤_, _-_}
 use native.Mathlib.Omega.{arith}
 use borrow.Author.Needs.{needs}
 use Rattle.oracle.proofs.calls.old_atoms.Statement.{statement}
 use Rattle.oracle.proofs.calls.old_atoms.Tie as tie
-use Rattle.oracle.proofs.calls.old_atoms.Reads as reads
-use Rattle.oracle.proofs.calls.old_atoms.Lts as lts
-use Rattle.rows.proofs.width.Reads as width-reads
-use Rattle.rows.proofs.word.Reads as word-reads
 
 abbrev Inv-loop : tie.InvT-loop
 Inv-loop monitor count atoms₀ i₀ atoms i = (i ≤ count) × (count ≡ widthWord monitor) × (atoms ≡ firstBytes (part ATOMS 256 monitor) i)

@@ -1,16 +1,10 @@
 use Rattle.oracle.proofs.Plans.{Going, going-start, going-more, going-full, going-done}
 use Rattle.rows.specs.Memory.{temporals}
 use mathlib.Core.Path.{_≡_}
-use Prim.Native.Nat.{ℕ, _≤_, _-_}
+use Prim.Native.Nat.{_≤_, _-_}
 use native.Mathlib.Omega.{arith}
-use borrow.Author.Needs.{needs}
 use Rattle.oracle.proofs.calls.plan_call.Statement.{statement}
 use Rattle.oracle.proofs.calls.plan_call.Tie as tie
-use Rattle.oracle.proofs.calls.plan_call.Reads as reads
-use Rattle.oracle.proofs.calls.plan_call.Lts as lts
-use Rattle.oracle.proofs.calls.plan_row.Reads as plan-row-reads
-use Rattle.rows.proofs.owner_at.Reads as owner-at-reads
-use Rattle.rows.proofs.temporal_count.Reads as temporal-count-reads
 
 abbrev Inv-loop : tie.InvT-loop
 Inv-loop monitor clock atoms count facts₀ modes₀ slot₀ facts modes slot = (slot ≤ count) × (count ≡ temporals monitor) × Going monitor clock atoms facts modes slot

@@ -1,17 +1,7 @@
 use Rattle.oracle.proofs.Plans.{slot-small, slot-row, slot-kind, slot-bounded, slot-good, slot-long, plan-made}
-use native.Mathlib.Omega.{arith}
 use borrow.Author.Needs.{needs}
 use Rattle.oracle.proofs.calls.plan_row.Statement.{statement}
 use Rattle.oracle.proofs.calls.plan_row.Tie as tie
-use Rattle.oracle.proofs.calls.plan_row.Reads as reads
-use Rattle.oracle.proofs.calls.plan_row.Lts as lts
-use Rattle.change.proofs.room_for.Reads as room-for-reads
-use Rattle.change.proofs.will_have.Reads as will-have-reads
-use Rattle.oracle.proofs.calls.bit.Reads as bit-reads
-use Rattle.oracle.proofs.calls.mode_of.Reads as mode-of-reads
-use Rattle.oracle.proofs.calls.set_at.Reads as set-at-reads
-use Rattle.oracle.proofs.calls.start_of.Reads as start-of-reads
-use Rattle.oracle.proofs.calls.stop_of.Reads as stop-of-reads
 
 -- src/calls.rt:122:9
 mode-of-requires : tie.Need-mode-of-requires

@@ -3,15 +3,11 @@ use Rattle.oracle.specs.Steps.{Atoms}
 use Rattle.rows.specs.Memory.{widthWord}
 use lib.ListN.{length-set}
 use mathlib.Core.Path.{_≡_, sym, _∙_}
-use Prim.Native.Nat.{ℕ, _≤_, _-_}
+use Prim.Native.Nat.{_≤_, _-_}
 use native.Mathlib.Omega.{arith}
 use borrow.Author.Needs.{needs}
 use Rattle.oracle.proofs.calls.put_head.Statement.{statement}
 use Rattle.oracle.proofs.calls.put_head.Tie as tie
-use Rattle.oracle.proofs.calls.put_head.Reads as reads
-use Rattle.oracle.proofs.calls.put_head.Lts as lts
-use Rattle.oracle.proofs.calls.wide.Reads as wide-reads
-use Rattle.rows.proofs.width.Reads as width-reads
 
 abbrev Inv-loop : tie.InvT-loop
 Inv-loop monitor₀ clock atoms count i₀ monitor i = (i ≤ count) × (count ≡ widthWord monitor₀) × Atoms monitor₀ atoms i monitor

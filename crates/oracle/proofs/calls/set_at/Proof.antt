@@ -5,8 +5,6 @@ use Prim.Native.Nat.{ℕ, _+_, _*_}
 use borrow.Author.Needs.{needs}
 use Rattle.oracle.proofs.calls.set_at.Statement.{statement}
 use Rattle.oracle.proofs.calls.set_at.Tie as tie
-use Rattle.oracle.proofs.calls.set_at.Reads as reads
-use Rattle.oracle.proofs.calls.set_at.Lts as lts
 
 -- src/calls.rt:99:29
 mul-from : tie.Need-mul-from

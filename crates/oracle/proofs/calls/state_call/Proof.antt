@@ -2,13 +2,6 @@ use Rattle.oracle.proofs.Public.{state-wide, state-short, state-other, 
 use borrow.Author.Needs.{needs}
 use Rattle.oracle.proofs.calls.state_call.Statement.{statement}
 use Rattle.oracle.proofs.calls.state_call.Tie as tie
-use Rattle.oracle.proofs.calls.state_call.Reads as reads
-use Rattle.oracle.proofs.calls.state_call.Lts as lts
-use Rattle.oracle.proofs.calls.advance.Reads as advance-reads
-use Rattle.oracle.proofs.calls.has_other.Reads as has-other-reads
-use Rattle.oracle.proofs.calls.new_atoms.Reads as new-atoms-reads
-use Rattle.rows.proofs.clock.Reads as clock-reads
-use Rattle.rows.proofs.width.Reads as width-reads
 
 -- src/calls.rt:297:9
 returns : tie.Need-returns

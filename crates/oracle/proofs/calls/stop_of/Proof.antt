@@ -5,9 +5,6 @@ use native.Mathlib.Omega.{arith}
 use borrow.Author.Needs.{needs}
 use Rattle.oracle.proofs.calls.stop_of.Statement.{statement}
 use Rattle.oracle.proofs.calls.stop_of.Tie as tie
-use Rattle.oracle.proofs.calls.stop_of.Reads as reads
-use Rattle.oracle.proofs.calls.stop_of.Lts as lts
-use Rattle.rows.proofs.upper_at.Reads as upper-at-reads
 
 -- src/calls.rt:87:9
 upper-at-requires : tie.Need-upper-at-requires

@@ -2,11 +2,6 @@ use Rattle.oracle.proofs.Public.{old-bytes, time-early, time-late, time
 use borrow.Author.Needs.{needs}
 use Rattle.oracle.proofs.calls.time_call.Statement.{statement}
 use Rattle.oracle.proofs.calls.time_call.Tie as tie
-use Rattle.oracle.proofs.calls.time_call.Reads as reads
-use Rattle.oracle.proofs.calls.time_call.Lts as lts
-use Rattle.oracle.proofs.calls.advance.Reads as advance-reads
-use Rattle.oracle.proofs.calls.old_atoms.Reads as old-atoms-reads
-use Rattle.rows.proofs.clock.Reads as clock-reads
 
 -- src/calls.rt:281:15
 clock-requires : tie.Need-clock-requires
