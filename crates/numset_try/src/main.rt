@@ -263,20 +263,41 @@ fn by_value() {
     ask_value(NumSet::from_interval(10, MAX), 10);
 }
 
-fn main() {
-    let mut set = [7u64; 129];
-    numset::empty(&mut set);
-    first_examples(&mut set);
-    last_examples(&mut set);
-    lost_example(&mut set);
-    members(&mut set);
-    coverage(&mut set);
-    ends(&mut set);
-    whole(&mut set);
-    neighbours(&mut set);
-    overlaps(&mut set);
-    limit(&mut set);
-    joined(&mut set);
+fn examples(set: &mut [u64])
+    requires { ⌜ Good (now set) ⌝ }
+    ensures { λ _. ⌜ Good (now (set .exit)) ⌝ }
+{
+    first_examples(set);
+    last_examples(set);
+    lost_example(set);
+    members(set);
+    coverage(set);
+}
+
+fn edges(set: &mut [u64])
+    requires { ⌜ Good (now set) ⌝ }
+    ensures { λ _. ⌜ Good (now (set .exit)) ⌝ }
+{
+    ends(set);
+    whole(set);
+    neighbours(set);
+    overlaps(set);
+    limit(set);
+    joined(set);
+}
+
+// The words may hold anything at first.
+fn show_all(set: &mut [u64])
+    requires { ⌜ 0 < length (now set) ⌝ }
+{
+    numset::empty(set);
+    examples(set);
+    edges(set);
     small();
     by_value();
+}
+
+fn main() {
+    let mut set = [7u64; 129];
+    show_all(&mut set);
 }
