@@ -179,7 +179,8 @@ fn join(set: &[u64], end: usize, lower: u64, upper: u64) -> Span
             };
         }
         start -= 1;
-        low = lesser(low, lower_at(set, start));
+        let bottom = lower_at(set, start);
+        low = lesser(low, bottom);
         high = greater(high, top);
     }
     Span {
