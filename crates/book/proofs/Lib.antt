@@ -1,0 +1,10 @@
+pub mod Tests
+pub mod Accepted
+pub mod Placing
+pub mod Sections
+pub mod Forms
+pub mod Rows
+pub mod All
+pub mod Links
+pub mod Uses
+pub mod Judges

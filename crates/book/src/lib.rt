@@ -1,0 +1,2 @@
+// The book: words to a loaded monitor.
+pub mod check;

@@ -1,0 +1,158 @@
+-- Lists of calls, refused ones among them: a call leaves the state, or goes on along the history. Assumes nothing.
+use Prim.Native.Nat.{ℕ, zero, suc, _≤_}
+use native.Mathlib.Omega.{arith}
+use native.Mathlib.Nat.{not-suc-le-zero, le-of-suc-le-suc}
+use mathlib.Core.Path.{_≡_, refl, sym, ap, ap₂, _∙_}
+use mathlib.Core.Bool.{Bool, true, false, cond}
+use mathlib.Core.List.{List, [], _∷_, _++_}
+use lib.ListN.{length, drop}
+use lib.Dec.{ltb, eqb}
+use borrow.Author.Tests.{ltb-false, eqb-true, ne-eqb}
+use Rattle.pmtl.specs.Book.{H, Rows}
+use Rattle.pmtl.specs.Monitor.{Snap, State, step}
+use Rattle.pmtl.specs.Calls.{Call, time, state, turns, refusal, crowded, Outcome, play, call, after, History, nowOf, onto, accepted}
+use Rattle.pmtl.proofs.History.{run, Legal, now-run, small-clock}
+
+-- the state after snapshots in turn
+unfoldable steps : Rows → State → List Snap → State
+steps b st [] = st
+steps b st (n ∷ ns) = steps b (step b st n) ns
+
+-- an outcome: a number other than 0 and the old state, or 0 and the new one
+data Either (old new : State) (o : Outcome) : Type 0 where
+  stayed : eqb (o .number) 0 ≡ false → o .state ≡ old → Either old new o
+  moved : eqb (o .number) 0 ≡ true → o .state ≡ new → Either old new o
+
+played : (b : Rows) (old st : State) (ns : List Snap) → Either old (steps b st ns) (play b old st ns)
+unfolding play steps
+played b old st [] = moved refl refl
+played b old st (n ∷ ns) = go (crowded (step b st n)) (played b old (step b st n) ns)
+  where
+    go : (z : Bool) → Either old (steps b (step b st n) ns) (play b old (step b st n) ns)
+        → Either old (steps b (step b st n) ns) (elim z [ true ↦ record { number = 11; state = old } | false ↦ play b old (step b st n) ns ])
+    go true ih = stayed refl refl
+    go false ih = ih
+
+-- a call that moves is not refused for what it is
+record Called (b : Rows) (st : State) (k : Call) (o : Outcome) : Type 0 where
+  either : Either st (steps b st (turns b (st .now) k)) o
+  sound : eqb (o .number) 0 ≡ true → refusal b (st .now) k ≡ 0
+
+called : (b : Rows) (st : State) (k : Call) → Called b st k (call b st k)
+unfolding call
+called b st k = go (eqb (refusal b (st .now) k) 0) refl
+  where
+    go : (z : Bool) → eqb (refusal b (st .now) k) 0 ≡ z → Called b st k (elim z [
+      | true ↦ play b st st (turns b (st .now) k)
+      | false ↦ record { number = refusal b (st .now) k; state = st }
+    ])
+    go true e = record { either = played b st st (turns b (st .now) k); sound = λ h. eqb-true (refusal b (st .now) k) 0 e }
+    go false e = record { either = stayed e refl; sound = λ h. eqb-true (refusal b (st .now) k) 0 h }
+
+-- a refused call leaves the state as it was
+pub refused-stays : (b : Rows) (st : State) (k : Call) → ¬ (call b st k .number ≡ 0) → call b st k .state ≡ st
+refused-stays b st k n = go (called b st k .either)
+  where
+    go : Either st (steps b st (turns b (st .now) k)) (call b st k) → call b st k .state ≡ st
+    go (stayed z e) = e
+    go (moved z e) = absurd (n (eqb-true (call b st k .number) 0 z))
+
+-- steps go on along the history
+steps-run : (b : Rows) (ns : List Snap) (h : History) → steps b (run b h) ns ≡ run b (onto ns h)
+unfolding steps onto run
+steps-run b [] h = refl
+steps-run b (n ∷ ns) h = steps-run b ns (n ∷ h)
+
+-- a call that is not refused for what it is is legal
+first-zero : (a : Bool) (n m : ℕ) → cond a (suc n) m ≡ 0 → (a ≡ false) × (m ≡ 0)
+first-zero true n m e = absurd (omega arith)
+first-zero false n m e = (refl, e)
+
+legal-call : (b : Rows) (h : History) → Legal b h → (k : Call) → refusal b (nowOf b h) k ≡ 0 → Legal b (onto (turns b (nowOf b h) k) h)
+unfolding onto refusal
+legal-call b h l (time t) e =
+    let p = first-zero (ltb t (nowOf b h .clock)) 6 (cond (ltb H t) 8 0) e in
+    let q = first-zero (ltb H t) 7 0 (p .1) in
+    let up : t ≤ H = ltb-false H t (q .0) in
+    (ltb-false t (nowOf b h .clock) (p .0), omega arith, l)
+legal-call b h l (state bs) e = (omega arith, small-clock b h l, l)
+
+-- calls leave the state of a legal history, that of the accepted ones
+pub record Trail (b : Rows) (ks : List Call) (h : History) : Type 0 where
+  pub is : after b ks ≡ run b h
+  pub legal : Legal b h
+
+pub trail : (b : Rows) (ks : List Call) → Trail b ks (accepted b ks)
+unfolding after accepted run
+trail b [] = record { is = refl; legal = tt }
+trail b (k ∷ ks) = go (trail b ks) (called b (after b ks) k .either) (called b (after b ks) k .sound)
+  where
+    go : Trail b ks (accepted b ks) → Either (after b ks) (steps b (after b ks) (turns b (after b ks .now) k)) (call b (after b ks) k)
+        → (eqb (call b (after b ks) k .number) 0 ≡ true → refusal b (after b ks .now) k ≡ 0) → Trail b (k ∷ ks) (accepted b (k ∷ ks))
+    go ih (stayed z e) sound = rw (z, accepted) (record { is = e ∙ ih .is; legal = ih .legal })
+    go ih (moved z e) sound =
+        let here : after b ks .now ≡ nowOf b (accepted b ks) = ap (λ (st : State). st .now) (ih .is) ∙ now-run b (accepted b ks) in
+        rw (z, accepted) (rw here (record {
+          is = e ∙ ap₂ (λ st n. steps b st (turns b n k)) (ih .is) here ∙ steps-run b (turns b (nowOf b (accepted b ks)) k) (accepted b ks);
+          legal = legal-call b (accepted b ks) (ih .legal) k (rw here at (sound z));
+        }))
+
+-- further calls only add to the history
+onto-append : (ns h h′ : History) → onto ns (h ++ h′) ≡ onto ns h ++ h′
+unfolding onto
+onto-append [] h h′ = refl
+onto-append (n ∷ ns) h h′ = onto-append ns (n ∷ h) h′
+
+pub further : (b : Rows) (more ks : List Call) → (h : History) × (accepted b (more ++ ks) ≡ h ++ accepted b ks)
+unfolding accepted
+further b [] ks = ([], refl)
+further b (k ∷ more) ks = go (eqb (call b (after b (more ++ ks)) k .number) 0) (further b more ks)
+  where
+    ns : List Snap
+    ns = turns b (after b (more ++ ks) .now) k
+
+    go : (z : Bool) → (h : History) × (accepted b (more ++ ks) ≡ h ++ accepted b ks)
+        → (h : History) × (cond z (onto ns (accepted b (more ++ ks))) (accepted b (more ++ ks)) ≡ h ++ accepted b ks)
+    go true ih = (onto ns (ih .0), ap (onto ns) (ih .1) ∙ onto-append ns (ih .0) (accepted b ks))
+    go false ih = ih
+
+-- after a refused call, further calls leave the state and the history that they leave without it
+module _ (b : Rows) (k : Call) (calls : List Call) (n : ¬ (call b (after b calls) k .number ≡ 0)) where
+  pub after-refused : (more : List Call) → after b (more ++ k ∷ calls) ≡ after b (more ++ calls)
+  unfolding after
+  after-refused [] = refused-stays b (after b calls) k n
+  after-refused (m ∷ more) = ap (λ st. call b st m .state) (after-refused more)
+
+  pub accepted-refused : (more : List Call) → accepted b (more ++ k ∷ calls) ≡ accepted b (more ++ calls)
+  unfolding accepted
+  accepted-refused [] = rw (ne-eqb (call b (after b calls) k .number) 0 n)
+  accepted-refused (m ∷ more) = ap₂ (λ st h. cond (eqb (call b st m .number) 0) (onto (turns b (st .now) m) h) h) (after-refused more) (accepted-refused more)
+
+-- the calls up to the one that was accepted k accepted calls ago
+abbrev pub Past : Rows → List Call → ℕ → Type 0
+Past b calls k = (past : List Call) × ((newer : List Call) × (calls ≡ newer ++ past)) × (accepted b past ≡ drop k (accepted b calls))
+
+-- each call leaves one snapshot, so that what the history was k snapshots ago is the history of those calls
+one-turn : (b : Rows) (now : Snap) (k : Call) (h : History) → (s : Snap) × (onto (turns b now k) h ≡ s ∷ h)
+unfolding onto
+one-turn b now (time t) h = (_, refl)
+one-turn b now (state bytes) h = (_, refl)
+
+pub past-calls : (b : Rows) (calls : List Call) (k : ℕ) → k ≤ length (accepted b calls) → Past b calls k
+unfolding accepted
+past-calls b [] zero h = ([], ([], refl), refl)
+past-calls b [] (suc k) h = absurd (not-suc-le-zero h)
+past-calls b (c ∷ ks) zero h = (c ∷ ks, ([], refl), refl)
+past-calls b (c ∷ ks) (suc k) h = go (eqb (call b (after b ks) c .number) 0) (past-calls b ks (suc k)) (past-calls b ks k) h
+  where
+    ns : List Snap
+    ns = turns b (after b ks .now) c
+
+    go : (z : Bool) → (suc k ≤ length (accepted b ks) → Past b ks (suc k)) → (k ≤ length (accepted b ks) → Past b ks k)
+        → suc k ≤ length (cond z (onto ns (accepted b ks)) (accepted b ks))
+        → (past : List Call) × ((newer : List Call) × (c ∷ ks ≡ newer ++ past)) × (accepted b past ≡ drop (suc k) (cond z (onto ns (accepted b ks)) (accepted b ks)))
+    go true ih ih′ l =
+        let o = one-turn b (after b ks .now) c (accepted b ks) in
+        let p = ih′ (le-of-suc-le-suc (rw (o .1) at l)) in
+        (p .0, (c ∷ p .1 .0, ap (λ q. c ∷ q) (p .1 .1)), p .2 ∙ sym (ap (drop (suc k)) (o .1)))
+    go false ih ih′ l = let p = ih l in (p .0, (c ∷ p .1 .0, ap (λ q. c ∷ q) (p .1 .1)), p .2)

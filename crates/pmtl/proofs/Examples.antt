@@ -1,0 +1,94 @@
+-- P1 to P12 of document 01, computed by the definitions: one list, one statement.
+use Prim.Native.Nat.{ℕ}
+use mathlib.Core.Path.{_≡_, refl}
+use mathlib.Core.List.{List, [], _∷_, map}
+use Rattle.numset.specs.Runs.{MAX, run, Runs, has, covers, insert, union}
+use Rattle.pmtl.specs.Answer.{bitOf, digitOf}
+use Rattle.pmtl.specs.Book.{Range, stop, Rows, widthOf, table, answer, every, some}
+use Rattle.pmtl.specs.Book.Row.{never, always, atom, conj, disj, historically, once, since}
+use Rattle.pmtl.specs.Sets.{kept, gone, staysIf, addedIf, renewed, setRule}
+use Rattle.pmtl.specs.Monitor.{State, initial, valueRule, value, step}
+use Rattle.pmtl.specs.Early.{earlyRule, early}
+use Rattle.pmtl.specs.Settled.{settledTrue, settledFalse, settled}
+use Rattle.pmtl.specs.Calls.{Call, time, state, refusal, crowded, play, call, after}
+
+-- what an example gives: a set; a row's value after each of some calls; its value, early and settled answer after each
+pub data Result : Type 0 where
+  set : Runs → Result
+  values : List ℕ → Result
+  answers : List (List ℕ) → Result
+
+-- what the definitions give, and what 01 says
+pub record Example : Type 0 where
+  pub found : Result
+  pub stated : Result
+
+abbrev pub foundIn : Example → Result
+foundIn x = x .found
+
+abbrev pub statedIn : Example → Result
+statedIn x = x .stated
+
+infixl 20 _gives_
+abbrev pub _gives_ : Result → Result → Example
+found gives stated = record { found = found; stated = stated }
+
+-- after each call of a list, the oldest first, made after those of `done`, the newest first
+unfoldable pub eachAfter : {A : Type 0} → (State → A) → Rows → List Call → List Call → List A
+eachAfter f b done [] = []
+eachAfter f b done (k ∷ ks) = f (after b (k ∷ done)) ∷ eachAfter f b (k ∷ done) ks
+
+-- of row r
+abbrev pub valuesOf : Rows → ℕ → List Call → List Call → Result
+valuesOf b r done ks = values (eachAfter (λ st. bitOf (value b st r)) b done ks)
+
+abbrev pub answersOf : Rows → ℕ → List Call → Result
+answersOf b r ks = answers (eachAfter (λ st. bitOf (value b st r) ∷ digitOf (early b st r) ∷ digitOf (settled b st r) ∷ []) b [] ks)
+
+abbrev pub range : ℕ → ℕ → Range
+range l u = record { lower = l; upper = u }
+
+-- state calls of one atom and of two, as 01 writes them
+abbrev pub s0 : Call
+s0 = state (0 ∷ [])
+
+abbrev pub s1 : Call
+s1 = state (1 ∷ [])
+
+abbrev pub s : ℕ → ℕ → Call
+s x y = state (x ∷ y ∷ [])
+
+abbrev pub examples : List Example
+examples =
+    -- P1 {[0,1]} add [2,3]: {[0,3]}
+    (set (union 2 3 (run 0 1 ∷ [])) gives set (run 0 3 ∷ []))
+    -- P2 {[0,1],[4,5]} add [2,3]: {[0,5]}
+    ∷ (set (union 2 3 (run 4 5 ∷ run 0 1 ∷ [])) gives set (run 0 5 ∷ []))
+    -- P3 {[0,1]} add [3,2]: unchanged
+    ∷ (set (union 3 2 (run 0 1 ∷ [])) gives set (run 0 1 ∷ []))
+    -- P4 {[0,1],[10,20]} add [5,9]: {[0,1],[5,20]}
+    ∷ (set (union 5 9 (run 10 20 ∷ run 0 1 ∷ [])) gives set (run 5 20 ∷ run 0 1 ∷ []))
+    -- P5 {[0,1],[10,20],[30,40]} add [15,29]: {[0,1],[10,40]}
+    ∷ (set (union 15 29 (run 30 40 ∷ run 10 20 ∷ run 0 1 ∷ [])) gives set (run 10 40 ∷ run 0 1 ∷ []))
+    -- P6 Once[2,3] a; s1, s0, then t1, t2, t3, t4: values 0, 1, 1, 0
+    ∷ (valuesOf (atom 0 ∷ once (range 2 3) 0 ∷ []) 1 (s0 ∷ s1 ∷ []) (time 1 ∷ time 2 ∷ time 3 ∷ time 4 ∷ []) gives values (0 ∷ 1 ∷ 1 ∷ 0 ∷ []))
+    -- P7 Once[1,1] a; s1, t5: value 0, though a held throughout
+    ∷ (valuesOf (atom 0 ∷ once (range 1 1) 0 ∷ []) 1 (s1 ∷ []) (time 5 ∷ []) gives values (0 ∷ []))
+    -- P8 Historically[0,0] a; t4, s1: value 0
+    ∷ (valuesOf (atom 0 ∷ historically (range 0 0) 0 ∷ []) 1 (time 4 ∷ []) (s1 ∷ []) gives values (0 ∷ []))
+    -- P9 Since(a,b)[0,MAX]; s01, s10, t7, s00: values 1, 1, 1, 0
+    ∷ (valuesOf (atom 0 ∷ atom 1 ∷ since (range 0 MAX) 0 1 ∷ []) 2 [] (s 0 1 ∷ s 1 0 ∷ time 7 ∷ s 0 0 ∷ []) gives values (1 ∷ 1 ∷ 1 ∷ 0 ∷ []))
+    -- P10 Since(False,True)[0,MAX]; t0: 101
+    ∷ (answersOf (never ∷ always ∷ since (range 0 MAX) 0 1 ∷ []) 2 (time 0 ∷ []) gives answers ((1 ∷ 0 ∷ 1 ∷ []) ∷ []))
+    -- P11 And(False,a); s1: 022 is wrong, 020 is right. After t0, empty And 111, empty Or 000
+    ∷ (answersOf (never ∷ atom 0 ∷ conj (0 ∷ 1 ∷ []) ∷ []) 2 (s1 ∷ []) gives answers ((0 ∷ 2 ∷ 0 ∷ []) ∷ []))
+    ∷ (answersOf (conj [] ∷ []) 0 (time 0 ∷ []) gives answers ((1 ∷ 1 ∷ 1 ∷ []) ∷ []))
+    ∷ (answersOf (disj [] ∷ []) 0 (time 0 ∷ []) gives answers ((0 ∷ 0 ∷ 0 ∷ []) ∷ []))
+    -- P12 Once[0,MAX] Historically[0,MAX] a; s1, s0: 111, then 101
+    ∷ (answersOf (atom 0 ∷ historically (range 0 MAX) 0 ∷ once (range 0 MAX) 1 ∷ []) 2 (s1 ∷ s0 ∷ []) gives answers ((1 ∷ 1 ∷ 1 ∷ []) ∷ (1 ∷ 0 ∷ 1 ∷ []) ∷ []))
+    ∷ []
+
+-- each gives what 01 says
+pub P1-to-P12 : map foundIn examples ≡ map statedIn examples
+unfolding eachAfter has covers insert union stop widthOf table answer every some kept gone staysIf addedIf renewed setRule initial valueRule value step earlyRule early settledTrue settledFalse settled refusal crowded play call after
+P1-to-P12 = refl

@@ -1,0 +1,12 @@
+pub mod Bools
+pub mod Table
+pub mod Steps
+pub mod Seams
+pub mod Renewed
+pub mod History
+pub mod Values
+pub mod Settled
+pub mod Ago
+pub mod Calls
+pub mod Theorems
+pub mod Examples

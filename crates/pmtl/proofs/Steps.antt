@@ -1,0 +1,145 @@
+-- What a state and a step are, row by row: each answer is its rule at the operands' answers. All that the theorems need of the tables.
+-- Assumes nothing.
+use Prim.Native.Nat.{ℕ, _<_, _≤_}
+use native.Mathlib.Omega.{arith}
+use native.Mathlib.Decide.{decLt}
+use mathlib.Core.Path.{_≡_, refl, sym, ap, ap₂, _∙_, fun-ext}
+use mathlib.Core.Bool.{Bool, true, false, cond}
+use mathlib.Core.List.{map}
+use lib.ListN.{length, getD, length-map, List·getD-map}
+use Rattle.numset.specs.Runs.{Runs, has, covers}
+use Rattle.pmtl.specs.declared.Answer.the-variants.{Open}
+use Rattle.pmtl.specs.Book.{Row, mapRow, Rows, rowAt, Ordered, table, answer}
+use Rattle.pmtl.specs.Book.Row.{never}
+use Rattle.pmtl.specs.Sets.{gone, setRule}
+use Rattle.pmtl.specs.Monitor.{Snap, State, setAt, valueRule, Cell, setIn, valueIn, noCell, cellRule, step, value}
+use Rattle.pmtl.specs.Early.{earlyRule, early}
+use Rattle.pmtl.specs.Settled.{settledRule, settled}
+use Rattle.pmtl.proofs.Table.{answer-in, answer-out, answer-made, answer-fix, answer-only, mapRow-mapRow, mapRow-local, table-length, by-rows}
+
+module _ (b : Rows) (st : State) where
+  -- rows that are not there
+  pub value-out : (r : ℕ) → length b ≤ r → value b st r ≡ false
+  unfolding value
+  value-out r h = answer-out b false _ r h
+
+  pub early-out : (r : ℕ) → length b ≤ r → early b st r ≡ Open
+  unfolding early
+  early-out r h = answer-out b Open _ r h
+
+  -- open before the first accepted call
+  pub settled-before : st .begun ≡ false → (r : ℕ) → settled b st r ≡ Open
+  unfolding settled
+  settled-before e r = rw e
+
+  pub settled-out : (r : ℕ) → length b ≤ r → settled b st r ≡ Open
+  unfolding settled
+  settled-out r h = ap (λ a. cond (st .begun) a Open) (answer-out b Open _ r h) ∙ either-open (st .begun)
+    where
+      either-open : (x : Bool) → cond x Open Open ≡ Open
+      either-open true = refl
+      either-open false = refl
+
+module _ (b : Rows) (st : State) (now : Snap) where
+  -- one set for each row
+  pub step-sets : length (step b st now .sets) ≡ length b
+  unfolding step
+  step-sets = length-map (table b noCell (cellRule st now) (length b)) setIn ∙ table-length b noCell (cellRule st now) (length b)
+
+  -- a row's set after a call is its set before it, renewed by some values of its operands
+  pub set-made : (r : ℕ) → (row : Row Bool) × (setAt (step b st now) r ≡ setRule (now .clock) (setAt st r) row)
+  unfolding step answer setRule
+  set-made r = go (decLt r (length b))
+    where
+      is : setAt (step b st now) r ≡ answer b noCell (cellRule st now) r .set
+      is = List·getD-map setIn (table b noCell (cellRule st now) (length b)) r noCell
+
+      go : Dec (r < length b) → (row : Row Bool) × (setAt (step b st now) r ≡ setRule (now .clock) (setAt st r) row)
+      go (yes l) = let m = answer-made b noCell (cellRule st now) r l in (mapRow valueIn (mapRow (m .0) (rowAt b r)), is ∙ ap setIn (m .1))
+      go (no l) = (never, is ∙ ap setIn (answer-out b noCell (cellRule st now) r (omega arith)))
+
+  -- what a step leaves besides the sets
+  pub step-now : step b st now .now ≡ now
+  unfolding step
+  step-now = refl
+
+  pub step-begun : step b st now .begun ≡ true
+  unfolding step
+  step-begun = refl
+
+module _ (b : Rows) (w : Ordered b) where
+  module _ (st : State) where
+    -- a row's value, by its set and its operands' values
+    pub value-fix : (r : ℕ) → value b st r ≡ valueRule (st .now .atoms) (has (setAt st r) (st .now .clock)) (mapRow (value b st) (rowAt b r))
+    unfolding value valueRule
+    value-fix r = answer-fix b false _ w r refl
+
+    -- a row's early answer, by its set and its operands' answers
+    pub early-fix : (r : ℕ) → r < length b → early b st r ≡ earlyRule (covers (st .now .clock) (setAt st r)) (mapRow (early b st) (rowAt b r))
+    unfolding early
+    early-fix r h = answer-in b Open _ w r h
+
+    -- a row's settled answer, by its set and its operands' answers
+    pub settled-fix : st .begun ≡ true → (r : ℕ) → r < length b
+        → settled b st r ≡ settledRule (covers (st .now .clock) (setAt st r)) (gone (st .now .clock) (setAt st r)) (mapRow (settled b st) (rowAt b r))
+    unfolding settled
+    settled-fix e r h = rw e (answer-in b Open (λ n row. settledRule (covers (st .now .clock) (setAt st n)) (gone (st .now .clock) (setAt st n)) row) w r h)
+
+  module _ (st : State) (now : Snap) where
+    -- what the call makes of a row
+    cell : ℕ → Cell
+    cell = answer b noCell (cellRule st now)
+
+    cell-fix : (r : ℕ) → cell r ≡ cellRule st now r (mapRow cell (rowAt b r))
+    unfolding cell setRule valueRule
+    cell-fix r = answer-fix b noCell (cellRule st now) w r refl
+
+    cell-set : (r : ℕ) → setAt (step b st now) r ≡ cell r .set
+    unfolding cell answer step
+    cell-set r = List·getD-map setIn (table b noCell (cellRule st now) (length b)) r noCell
+
+    vs : (r : ℕ) → Row Bool
+    vs r = mapRow (λ o. cell o .value) (rowAt b r)
+
+    cell-sets : (r : ℕ) → cell r .set ≡ setRule (now .clock) (setAt st r) (vs r)
+    unfolding vs
+    cell-sets r = ap setIn (cell-fix r) ∙ ap (setRule (now .clock) (setAt st r)) (mapRow-mapRow valueIn cell (rowAt b r))
+
+    cell-values : (r : ℕ) → cell r .value ≡ valueRule (now .atoms) (has (setAt (step b st now) r) (now .clock)) (vs r)
+    unfolding vs
+    cell-values r = ap valueIn (cell-fix r)
+        ∙ ap₂ (λ (s : Runs) row. valueRule (now .atoms) (has s (now .clock)) row) (sym (ap setIn (cell-fix r)) ∙ sym (cell-set r)) (mapRow-mapRow valueIn cell (rowAt b r))
+
+    -- the values that the step works out are those of the walk
+    cell-value : (r : ℕ) → cell r .value ≡ value b (step b st now) r
+    unfolding value step vs valueRule
+    cell-value r = answer-only b false (λ k row. valueRule (now .atoms) (has (setAt (step b st now) k) (now .clock)) row) w (λ k. refl) (λ o. cell o .value) cell-values r
+
+    -- a row's set after a call, by its set before it and its operands' values after it
+    pub set-fix : (r : ℕ) → setAt (step b st now) r ≡ setRule (now .clock) (setAt st r) (mapRow (value b (step b st now)) (rowAt b r))
+    unfolding vs
+    set-fix r = cell-set r ∙ cell-sets r ∙ ap (λ (f : ℕ → Bool). setRule (now .clock) (setAt st r) (mapRow f (rowAt b r))) (fun-ext cell-value)
+
+    -- a table of the values, worked out with the sets, is the walk
+    pub table-value : (r : ℕ) → getD (map valueIn (table b noCell (cellRule st now) (length b))) r false ≡ value b (step b st now) r
+    unfolding cell answer
+    table-value r = List·getD-map valueIn (table b noCell (cellRule st now) (length b)) r noCell ∙ cell-value r
+
+  -- a value looks at the atoms, and at whether the sets of its own row and of rows below contain the clock
+  pub value-local : (st st′ : State) → st .now .atoms ≡ st′ .now .atoms → (r : ℕ)
+      → ((o : ℕ) → o ≤ r → has (setAt st o) (st .now .clock) ≡ has (setAt st′ o) (st′ .now .clock)) → value b st r ≡ value b st′ r
+  value-local st st′ n = by-rows (λ r. ((o : ℕ) → o ≤ r → has (setAt st o) (st .now .clock) ≡ has (setAt st′ o) (st′ .now .clock)) → value b st r ≡ value b st′ r) λ r below same.
+      value-fix st r
+      ∙ ap₂ (λ m x. valueRule m x (mapRow (value b st) (rowAt b r))) n (same r (omega arith))
+      ∙ ap (valueRule (st′ .now .atoms) (has (setAt st′ r) (st′ .now .clock)))
+      (mapRow-local r (value b st) (value b st′) (λ o k. below o k (λ q l. same q (omega arith))) (rowAt b r) (w r))
+      ∙ sym (value-fix st′ r)
+
+  -- a call row by row: in a state whose sets below r are already the new ones, row r's new set comes from its old one and the walk
+  pub set-next : (st : State) (now : Snap) (mid : State) → mid .now ≡ now → (r : ℕ) → ((o : ℕ) → o < r → setAt mid o ≡ setAt (step b st now) o)
+      → setAt (step b st now) r ≡ setRule (now .clock) (setAt st r) (mapRow (value b mid) (rowAt b r))
+  unfolding step
+  set-next st now mid n r same = set-fix st now r
+      ∙ ap (setRule (now .clock) (setAt st r)) (mapRow-local r (value b (step b st now)) (value b mid)
+      (λ o k. sym (value-local mid (step b st now) (ap (λ (s : Snap). s .atoms) n) o
+      (λ q l. ap₂ (λ (s : Runs) (m : Snap). has s (m .clock)) (same q (omega arith)) n))) (rowAt b r) (w r))

@@ -1,0 +1,71 @@
+-- 01, "Calls and values": a monitor's state, what one call makes of it, and the value of a row. Definitions only.
+use Prim.Native.Nat.{ℕ}
+use mathlib.Core.Bool.{Bool, true, false, not, _||_}
+use mathlib.Core.List.{List, [], map}
+use lib.ListN.{length, getD, replicate}
+use Rattle.numset.specs.Runs.{Runs, has}
+use Rattle.pmtl.specs.Book.{Row, mapRow, Rows, widthOf, table, answer, every, some, itself}
+use Rattle.pmtl.specs.Book.Row.{never, always, atom, conj, disj, neg, implies, historically, once, since}
+use Rattle.pmtl.specs.Sets.{setRule}
+
+-- what a call leaves: the clock, and the atoms that the book names
+pub record Snap : Type 0 where
+  pub clock : ℕ
+  pub atoms : List Bool
+
+-- whether a call was accepted yet, the clock and atoms, and the set of each row (empty where the row is not temporal)
+pub record State : Type 0 where
+  pub begun : Bool
+  pub now : Snap
+  pub sets : List Runs
+
+abbrev pub setAt : State → ℕ → Runs
+setAt st r = getD (st .sets) r []
+
+-- a fresh monitor has clock 0 and all atoms false, and with no call yet the sets are empty
+abbrev pub fresh : Rows → Snap
+fresh b = record { clock = 0; atoms = replicate (widthOf b) false }
+
+unfoldable pub initial : Rows → State
+initial b = record { begun = false; now = fresh b; sets = replicate (length b) [] }
+
+-- a row's value, from the atoms, whether its set contains the clock, and its operands' values
+unfoldable pub valueRule : List Bool → Bool → Row Bool → Bool
+valueRule atoms here never = false
+valueRule atoms here always = true
+valueRule atoms here (atom a) = getD atoms a false
+valueRule atoms here (conj vs) = every itself vs
+valueRule atoms here (disj vs) = some itself vs
+valueRule atoms here (neg v) = not v
+valueRule atoms here (implies l r) = not l || r
+valueRule atoms here (historically g v) = not here
+valueRule atoms here (once g v) = here
+valueRule atoms here (since g l r) = here
+
+-- the value of a row in a state
+unfoldable pub value : Rows → State → ℕ → Bool
+value b st = answer b false (λ r row. valueRule (st .now .atoms) (has (setAt st r) (st .now .clock)) row)
+
+-- what a call makes of a row: its set and its value
+pub record Cell : Type 0 where
+  pub set : Runs
+  pub value : Bool
+
+abbrev pub setIn : Cell → Runs
+setIn x = x .set
+
+abbrev pub valueIn : Cell → Bool
+valueIn x = x .value
+
+abbrev pub noCell : Cell
+noCell = record { set = []; value = false }
+
+abbrev pub cellRule : State → Snap → ℕ → Row Cell → Cell
+cellRule st now r row =
+    let vs = mapRow valueIn row in
+    let s = setRule (now .clock) (setAt st r) vs in
+    record { set = s; value = valueRule (now .atoms) (has s (now .clock)) vs }
+
+-- a call re-evaluates every row, from row 0 upward, at the clock and atoms that it leaves
+unfoldable pub step : Rows → State → Snap → State
+step b st now = record { begun = true; now = now; sets = map setIn (table b noCell (cellRule st now) (length b)) }

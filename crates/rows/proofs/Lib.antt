@@ -1,0 +1,6 @@
+pub mod Listed
+pub mod Kept
+pub mod Values
+pub mod Earlies
+pub mod Settleds
+pub mod Facts

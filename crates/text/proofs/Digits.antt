@@ -1,0 +1,185 @@
+-- Laws of decimal digits, for the proofs of `decimals` and for whoever writes numbers (`at-most-20`, `all-shown`). Assumes nothing.
+use Prim.Native.Nat.{ℕ, zero, suc, _+_, _-_, _/_, _%_, _^_, _≤_, _<_}
+use mathlib.Core.Path.{_≡_, refl, sym, ap, _∙_}
+use mathlib.Core.Bool.{Bool, true, false}
+use mathlib.Core.List.{List, [], _∷_, _++_, append-nil}
+use native.Mathlib.Omega.{arith}
+use native.Mathlib.Numerals.{add-one}
+use native.Mathlib.Nat.{pow-suc}
+use lib.Dec.{leb, ltb, eqb}
+use lib.ListN.{length, take, drop, set, replicate, length-replicate, length-drop, length-append, length-set, take-append-drop}
+use lib.Seq.{take-set-le, drop-cons, drop-set-lt, getD-set-same, length-take-le, drop-length, take-take, take-all, drop-at}
+use borrow.Author.Tests.{ne-eqb, le-leb, le-ltb, lt-leb, leb-true}
+use Rattle.text.specs.Words.{pick}
+use Rattle.text.specs.Decimals.{orElse, onto, before, decimal, shown, lastly}
+
+onto-none : (f : ℕ) (l : List ℕ) → onto f 0 l ≡ l
+unfolding onto
+onto-none zero l = refl
+onto-none (suc f) l = refl
+
+-- more steps than enough change nothing
+enough : (f g n : ℕ) (l : List ℕ) → n ≤ f → n ≤ g → onto f n l ≡ onto g n l
+unfolding onto
+enough zero g n l h k = let e : n ≡ 0 = omega arith in rw e (sym (onto-none g l))
+enough (suc f) zero n l h k = let e : n ≡ 0 = omega arith in rw e (onto-none (suc f) l)
+enough (suc f) (suc g) n l h k = by-zero (eqb n 0) refl (λ p q. enough f g (n / 10) ((48 + n % 10) ∷ l) p q)
+  where
+    by-zero : (t : Bool) → eqb n 0 ≡ t → (n / 10 ≤ f → n / 10 ≤ g → onto f (n / 10) ((48 + n % 10) ∷ l) ≡ onto g (n / 10) ((48 + n % 10) ∷ l)) → orElse (eqb n 0) l (λ (d : ℕ). onto f (n / 10) (d ∷ l)) (48 + n % 10) ≡ orElse (eqb n 0) l (λ (d : ℕ). onto g (n / 10) (d ∷ l)) (48 + n % 10)
+    by-zero true e r = rw e
+    by-zero false e r = rw e (r (omega arith) (omega arith))
+
+one : (f n : ℕ) (l : List ℕ) → 0 < n → onto (suc f) n l ≡ onto f (n / 10) ((48 + n % 10) ∷ l)
+unfolding onto
+one f n l h = rw (ne-eqb n 0 (omega arith))
+
+pub step : (n : ℕ) (l : List ℕ) → 0 < n → before n l ≡ before (n / 10) ((48 + n % 10) ∷ l)
+step n l h = enough n (suc n) n l (omega arith) (omega arith) ∙ one n n l h ∙ enough n (n / 10) (n / 10) ((48 + n % 10) ∷ l) (omega arith) (omega arith)
+
+longer : (f n : ℕ) (l : List ℕ) → length l ≤ length (onto f n l)
+unfolding onto
+longer zero n l = omega arith
+longer (suc f) n l = by-zero (eqb n 0) refl (longer f (n / 10) ((48 + n % 10) ∷ l))
+  where
+    by-zero : (t : Bool) → eqb n 0 ≡ t → suc (length l) ≤ length (onto f (n / 10) ((48 + n % 10) ∷ l)) → length l ≤ length (orElse (eqb n 0) l (λ (d : ℕ). onto f (n / 10) (d ∷ l)) (48 + n % 10))
+    by-zero true e r = rw e (omega arith)
+    by-zero false e r = rw e (omega arith)
+
+same-len : (f n : ℕ) (l k : List ℕ) → length l ≡ length k → length (onto f n l) ≡ length (onto f n k)
+unfolding onto
+same-len zero n l k e = e
+same-len (suc f) n l k e = by-zero (eqb n 0) refl (same-len f (n / 10) ((48 + n % 10) ∷ l) ((48 + n % 10) ∷ k) (ap suc e))
+  where
+    by-zero : (t : Bool) → eqb n 0 ≡ t → length (onto f (n / 10) ((48 + n % 10) ∷ l)) ≡ length (onto f (n / 10) ((48 + n % 10) ∷ k)) → length (orElse (eqb n 0) l (λ (d : ℕ). onto f (n / 10) (d ∷ l)) (48 + n % 10)) ≡ length (orElse (eqb n 0) k (λ (d : ℕ). onto f (n / 10) (d ∷ k)) (48 + n % 10))
+    by-zero true q r = rw q e
+    by-zero false q r = rw q r
+
+-- ---- counting the digits
+pub record Counting (n k rest : ℕ) : Type 0 where
+  pub low : k + rest + rest ≤ n + 1
+  pub size : length (before rest (replicate k 0)) ≡ length (decimal n)
+
+pub count-start : (n : ℕ) → Counting n 1 (n / 10)
+unfolding decimal
+count-start n = record { low = omega arith; size = same-len (n / 10) (n / 10) (0 ∷ []) ((48 + n % 10) ∷ []) refl }
+
+pub count-more : {n k rest : ℕ} → Counting n k rest → 0 < rest → Counting n (k + 1) (rest / 10)
+count-more {n} {k} {rest} g h =
+    record {
+      low = omega (arith, g .low);
+      size = rw add-one (same-len (rest / 10) (rest / 10) (0 ∷ replicate k 0) ((48 + rest % 10) ∷ replicate k 0) refl ∙ sym (ap length (step rest (replicate k 0) h)) ∙ g .size);
+    }
+
+pub count-done : {n k rest : ℕ} → Counting n k rest → rest ≤ 0 → k ≡ length (decimal n)
+count-done {n} {k} {rest} g h =
+    let e : rest ≡ 0 = omega arith in
+    sym (length-replicate k 0) ∙ sym (ap length (onto-none 0 (replicate k 0))) ∙ sym (ap (λ (r : ℕ). length (before r (replicate k 0))) e) ∙ g .size
+
+-- ---- writing them
+drop-set : (m : List ℕ) (i v : ℕ) → i < length m → drop i (set m i v) ≡ v ∷ drop (suc i) m
+drop-set m i v h =
+    let z : i < length (set m i v) = rw length-set h in
+    drop-cons (set m i v) i 0 z ∙ rw (getD-set-same m i v 0 h, drop-set-lt (suc i) m i v (omega arith))
+
+-- the digits of `rest`, at least one, before what stands from i on, are those of n
+pub record Spelling (n : ℕ) (m₀ : List ℕ) (m : List ℕ) (i rest : ℕ) : Type 0 where
+  pub size : length m ≡ length m₀
+  pub low : i ≤ length m₀
+  pub room : length (decimal n) ≤ length m₀
+  pub front : take i m ≡ take i m₀
+  pub back : before (rest / 10) ((48 + rest % 10) ∷ drop i m) ≡ decimal n
+
+pub spell-start : (n : ℕ) (m : List ℕ) → length (decimal n) ≤ length m → Spelling n m m (length m) n
+unfolding decimal
+spell-start n m h = record { size = refl; low = omega arith; room = h; front = refl; back = rw (drop-length m) }
+
+module _ {n : ℕ} {m₀ m : List ℕ} {i rest : ℕ} (g : Spelling n m₀ m i rest) where
+  pub spell-room : 1 ≤ i
+  spell-room =
+      let b = longer (rest / 10) (rest / 10) ((48 + rest % 10) ∷ drop i m) in
+      let c = ap length (g .back) in
+      let d = length-drop i m in
+      omega (arith, g .size, g .room, g .low)
+
+  module _ (j v : ℕ) (e : j ≡ i - 1) (f : v ≡ 48 + rest % 10) where
+    written : drop j (set m j v) ≡ (48 + rest % 10) ∷ drop i m
+    written =
+        let o : 1 ≤ i = spell-room in
+        let s : suc j ≡ i = omega arith in
+        let r : j < length m = omega (arith, g .size, g .low) in
+        drop-set m j v r ∙ rw (s, f)
+
+    kept : take j (set m j v) ≡ take j m₀
+    kept =
+        let o : 1 ≤ i = spell-room in
+        take-set-le j m j v (omega arith) ∙ sym (take-take j i m (omega arith)) ∙ ap (take j) (g .front) ∙ take-take j i m₀ (omega arith)
+
+    pub spell-more : (rest / 10 ≡ 0 → ⊥) → Spelling n m₀ (set m j v) j (rest / 10)
+    spell-more h =
+        record {
+          size = length-set m j v ∙ g .size;
+          low = omega (arith, g .low);
+          room = g .room;
+          front = kept;
+          back = rw written (sym (step (rest / 10) ((48 + rest % 10) ∷ drop i m) (omega arith)) ∙ g .back);
+        }
+
+    pub spell-done : rest / 10 ≡ 0 → (j ≡ length m₀ - length (shown n (length m₀))) × (set m j v ≡ lastly n m₀)
+    unfolding shown lastly pick
+    spell-done h =
+        let o : 1 ≤ i = spell-room in
+        let d : drop j (set m j v) ≡ decimal n = written ∙ sym (onto-none 0 ((48 + rest % 10) ∷ drop i m)) ∙ sym (ap (λ (r : ℕ). before r ((48 + rest % 10) ∷ drop i m)) h) ∙ g .back in
+        let l = ap length d in
+        let p = length-drop j (set m j v) in
+        let q = length-set m j v in
+        let k : j ≡ length m₀ - length (decimal n) = omega (arith, g .size, g .low) in
+        let w : set m j v ≡ take j m₀ ++ decimal n = sym (take-append-drop j (set m j v)) ∙ rw (kept, d) in
+        rw (le-leb (length (decimal n)) (length m₀) (g .room)) (k, rw (← k) w)
+
+pub no-room : (n : ℕ) (m : List ℕ) → length m < length (decimal n) → (length m ≡ length m - length (shown n (length m))) × (m ≡ lastly n m)
+unfolding shown lastly pick
+no-room n m h = rw (lt-leb (length (decimal n)) (length m) h) (omega arith, sym (append-nil (take (length m - 0) m) ∙ take-all (length m - 0) m (omega arith)))
+
+-- the last part is the digits
+pub part : (n : ℕ) (m₀ m : List ℕ) (i : ℕ) → i ≡ length m₀ - length (shown n (length m₀)) → m ≡ lastly n m₀ → take (length m - i) (drop i m) ≡ shown n (length m₀)
+unfolding lastly
+part n m₀ m i e f =
+    let l : length (take i m₀) ≡ i = length-take-le i m₀ (omega arith) in
+    let w : m ≡ take i m₀ ++ shown n (length m₀) = rw e f in
+    let z = ap length w in
+    let y = length-append (take i m₀) (shown n (length m₀)) in
+    let d : drop i m ≡ shown n (length m₀) = rw w (drop-at (take i m₀) (shown n (length m₀)) i l) in
+    rw d (take-all (length m - i) (shown n (length m₀)) (omega arith))
+
+pub shown-fits : (n room : ℕ) → length (shown n room) ≤ room
+unfolding shown pick
+shown-fits n room = by-room (leb (length (decimal n)) room) refl
+  where
+    by-room : (t : Bool) → leb (length (decimal n)) room ≡ t → length (pick (leb (length (decimal n)) room) (decimal n) []) ≤ room
+    by-room true e = rw e (leb-true (length (decimal n)) room e)
+    by-room false e = rw e (omega arith)
+
+pub ends-there : (n room i o : ℕ) (l : List ℕ) → i ≡ room - length (shown n room) → l ≡ shown n room → i + o + length l ≡ o + room
+ends-there n room i o l e f = omega (arith, shown-fits n room, ap length f)
+
+-- ---- a number of 64 bits has at most 20 digits
+short : (k f n : ℕ) (l : List ℕ) → n < 10 ^ k → length (onto f n l) ≤ k + length l
+unfolding onto
+short k zero n l h = omega arith
+short zero (suc f) n l h = let e : n ≡ 0 = omega arith in rw e (omega arith)
+short (suc k) (suc f) n l h = by-zero (eqb n 0) refl (λ p. short k f (n / 10) ((48 + n % 10) ∷ l) p)
+  where
+    by-zero : (t : Bool) → eqb n 0 ≡ t → (n / 10 < 10 ^ k → length (onto f (n / 10) ((48 + n % 10) ∷ l)) ≤ k + suc (length l)) → length (orElse (eqb n 0) l (λ (d : ℕ). onto f (n / 10) (d ∷ l)) (48 + n % 10)) ≤ suc k + length l
+    by-zero true e r = rw e (omega arith)
+    by-zero false e r = rw e (omega (arith, r (omega (arith, pow-suc 10 k))))
+
+pub at-most-20 : (n : ℕ) → n < 2 ^ 64 → length (decimal n) ≤ 20
+unfolding decimal
+at-most-20 n h = omega (arith, short 19 (n / 10) (n / 10) ((48 + n % 10) ∷ []) (omega arith))
+
+pub plenty : (n size : ℕ) → 20 ≤ size → n < 2 ^ 64 → false ≡ ltb size (length (decimal n))
+plenty n size h k = sym (le-ltb size (length (decimal n)) (omega (arith, at-most-20 n k)))
+
+pub all-shown : (n : ℕ) → n < 2 ^ 64 → shown n 20 ≡ decimal n
+unfolding shown pick
+all-shown n h = rw (le-leb (length (decimal n)) 20 (at-most-20 n h))

@@ -1,0 +1,4 @@
+mod Letters
+pub mod Supplies
+pub mod Digits
+pub mod Back

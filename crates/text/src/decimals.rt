@@ -1,0 +1,74 @@
+// Numbers in decimal digits.
+ghost use mathlib.Core.Path.{_≡_};
+ghost use Prim.Native.Nat.{_+_, _-_, _<_};
+ghost use lib.Dec.{ltb};
+ghost use lib.ListN.{length};
+ghost use Rattle.text.specs.Words.{digit0};
+ghost use Rattle.text.specs.Decimals.{decimal as Decimals·decimal, shown, lastly, LastOf};
+
+const ZERO: u8 = b'0';
+
+const TEN: u64 = 10;
+
+// No number of 64 bits has more digits.
+const MOST_DIGITS: usize = 20;
+
+// The byte of a digit.
+fn glyph(d: u64) -> u8
+    requires { ⌜ d < 10 ⌝ }
+    ensures { λ r. ⌜ r ≡ digit0 + d ⌝ }
+{
+    ZERO + d as u8
+}
+
+// How many digits `n` has.
+fn places(n: u64) -> usize
+    ensures { λ r. ⌜ r ≡ length (Decimals·decimal n) ⌝ }
+{
+    let mut k: usize = 1;
+    let mut rest = n / TEN;
+    while 0 < rest {
+        rest = rest / TEN;
+        k += 1;
+    }
+    k
+}
+
+// Whether `size` bytes are too few for the digits of `n`. They are counted only where their number can matter.
+fn too_few(size: usize, n: u64) -> bool
+    ensures { λ r. ⌜ r ≡ ltb size (length (Decimals·decimal n)) ⌝ }
+{
+    if MOST_DIGITS <= size {
+        return false;
+    }
+    size < places(n)
+}
+
+// Writes the digits of `n` as the last bytes of `scratch`, where they fit, and answers where they begin; the length of
+// `scratch` where they do not.
+pub fn write_last(n: u64, scratch: &mut [u8]) -> usize
+    ensures { λ r. ⌜ (r ≡ length (now (scratch .entry)) - length (shown n (length (now (scratch .entry))))) × (now (scratch .exit) ≡ lastly n (now (scratch .entry))) ⌝ }
+{
+    let size = scratch.len();
+    if too_few(size, n) {
+        return size;
+    }
+    let mut i = size;
+    let mut rest = n;
+    loop {
+        i -= 1;
+        scratch[i] = glyph(rest % TEN);
+        rest = rest / TEN;
+        if rest == 0 {
+            return i;
+        }
+    }
+}
+
+// The digits of `n`, as the last part of `scratch`; an empty part where they do not fit.
+pub fn decimal(n: u64, scratch: &mut [u8]) -> &mut [u8]
+    ensures { λ r. ⌜ (now r ≡ shown n (length (now (scratch .entry)))) × LastOf (scratch .entry) r ⌝ }
+{
+    let at = write_last(n, scratch);
+    &mut scratch[at..]
+}

@@ -1,0 +1,8 @@
+// Text of 01, "The report": its words, read forwards, and its numbers, written in decimal digits.
+mod decimals;
+mod words;
+
+pub use decimals::decimal;
+pub use decimals::write_last;
+pub use words::Read;
+pub use words::next_word;

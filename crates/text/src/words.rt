@@ -1,0 +1,146 @@
+// Decimal words in text.
+ghost use mathlib.Core.Path.{_≡_};
+ghost use mathlib.Core.Bool.{false};
+ghost use Prim.Native.Nat.{_-_, _/_, _<_};
+ghost use lib.ListN.{length, getD, drop};
+ghost use Rattle.text.specs.Words.{MAX as Words·MAX, digit0, parts as Words·parts, wordHere, nextWord};
+ghost use Rattle.text.specs.Kinds.{kindOf, kindAt};
+
+// Words are parted by these two bytes.
+const SPACE: u8 = b' ';
+
+const LINE_FEED: u8 = b'\n';
+
+// The digits of a word lie between these two bytes.
+const ZERO: u8 = b'0';
+
+const NINE: u8 = b'9';
+
+// What `kind` says of a byte that is no digit.
+const OVER: u64 = 10;
+
+const BAD: u64 = 11;
+
+const TEN: u64 = 10;
+
+// The largest number that a word says, and its parts before the last digit and there.
+const MAX: u64 = 0xffff_ffff_ffff_ffff;
+
+const MAX_TENTH: u64 = MAX / TEN;
+
+const MAX_LAST: u64 = MAX % TEN;
+
+// The numbers of 01 that end the reading.
+const TEXT_ENDS: u64 = 1;
+
+const BAD_WORD: u64 = 13;
+
+// What reading finds: a word and the place after it, or the number that ends the reading.
+pub enum Read {
+    Word(u64, usize),
+    Refused(u64),
+}
+
+// Whether a byte parts words.
+fn parts(b: u8) -> bool
+    ensures { λ r. ⌜ r ≡ Words·parts b ⌝ }
+{
+    if b == SPACE { true } else { b == LINE_FEED }
+}
+
+// A byte as a number of 64 bits: a function, so that a caller need not show that it fits.
+fn wide(b: u8) -> u64
+    ensures { λ r. ⌜ r ≡ b ⌝ }
+{
+    b as u64
+}
+
+// What a byte is to a word: a digit's value, OVER where the word is over, BAD where it is spoilt.
+// Digits are the most frequent, so that they are told by the fewest tests.
+fn kind(b: u8) -> u64
+    ensures { λ r. ⌜ r ≡ kindOf b ⌝ }
+{
+    if b < ZERO {
+        if parts(b) {
+            return OVER;
+        }
+        return BAD;
+    }
+    if NINE < b {
+        return BAD;
+    }
+    wide(b) - wide(ZERO)
+}
+
+// The same of a place. A word is over at the end of the text, too.
+fn kind_at(input: &[u8], i: usize) -> u64
+    ensures { λ r. ⌜ r ≡ kindAt (drop i (now (input .entry))) ⌝ }
+{
+    if i < input.len() {
+        return kind(input[i]);
+    }
+    OVER
+}
+
+// The largest number that `d` can follow as one more digit: no division, since it is asked at each digit.
+fn most_before(d: u64) -> u64
+    requires { ⌜ d < 10 ⌝ }
+    ensures { λ r. ⌜ r ≡ (Words·MAX - d) / 10 ⌝ }
+{
+    if MAX_LAST < d {
+        return MAX_TENTH - 1;
+    }
+    MAX_TENTH
+}
+
+// The word that begins at `at` with a zero, which is 0 itself or bad.
+fn zero_here(input: &[u8], at: usize) -> Read
+    requires { ⌜ (at < length (now input)) × (getD (now input) at 0 ≡ digit0) ⌝ }
+    ensures { λ r. ⌜ r ≡ wordHere (drop at (now (input .entry))) at ⌝ }
+{
+    let next = at + 1;
+    if kind_at(input, next) == OVER {
+        return Read::Word(0, next);
+    }
+    Read::Refused(BAD_WORD)
+}
+
+// The word that begins at `at`. How many digits it has is not counted: with no zero first, more than 20 say more than MAX.
+fn word_here(input: &[u8], at: usize) -> Read
+    requires { ⌜ (at < length (now input)) × (Words·parts (getD (now input) at 0) ≡ false) ⌝ }
+    ensures { λ r. ⌜ r ≡ wordHere (drop at (now (input .entry))) at ⌝ }
+{
+    if input[at] == ZERO {
+        return zero_here(input, at);
+    }
+    let mut n: u64 = 0;
+    let mut i = at;
+    let mut d = kind_at(input, at);
+    while d < TEN {
+        if most_before(d) < n {
+            return Read::Refused(BAD_WORD);
+        }
+        n = n * TEN + d;
+        i += 1;
+        d = kind_at(input, i);
+    }
+    if d == OVER {
+        return Read::Word(n, i);
+    }
+    Read::Refused(BAD_WORD)
+}
+
+// The next word from `at` on, or the number that ends the reading: 1 at the end of the text, 13 at a bad word.
+pub fn next_word(input: &[u8], at: usize) -> Read
+    ensures { λ r. ⌜ r ≡ nextWord (now (input .entry)) at ⌝ }
+{
+    let mut i = at;
+    while i < input.len() {
+        if parts(input[i]) {
+            i += 1;
+        } else {
+            return word_here(input, i);
+        }
+    }
+    Read::Refused(TEXT_ENDS)
+}

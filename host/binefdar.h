@@ -1,0 +1,58 @@
+/*
+ * Binefdar: a runtime monitor for past-time metric temporal logic, proved correct.
+ *
+ * One function. It takes the bytes of an input (a book of rules, then calls, as decimal words parted by
+ * spaces or line feeds) and a buffer, and writes the report of that input into the buffer:
+ *
+ *     book 0              the book was loaded; another number says why it was not, and nothing follows
+ *     1 0 022 111         call 1 was accepted; a word for each property: value, early, settled
+ *     2 7                 call 2 was refused with 7 and passed over
+ *     end                 all was read; or `stop N`: reading ended with the number N
+ *
+ * In a word of three digits 0 is false, 1 is true and 2 is open. The settled answer is never taken back:
+ * once it is 0 or 1, the property has that value then and after every further accepted call. The early
+ * answer may err. README.md has the table of the numbers.
+ *
+ * What it promises, for every input and every buffer (it is proved, and nothing is asked of the caller
+ * beyond the pointers):
+ *
+ *   - It returns. It keeps nothing between calls, allocates nothing, and touches nothing but the buffer.
+ *   - If the report fits into `report_length` bytes, its bytes stand at the start of the buffer, the
+ *     bytes after them are unchanged, and the answer is the report's length. A report that is exactly as
+ *     long as the buffer fits.
+ *   - Otherwise every byte of the buffer is 0 and the answer is BINEFDAR_TOO_SHORT. Ask again with a
+ *     larger buffer: BINEFDAR_LONGEST_REPORT bytes are always enough.
+ *   - An input of more than BINEFDAR_LONGEST_INPUT bytes gives the single line `stop 2`.
+ *
+ * What it asks: `input` points to `input_length` readable bytes and `report` to `report_length` writable
+ * ones, and the two do not overlap. A length of 0 is fine. It needs some 60 kB of stack. Calls from several
+ * threads do not disturb each other, as long as their buffers differ.
+ *
+ * It is compiled for x86-64 Linux, into the archive that `rt staticlib report` writes.
+ */
+#ifndef BINEFDAR_H
+#define BINEFDAR_H
+
+#include <stddef.h>
+#include <stdint.h>
+
+#ifdef __cplusplus
+extern "C" {
+#endif
+
+/* What is handed back where the report does not fit. */
+#define BINEFDAR_TOO_SHORT UINT64_MAX
+
+/* The longest input that is read, in bytes. */
+#define BINEFDAR_LONGEST_INPUT 65536
+
+/* No report of such an input is longer (docs/DECISIONS.md, "How long a report gets"). */
+#define BINEFDAR_LONGEST_REPORT 2300000
+
+uint64_t binefdar_report(const uint8_t *input, size_t input_length, uint8_t *report, size_t report_length);
+
+#ifdef __cplusplus
+}
+#endif
+
+#endif
