@@ -18,10 +18,12 @@ use book::check::lower_in;
 use book::check::part_of;
 use book::check::taken_by;
 use book::check::upper_in;
+use rows::ARG;
 use rows::ASSUMES;
 use rows::ATOM;
 use rows::GUARANTEES;
 use rows::HISTORICALLY;
+use rows::LOWER;
 use rows::OPERANDS;
 use rows::OWNERS;
 use rows::PROPERTIES;
@@ -29,19 +31,11 @@ use rows::ROW;
 use rows::ROW_COUNT;
 use rows::ROWS;
 use rows::SIZE;
+use rows::SLOT;
+use rows::START;
 use rows::TEMPORALS;
+use rows::UPPER;
 use rows::WIDTH;
-
-// Where a row's words stand in it, after its kind.
-const ARG: usize = 1;
-
-const LOWER: usize = 2;
-
-const UPPER: usize = 3;
-
-const START: usize = 4;
-
-const SLOT: usize = 5;
 
 // What the head of a memory says of its rows.
 pub struct Totals {

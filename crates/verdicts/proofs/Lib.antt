@@ -1,3 +1,3 @@
 pub mod Filled
 pub mod Read
-pub mod Answers
+pub mod Bridge

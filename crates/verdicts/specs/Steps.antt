@@ -1,5 +1,5 @@
 -- Private steps of the answers: what is read off a memory once, before any row is asked. No public contract cites these. Definitions only.
-use Prim.Native.Nat.{ℕ, _+_}
+use Prim.Native.Nat.{ℕ, _+_, _≤_, _<_}
 use mathlib.Core.Path.{_≡_}
 use mathlib.Core.Bool.{false}
 use mathlib.Core.List.{List}
@@ -10,8 +10,9 @@ use Rattle.pmtl.specs.Sets.{gone}
 use Rattle.rows.specs.Memory.{ATOMS, clockOf, stateOf, listed}
 use Rattle.rows.specs.Facts.{factOf}
 use Rattle.book.specs.Kept.{Kept}
-use Rattle.pmtl.specs.declared.Answer.the-variants.{Open}
+use Rattle.pmtl.specs.declared.Answer.the-variants.{False, Open}
 use Rattle.verdicts.specs.declared.Verdict.{Verdict}
+use Rattle.verdicts.specs.Verdict.{verdictOf, propertiesIn, answersNumber}
 
 -- what the rows are told of a set at clock c
 abbrev pub factAbout : ℕ → Runs → ℕ
@@ -40,3 +41,14 @@ pub record Seen (m atoms facts : List ℕ) : Type 0 where
 -- the answers of a property that is not there
 abbrev pub absent : Verdict
 absent = record { value = false; early = Open; settled = Open }
+
+-- a record for a place that is not there
+abbrev pub blank : Verdict
+blank = record { value = false; early = False; settled = False }
+
+-- what is to be stored into a list of `room` records, and the number to hand back
+pub record Answered (m : List ℕ) (room number count : ℕ) (list : List Verdict) : Type 0 where
+  pub number-is : number ≡ answersNumber m room
+  pub short : room < propertiesIn m → count ≡ 0
+  pub enough : propertiesIn m ≤ room → count ≡ propertiesIn m
+  pub list-is : list ≡ listed (verdictOf m) 32

@@ -1,12 +1,14 @@
 -- What a loaded monitor answers of its properties, by the definitions of 01. Definitions only.
 use Prim.Native.Nat.{ℕ}
-use mathlib.Core.List.{List}
-use lib.ListN.{length, getD}
+use mathlib.Core.Bool.{cond}
+use mathlib.Core.List.{List, _++_}
+use lib.ListN.{length, getD, drop}
+use lib.Dec.{ltb}
 use Rattle.pmtl.specs.Book.{Book, properties}
 use Rattle.pmtl.specs.Monitor.{State, value}
 use Rattle.pmtl.specs.Early.{early}
 use Rattle.pmtl.specs.Settled.{settled}
-use Rattle.rows.specs.Memory.{bookOf, stateOf}
+use Rattle.rows.specs.Memory.{bookOf, stateOf, listed}
 use Rattle.verdicts.specs.declared.Verdict.{Verdict}
 
 -- the row of property i, assumes first; a row that is not there if there is no such property
@@ -24,3 +26,15 @@ verdictIn b st i = record {
 -- and of the monitor that a memory holds
 abbrev pub verdictOf : List ℕ → ℕ → Verdict
 verdictOf m i = verdictIn (bookOf m) (stateOf m) i
+
+-- how many properties it has
+abbrev pub propertiesIn : List ℕ → ℕ
+propertiesIn m = length (properties (bookOf m))
+
+-- what asking for all answers into a lent list of `room` records hands back. 12: the list is shorter than the properties
+unfoldable pub answersNumber : List ℕ → (room : ℕ) → ℕ
+answersNumber m room = cond (ltb room (propertiesIn m)) 12 0
+
+-- and the list that it leaves: a record for each property, assumes first, and the records beyond as they were; or all of it as it was
+unfoldable pub answersList : List ℕ → List Verdict → List Verdict
+answersList m out = cond (ltb (length out) (propertiesIn m)) out (listed (verdictOf m) (propertiesIn m) ++ drop (propertiesIn m) out)

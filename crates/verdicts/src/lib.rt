@@ -2,16 +2,15 @@
 ghost use mathlib.Core.Path.{_≡_};
 ghost use Prim.Native.Nat.{ℕ, _+_, _≤_, _<_};
 ghost use mathlib.Core.Bool.{cond};
-ghost use lib.ListN.{length};
+ghost use lib.ListN.{length, getD};
 ghost use Rattle.numset.specs.Runs.{Good, runs};
 ghost use Rattle.pmtl.specs.Answer.{bitOf};
-ghost use Rattle.pmtl.specs.Book.{properties};
 ghost use Rattle.pmtl.specs.Sets.{gone};
-ghost use Rattle.rows.specs.Memory.{SIZE, rowCount, begunWord, assumeCount, guaranteeCount, setWords, isOne, listed, bookOf, BookKept};
+ghost use Rattle.rows.specs.Memory.{SIZE, rowCount, begunWord, assumeCount, guaranteeCount, setWords, isOne, listed, BookKept};
 ghost use Rattle.rows.specs.Facts.{settledOf};
 ghost use Rattle.book.specs.Kept.{Kept};
-ghost use Rattle.verdicts.specs.Verdict.{verdictOf};
-ghost use Rattle.verdicts.specs.Steps.{absent, factAbout, factsOf, atomsOf, Seen};
+ghost use Rattle.verdicts.specs.Verdict.{verdictOf, propertiesIn, answersNumber, answersList};
+ghost use Rattle.verdicts.specs.Steps.{absent, blank, Answered, factAbout, factsOf, atomsOf, Seen};
 use pmtl::Answer;
 
 // The most rows, the widest state and the most properties.
@@ -20,6 +19,11 @@ const MOST_ROWS: usize = 128;
 const WIDEST: usize = 256;
 
 const MOST_PROPERTIES: usize = 32;
+
+// What asking for all answers hands back: they are in the list, or the list is too short.
+const DONE: u64 = 0;
+
+const TOO_SHORT: u64 = 12;
 
 // What the rows are told of an empty set: it is gone.
 const GONE: u8 = 4;
@@ -171,7 +175,7 @@ pub fn of_property(monitor: &[u64], i: usize) -> Verdict
 // The answers of all properties, assumes first.
 pub fn all(monitor: &[u64]) -> Verdicts
     requires { ⌜ Kept (now monitor) ⌝ }
-    ensures { λ r. ⌜ (r .count ≡ length (properties (bookOf (now (monitor .entry))))) × (r .list ≡ listed (verdictOf (now (monitor .entry))) 32) ⌝ }
+    ensures { λ r. ⌜ (r .count ≡ propertiesIn (now (monitor .entry))) × (r .list ≡ listed (verdictOf (now (monitor .entry))) 32) ⌝ }
 {
     let atoms = read_atoms(monitor);
     let facts = read_facts(monitor);
@@ -184,4 +188,56 @@ pub fn all(monitor: &[u64]) -> Verdicts
         i += 1;
     }
     Verdicts { count, list }
+}
+
+// What is to be stored into a lent list: how many records, and the number to hand back.
+struct Filling {
+    number: u64,
+    count: usize,
+    list: [Verdict; MOST_PROPERTIES],
+}
+
+// What is to be stored into a list of `room` records: nothing where that is shorter than the properties.
+fn filling_for(monitor: &[u64], room: usize) -> Filling
+    requires { ⌜ Kept (now monitor) ⌝ }
+    ensures { λ r. ⌜ Answered (now (monitor .entry)) room (r .number) (r .count) (r .list) ⌝ }
+{
+    let verdicts = all(monitor);
+    let list = verdicts.list;
+    let count = verdicts.count;
+    if room < count {
+        return Filling {
+            number: TOO_SHORT,
+            count: 0,
+            list,
+        };
+    }
+    Filling {
+        number: DONE,
+        count,
+        list,
+    }
+}
+
+// The record of one property among them.
+fn nth(filling: Filling, i: usize) -> Verdict
+    requires { ⌜ i < 32 ⌝ }
+    ensures { λ r. ⌜ r ≡ getD (filling .list) i blank ⌝ }
+{
+    filling.list[i]
+}
+
+// The answers of all properties, assumes first, into the first records of `out`. Where that is shorter than the properties, the
+// answer is 12 and nothing is changed.
+pub fn answers(monitor: &[u64], out: &mut [Verdict]) -> u64
+    requires { ⌜ Kept (now monitor) ⌝ }
+    ensures { λ r. ⌜ (r ≡ answersNumber (now (monitor .entry)) (length (now (out .entry)))) × (now (out .exit) ≡ answersList (now (monitor .entry)) (now (out .entry))) ⌝ }
+{
+    let filling = filling_for(monitor, out.len());
+    let mut i = 0;
+    while i < filling.count {
+        out[i] = nth(filling, i);
+        i += 1;
+    }
+    filling.number
 }

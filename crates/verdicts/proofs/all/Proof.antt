@@ -7,7 +7,7 @@ use Rattle.rows.specs.Memory.{assumeCount, guaranteeCount}
 use Rattle.verdicts.specs.Verdict.{verdictOf}
 use Rattle.verdicts.specs.Steps.{absent, atomsOf, factsOf}
 use Rattle.verdicts.proofs.Filled.{Filled, filled-start, filled-more, filled-all}
-use Rattle.verdicts.proofs.Answers.{properties-length, verdict-out}
+use Rattle.verdicts.proofs.Bridge.{properties-length, verdict-out}
 use Rattle.verdicts.proofs.all.Statement.{statement}
 use Rattle.verdicts.proofs.all.Tie as tie
 

@@ -1,7 +1,7 @@
 -- `verdicts::settled_at` meets its contract. Assumes nothing.
 use borrow.Author.Needs.{needs}
 use mathlib.Core.Path.{sym, _∙_}
-use Rattle.verdicts.proofs.Answers.{begun-settled, not-begun}
+use Rattle.verdicts.proofs.Bridge.{begun-settled, not-begun}
 use Rattle.verdicts.proofs.settled_at.Statement.{statement}
 use Rattle.verdicts.proofs.settled_at.Tie as tie
 

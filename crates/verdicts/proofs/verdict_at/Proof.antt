@@ -4,7 +4,7 @@ use native.Mathlib.Omega.{arith}
 use Prim.Native.Nat.{_+_, _<_, _≤_}
 use mathlib.Core.Path.{_≡_, sym, _∙_}
 use Rattle.rows.specs.Memory.{rowCount, assumeCount, guaranteeCount}
-use Rattle.verdicts.proofs.Answers.{verdict-in, verdict-out}
+use Rattle.verdicts.proofs.Bridge.{verdict-in, verdict-out}
 use Rattle.verdicts.proofs.verdict_at.Statement.{statement}
 use Rattle.verdicts.proofs.verdict_at.Tie as tie
 

@@ -1,13 +1,13 @@
 -- From the answers of rows by atoms and facts to those of the monitor that a memory holds. Assumes nothing.
-use Prim.Native.Nat.{ℕ, zero, suc, _+_, _%_, _/_, _≤_, _<_}
+use Prim.Native.Nat.{ℕ, _+_, _%_, _/_, _≤_, _<_}
 use native.Mathlib.Omega.{arith}
 use native.Mathlib.Decide.{decLt}
 use mathlib.Core.Path.{_≡_, refl, sym, ap, ap₂, _∙_}
 use mathlib.Core.Bool.{Bool, true, false, cond}
-use mathlib.Core.List.{List, [], _∷_, _++_, map}
+use mathlib.Core.List.{List, _++_, map}
 use lib.ListN.{length, getD, take, drop, List·getD-map, List·getD-eq-default, length-take, length-drop}
 use lib.Seq.{getD-take, getD-drop, take-add, drop-drop}
-use borrow.Author.Tests.{ne-eqb}
+use borrow.Author.Tests.{ne-eqb, lt-ltb, le-ltb}
 use Rattle.numset.specs.Runs.{has, covers}
 use Rattle.pmtl.specs.declared.Answer.{Answer}
 use Rattle.pmtl.specs.declared.Answer.the-variants.{Open}
@@ -25,8 +25,9 @@ use Rattle.rows.proofs.Listed.{listed-at, listed-out}
 use Rattle.rows.proofs.Kept.{rows-length}
 use Rattle.book.specs.Kept.{Kept}
 use Rattle.verdicts.specs.declared.Verdict.{Verdict}
-use Rattle.verdicts.specs.Verdict.{propertyAt, verdictIn, verdictOf}
-use Rattle.verdicts.specs.Steps.{absent, factAt, factsOf, atomAt, atomsOf, Seen}
+use Rattle.verdicts.specs.Verdict.{propertyAt, verdictIn, verdictOf, propertiesIn, answersNumber, answersList}
+use Rattle.verdicts.proofs.Filled.{any-default, steps, steps-is}
+use Rattle.verdicts.specs.Steps.{absent, blank, factAt, factsOf, atomAt, atomsOf, Seen, Answered}
 
 -- ---- a fact's bits
 here-bit : (h c g : Bool) → isOne (factOf h c g % 2) ≡ h
@@ -137,12 +138,6 @@ together : {v v′ : Bool} {e e′ s s′ : Answer} → v ≡ v′ → e ≡ e�
     → _≡_ {A = Verdict} (record { value = v; early = e; settled = s }) (record { value = v′; early = e′; settled = s′ })
 together ev ee es = cc
 
--- an element that is there does not need a default
-any-default : (l : List ℕ) (i d d′ : ℕ) → i < length l → getD l i d ≡ getD l i d′
-any-default [] i d d′ h = absurd (omega arith)
-any-default (x ∷ xs) zero d d′ h = refl
-any-default (x ∷ xs) (suc i) d d′ h = any-default xs i d d′ (omega arith)
-
 -- open before the first accepted call
 pub begun-settled : {w : ℕ} {x y : Answer} → w ≡ 1 → x ≡ y → x ≡ cond (isOne w) y Open
 begun-settled e h = rw e h
@@ -156,7 +151,7 @@ module _ (m : List ℕ) where
   unfolding bookOf
   properties-are = sym (take-add (assumeCount m) (guaranteeCount m) (drop PROPERTIES m) ∙ ap (λ l. take (assumeCount m) (drop PROPERTIES m) ++ take (guaranteeCount m) l) (drop-drop (assumeCount m) PROPERTIES m))
 
-  pub properties-length : Kept m → length (properties (bookOf m)) ≡ assumeCount m + guaranteeCount m
+  pub properties-length : Kept m → propertiesIn m ≡ assumeCount m + guaranteeCount m
   properties-length kept =
       let long = kept .book .long in
       let a = kept .book .assumes-few in
@@ -193,3 +188,55 @@ verdict-in {m} seen i h {row} is ev ee es =
     (ap (value (rowsOf m) (stateOf m)) p ∙ sym (ev ∙ value-is seen row inside))
     (ap (early (rowsOf m) (stateOf m)) p ∙ sym (ee ∙ early-is seen row inside))
     (ap (settled (rowsOf m) (stateOf m)) p ∙ sym (es ∙ settled-is seen row inside))
+
+-- ---- all answers into a lent list
+few-properties : (m : List ℕ) → Kept m → propertiesIn m ≤ 32
+few-properties m kept = let e = properties-length m kept in let a = kept .book .assumes-few in let g = kept .book .guarantees-few in omega arith
+
+module _ (m : List ℕ) {room count : ℕ} {list : List Verdict} (count-is : count ≡ propertiesIn m) (list-is : list ≡ listed (verdictOf m) 32) where
+  -- the list is too short, or not
+  pub answered-short : room < count → Answered m room 12 0 list
+  unfolding answersNumber
+  answered-short h =
+      let short : room < propertiesIn m = omega arith in
+      record { number-is = ap (λ b. cond b 12 0) (sym (lt-ltb room (propertiesIn m) short)); short = λ _. refl; enough = λ e. omega arith; list-is = list-is }
+
+  pub answered-enough : count ≤ room → Answered m room 0 count list
+  unfolding answersNumber
+  answered-enough h =
+      let enough : propertiesIn m ≤ room = omega arith in
+      record { number-is = ap (λ b. cond b 12 0) (sym (le-ltb room (propertiesIn m) enough)); short = λ e. omega arith; enough = λ _. count-is; list-is = list-is }
+
+module _ (m : List ℕ) (kept : Kept m) (out : List Verdict) {number count : ℕ} {list : List Verdict} (due : Answered m (length out) number count list) where
+  -- which records are stored
+  pub answered-room : count ≤ length out
+  answered-room = go (decLt (length out) (propertiesIn m))
+    where
+      go : Dec (length out < propertiesIn m) → count ≤ length out
+      go (yes h) = let e = due .short h in omega arith
+      go (no h) = let e = due .enough (omega arith) in omega arith
+
+  pub answered-few : count ≤ 32
+  answered-few = go (decLt (length out) (propertiesIn m))
+    where
+      go : Dec (length out < propertiesIn m) → count ≤ 32
+      go (yes h) = let e = due .short h in omega arith
+      go (no h) = let e = due .enough (omega arith) in let few = few-properties m kept in omega arith
+
+  pub answered-at : (i : ℕ) → i < count → getD list i blank ≡ verdictOf m i
+  answered-at i h = let few = answered-few in ap (λ l. getD l i blank) (due .list-is) ∙ listed-at (verdictOf m) blank 32 i (omega arith)
+
+  -- and what the list is then
+  pub answered-all : (i : ℕ) → i ≡ count → steps (verdictOf m) out i ≡ answersList m out
+  unfolding answersList
+  answered-all i all = ap (steps (verdictOf m) out) all ∙ go (decLt (length out) (propertiesIn m))
+    where
+      go : Dec (length out < propertiesIn m) → steps (verdictOf m) out count ≡ answersList m out
+      go (yes h) =
+          ap (steps (verdictOf m) out) (due .short h)
+          ∙ ap (λ b. cond b out (listed (verdictOf m) (propertiesIn m) ++ drop (propertiesIn m) out)) (sym (lt-ltb (length out) (propertiesIn m) h))
+      go (no h) =
+          let enough : propertiesIn m ≤ length out = omega arith in
+          ap (steps (verdictOf m) out) (due .enough enough)
+          ∙ steps-is (verdictOf m) out (propertiesIn m) enough
+          ∙ ap (λ b. cond b out (listed (verdictOf m) (propertiesIn m) ++ drop (propertiesIn m) out)) (sym (le-ltb (length out) (propertiesIn m) enough))
