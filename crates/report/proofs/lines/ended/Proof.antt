@@ -1,0 +1,27 @@
+use mathlib.Core.Path.{_∙_}
+use Rattle.report.specs.Report.{endLine}
+use Rattle.writer.proofs.Writes.{at-end}
+use borrow.Author.Needs.{needs}
+use Rattle.report.proofs.lines.ended.Statement.{statement}
+use Rattle.report.proofs.lines.ended.Tie as tie
+
+slice-aggregate-put-bytes : tie.Need-slice-aggregate-put-bytes
+slice-aggregate-put-bytes c = search needs
+
+put-bytes-requires : tie.Need-put-bytes-requires
+put-bytes-requires c κs = search needs
+
+finished-requires : tie.Need-finished-requires
+finished-requires c κs = search needs
+
+same-length : tie.Need-same-length
+same-length c = search needs
+
+returns : tie.Need-returns
+unfolding endLine
+returns c = c .before .before .finished .ensures ∙ at-end (c .before .before .before .before .before .before .put-bytes .ensures)
+
+pub ended-spec : {M : Type 1} → statement M
+ended-spec =
+    tie.close
+    (tie.spec slice-aggregate-put-bytes put-bytes-requires finished-requires same-length returns)
