@@ -1,12 +1,12 @@
 -- What reading answered, where it answered with bytes. Assumes nothing.
 use Prim.Native.Nat.{ℕ, _+_, _-_, _≤_, _<_}
-use mathlib.Core.Path.{_≡_, refl}
+use mathlib.Core.Path.{_≡_}
 use mathlib.Core.List.{List}
 use native.Mathlib.Omega.{arith}
 use lib.ListN.{length, take, drop}
 use borrow.Rule.Slice.PartMut.{mid-len}
 use Rattle.monitor.specs.declared.Came.{Came}
-use Rattle.monitor.specs.declared.Came.the-variants.{Bytes, Failed}
+use Rattle.monitor.specs.declared.Came.the-variants.{Bytes}
 use Rattle.monitor.specs.Input.{Within}
 
 pub within : {room k : ℕ} {r : Came} → Within room r → r ≡ Bytes k → k ≤ room

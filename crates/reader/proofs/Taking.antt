@@ -1,5 +1,5 @@
 -- Laws of reading words into lent memory. Assumes nothing.
-use Prim.Native.Nat.{ℕ, zero, suc, _+_, _*_, _-_, _≤_, _<_}
+use Prim.Native.Nat.{ℕ, suc, _+_, _*_, _-_, _≤_, _<_}
 use mathlib.Core.Path.{_≡_, refl, sym, ap, _∙_}
 use mathlib.Core.List.{List, [], _∷_, _++_, map, append-assoc, append-nil, map-append}
 use native.Mathlib.Omega.{arith}
@@ -7,12 +7,12 @@ use native.Mathlib.Numerals.{add-one}
 use lib.ListN.{length, getD, take, drop, set, length-drop, length-set, length-append}
 use lib.Seq.{take-suc, drop-cons, take-suc-set, length-take-le, take-at, drop-at}
 use borrow.Author.Tests.{lt-ltb, le-ltb}
-use Rattle.text.specs.Words.{Supply, nextWord, ends, gives, supplyFrom}
+use Rattle.text.specs.Words.{Supply, nextWord, supplyFrom}
 use Rattle.text.specs.declared.words.Read as text
 use Rattle.text.proofs.Supplies.{word, refused as ended}
 use Rattle.pmtl.specs.Calls.{WIDEST}
 use Rattle.book.specs.Reading.{GIVEN, section, next as andNext, sections, got, refused}
-use Rattle.reader.specs.Steps.{numberOf, byteOf, after, Took, Ended, WordsTook, WordsRead, SectionTook, SectionRead, BytesTook, BytesRead, StateTook, StateRead, BookTook, BookRead}
+use Rattle.reader.specs.Steps.{numberOf, partNumber, byteOf, Took, Ended, WordsTook, WordsRead, SectionTook, SectionRead, BytesTook, BytesRead, StateTook, StateRead, BookTook, BookRead}
 use Rattle.reader.specs.declared.Part.{Part}
 use Rattle.reader.specs.declared.Part.the-variants.{Words, Refused}
 
@@ -23,6 +23,14 @@ number e = rw e
 pub no-number : {r : text.Read} {w next : ℕ} → r ≡ text.the-variants.Word w next → 0 ≡ numberOf r
 unfolding numberOf
 no-number e = rw e
+
+pub part-refused : {p : Part} {n : ℕ} → p ≡ Refused n → n ≡ partNumber p
+unfolding partNumber
+part-refused e = rw e
+
+pub part-read : {p : Part} {end next : ℕ} → p ≡ Words end next → 0 ≡ partNumber p
+unfolding partNumber
+part-read e = rw e
 
 -- ---- one word more
 record Next (ws : List ℕ) (i w : ℕ) (rest : List ℕ) : Type 0 where

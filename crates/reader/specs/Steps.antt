@@ -12,10 +12,14 @@ use Rattle.book.specs.Reading.{Read, got, refused, section, Sections, sections}
 use Rattle.reader.specs.declared.Part.{Part}
 use Rattle.reader.specs.declared.Part.the-variants.{Words, Refused}
 
--- the number that ended a reading; 0 where there is a word
+-- the number that ended a reading; 0 where something was read
 unfoldable pub numberOf : text.Read → ℕ
 numberOf (text.the-variants.Word w next) = 0
 numberOf (text.the-variants.Refused n) = n
+
+unfoldable pub partNumber : Part → ℕ
+partNumber (Words end next) = 0
+partNumber (Refused n) = n
 
 -- what is left of a supply after so many words
 abbrev pub after : ℕ → Supply → Supply

@@ -3,7 +3,7 @@ ghost use mathlib.Core.Path.{_≡_};
 ghost use Prim.Native.Nat.{_+_, _*_, _≤_};
 ghost use lib.ListN.{length};
 ghost use Rattle.pmtl.specs.Calls.{WIDEST};
-ghost use Rattle.reader.specs.Steps.{numberOf, byteOf, WordsRead, SectionRead, BookRead, BytesRead, StateRead};
+ghost use Rattle.reader.specs.Steps.{numberOf, partNumber, byteOf, WordsRead, SectionRead, BookRead, BytesRead, StateRead};
 use text::Read;
 
 // The limits of 01 on the items of each section, and the words of a row.
@@ -33,13 +33,22 @@ pub enum Part {
     Refused(u64),
 }
 
-// The number that ended a reading.
+// The number that ended a reading, of a word and of a part.
 pub fn number_of(r: Read) -> u64
     ensures { λ n. ⌜ n ≡ numberOf r ⌝ }
 {
     match r {
         Read::Word(_, _) => 0,
         Read::Refused(n) => n,
+    }
+}
+
+pub fn part_number(p: Part) -> u64
+    ensures { λ n. ⌜ n ≡ partNumber p ⌝ }
+{
+    match p {
+        Part::Words(_, _) => 0,
+        Part::Refused(n) => n,
     }
 }
 

@@ -1,20 +1,20 @@
 -- Laws of a report's calls, one after the other, and of the whole report. Assumes nothing.
 use Prim.Native.Nat.{ℕ, zero, suc, _+_, _-_, _≤_, _<_}
 use mathlib.Core.Path.{_≡_, refl, sym, ap, _∙_}
-use mathlib.Core.List.{List, [], _∷_, _++_, append-nil}
+use mathlib.Core.List.{List, _++_, append-nil}
 use native.Mathlib.Omega.{arith}
 use native.Mathlib.Numerals.{add-one}
 use lib.ListN.{length, take}
 use borrow.Author.Tests.{eq-eqb, ne-eqb, lt-ltb, le-ltb}
-use Rattle.text.specs.Words.{nextWord, supply, supplyFrom}
+use Rattle.text.specs.Words.{nextWord, supplyFrom}
 use Rattle.text.specs.declared.words.Read.the-variants.{Word, Refused}
 use Rattle.text.proofs.Supplies.{word, refused as ended}
 use Rattle.pmtl.specs.Book.{Book}
 use Rattle.pmtl.specs.Monitor.{State, initial}
 use Rattle.pmtl.specs.Calls.{Outcome, call}
 use Rattle.rows.specs.Memory.{bookOf, stateOf}
-use Rattle.book.specs.Reading.{got, refused, sections}
-use Rattle.book.specs.Judging.{Loaded, loadedFrom, whole as wholeBook, loaded}
+use Rattle.book.specs.Reading.{got, refused}
+use Rattle.book.specs.Judging.{Loaded, whole as wholeBook, loaded}
 use Rattle.book.specs.Kept.{Kept}
 use Rattle.reader.specs.declared.Part as reader
 use Rattle.reader.specs.Steps.{BookTook, BookRead}

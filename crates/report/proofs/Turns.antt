@@ -1,33 +1,23 @@
 -- Laws of a call that is read and made. Assumes nothing.
 use Prim.Native.Nat.{ℕ}
-use mathlib.Core.Path.{_≡_, refl, sym, ap, _∙_}
-use mathlib.Core.List.{List, [], _∷_, map}
-use native.Mathlib.Omega.{arith}
-use lib.ListN.{length, take}
-use borrow.Author.Tests.{eq-eqb, ne-eqb}
-use Rattle.text.specs.Words.{Supply, badWord, nextWord, supplyFrom}
+use mathlib.Core.Path.{_≡_}
+use mathlib.Core.List.{List}
+use lib.ListN.{take}
+use borrow.Author.Tests.{ne-eqb}
+use Rattle.text.specs.Words.{badWord, nextWord, supplyFrom}
 use Rattle.text.specs.declared.words.Read.the-variants.{Word, Refused}
 use Rattle.text.proofs.Supplies.{word, refused as ended}
-use Rattle.pmtl.specs.Calls.{WIDEST, Call}
+use Rattle.pmtl.specs.Calls.{Call}
 use Rattle.pmtl.specs.Calls.Call.{time, state}
-use Rattle.book.specs.Reading.{Read, got, refused, section, next as andNext}
+use Rattle.book.specs.Reading.{Read, refused, next as andNext}
 use Rattle.oracle.specs.Oracle.{Called}
 use Rattle.reader.specs.declared.Part as reader
 use Rattle.reader.specs.Steps.{StateTook, StateRead}
 use Rattle.report.specs.declared.calls.Turn.{Turn}
 use Rattle.report.specs.declared.calls.Turn.the-variants.{Made, Stopped}
 use Rattle.report.specs.Report.{timeFrom, stateFrom, callFrom}
-use Rattle.report.specs.Steps.{partNumber, turnNumber, CallMade, Turned}
+use Rattle.report.specs.Steps.{turnNumber, CallMade, Turned}
 use Rattle.report.proofs.Alike.{as-words}
-
--- ---- numbers that end a reading
-pub part-refused : {p : reader.Part} {n : ℕ} → p ≡ reader.the-variants.Refused n → n ≡ partNumber p
-unfolding partNumber
-part-refused e = rw e
-
-pub part-read : {p : reader.Part} {end next : ℕ} → p ≡ reader.the-variants.Words end next → 0 ≡ partNumber p
-unfolding partNumber
-part-read e = rw e
 
 pub turn-stopped : {t : Turn} {n : ℕ} → t ≡ Stopped n → n ≡ turnNumber t
 unfolding turnNumber

@@ -1,10 +1,10 @@
 -- 01, "The report": the report of any input, byte by byte. Definitions only.
 use Prim.Native.Nat.{ℕ, zero, suc, _+_}
-use mathlib.Core.Bool.{Bool, true, false, cond}
+use mathlib.Core.Bool.{cond}
 use mathlib.Core.List.{List, [], _∷_, _++_}
 use lib.ListN.{length}
 use lib.Dec.{ltb, eqb}
-use Rattle.text.specs.Words.{space, lineFeed, digit0, badWord, Supply, supply}
+use Rattle.text.specs.Words.{space, lineFeed, digit0, badWord, supply}
 use Rattle.text.specs.Decimals.{decimal}
 use Rattle.pmtl.specs.Book.{Book, properties}
 use Rattle.pmtl.specs.Answer.{bitOf, digitOf}

@@ -2,19 +2,14 @@
 use Prim.Native.Nat.{ℕ}
 use mathlib.Core.Path.{_≡_}
 use mathlib.Core.List.{List}
-use Rattle.text.specs.Words.{Supply, supplyFrom}
+use Rattle.text.specs.Words.{supplyFrom}
 use Rattle.pmtl.specs.Calls.{Call}
 use Rattle.book.specs.Reading.{Read, got, refused}
 use Rattle.oracle.specs.Oracle.{Called}
-use Rattle.reader.specs.declared.Part as reader
 use Rattle.report.specs.declared.calls.Turn.{Turn}
 use Rattle.report.specs.declared.calls.Turn.the-variants.{Made, Stopped}
 
--- the number that ended the reading of a book or a state, and of a call
-unfoldable pub partNumber : reader.Part → ℕ
-partNumber (reader.the-variants.Words end next) = 0
-partNumber (reader.the-variants.Refused n) = n
-
+-- the number that ended the reading of a call; 0 where there is one
 unfoldable pub turnNumber : Turn → ℕ
 turnNumber (Made r next) = 0
 turnNumber (Stopped n) = n

@@ -7,7 +7,7 @@ ghost use Rattle.pmtl.specs.Calls.{Call};
 ghost use Rattle.book.specs.Kept.{Kept};
 ghost use Rattle.oracle.specs.Oracle.{Called};
 ghost use Rattle.report.specs.Report.{timeFrom, stateFrom, callFrom};
-ghost use Rattle.report.specs.Steps.{partNumber, turnNumber, Turned};
+ghost use Rattle.report.specs.Steps.{turnNumber, Turned};
 use oracle::SIZE;
 use reader::Part;
 use text::Read;
@@ -28,16 +28,7 @@ pub enum Turn {
     Stopped(u64),
 }
 
-// The numbers that ended a reading.
-pub fn part_number(p: Part) -> u64
-    ensures { λ n. ⌜ n ≡ partNumber p ⌝ }
-{
-    match p {
-        Part::Words(_, _) => 0,
-        Part::Refused(n) => n,
-    }
-}
-
+// The number that ended a reading.
 pub fn turn_number(t: Turn) -> u64
     ensures { λ n. ⌜ n ≡ turnNumber t ⌝ }
 {
@@ -72,7 +63,7 @@ fn state_call(input: &[u8], at: usize, bytes: &mut [u8; WIDEST], monitor: &mut [
 {
     let p = reader::state(input, at, bytes);
     let Part::Words(width, next) = p else {
-        return Turn::Stopped(part_number(p));
+        return Turn::Stopped(reader::part_number(p));
     };
     Turn::Made(state_made(monitor, bytes, width), next)
 }

@@ -102,7 +102,7 @@ pub extern "C" fn binefdar_report(input: &[u8], out: &mut [u8]) -> u64
     let mut words = [0u64; reader::BOOK_WORDS];
     let read = reader::book(input, &mut words);
     let Part::Words(end, next) = read else {
-        return refused_book(out, calls::part_number(read));
+        return refused_book(out, reader::part_number(read));
     };
     loaded_book(input, next, &words[..end], out)
 }

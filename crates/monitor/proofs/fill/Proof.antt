@@ -2,7 +2,7 @@ use borrow.Rule.Slice.PartMut.{same-len-mid}
 use native.Mathlib.Omega.{arith}
 use Rattle.monitor.proofs.Bounds.{further}
 use lib.ListN.{length}
-use mathlib.Core.Path.{_≡_, _∙_, refl}
+use mathlib.Core.Path.{_≡_, _∙_}
 use Prim.Native.Nat.{_-_, _≤_}
 use borrow.Author.Needs.{needs}
 use Rattle.monitor.proofs.fill.Statement.{statement}

@@ -1,7 +1,8 @@
+use Rattle.reader.proofs.Taking.{part-refused}
 use native.Mathlib.Omega.{arith}
 use mathlib.Core.Path.{_∙_, sym}
 use Rattle.report.specs.Steps.{Turned}
-use Rattle.report.proofs.Turns.{part-refused, no-state, state-there, stated}
+use Rattle.report.proofs.Turns.{no-state, state-there, stated}
 use borrow.Author.Needs.{needs}
 use Rattle.report.proofs.calls.state_call.Statement.{statement}
 use Rattle.report.proofs.calls.state_call.Tie as tie

@@ -1,4 +1,3 @@
-use borrow.Author.Needs.{needs}
 use Rattle.report.proofs.lines.bit.Statement.{statement}
 use Rattle.report.proofs.lines.bit.Tie as tie
 

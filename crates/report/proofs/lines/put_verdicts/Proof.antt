@@ -2,7 +2,6 @@ use Rattle.report.proofs.Lasting.{listed-word}
 use Rattle.writer.proofs.Writes.{same-bytes}
 use Prim.Native.Nat.{_-_}
 use native.Mathlib.Omega.{arith}
-use Rattle.rows.proofs.Listed.{listed-at}
 use Rattle.rows.specs.Memory.{bookOf, stateOf}
 use Rattle.report.proofs.Lasting.{few-properties, Wording, word-start, word-more, word-done}
 use borrow.Author.Needs.{needs}

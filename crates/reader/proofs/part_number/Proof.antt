@@ -1,7 +1,7 @@
-use Rattle.report.proofs.Turns.{part-refused, part-read}
+use Rattle.reader.proofs.Taking.{part-refused, part-read}
 use borrow.Author.Needs.{needs}
-use Rattle.report.proofs.calls.part_number.Statement.{statement}
-use Rattle.report.proofs.calls.part_number.Tie as tie
+use Rattle.reader.proofs.part_number.Statement.{statement}
+use Rattle.reader.proofs.part_number.Tie as tie
 
 enum-told : tie.Need-enum-told
 enum-told c = search needs
