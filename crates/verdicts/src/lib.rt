@@ -1,0 +1,243 @@
+// What a loaded monitor answers of its properties.
+ghost use mathlib.Core.Path.{_≡_};
+ghost use Prim.Native.Nat.{ℕ, _+_, _≤_, _<_};
+ghost use mathlib.Core.Bool.{cond};
+ghost use lib.ListN.{length, getD};
+ghost use Rattle.numset.specs.Runs.{Good, runs};
+ghost use Rattle.pmtl.specs.Answer.{bitOf};
+ghost use Rattle.pmtl.specs.Sets.{gone};
+ghost use Rattle.rows.specs.Memory.{SIZE, rowCount, begunWord, assumeCount, guaranteeCount, setWords, isOne, listed, BookKept};
+ghost use Rattle.rows.specs.Facts.{settledOf};
+ghost use Rattle.book.specs.Kept.{Kept};
+ghost use Rattle.verdicts.specs.Verdict.{verdictOf, propertiesIn, answersNumber, answersList};
+ghost use Rattle.verdicts.specs.Steps.{absent, blank, Answered, factAbout, factsOf, atomsOf, Seen};
+use pmtl::Answer;
+
+// The most rows, the widest state and the most properties.
+const MOST_ROWS: usize = 128;
+
+const WIDEST: usize = 256;
+
+const MOST_PROPERTIES: usize = 32;
+
+// What asking for all answers hands back: they are in the list, or the list is too short.
+const DONE: u64 = 0;
+
+const TOO_SHORT: u64 = 12;
+
+// What the rows are told of an empty set: it is gone.
+const GONE: u8 = 4;
+
+// The answers of a property.
+pub struct Verdict {
+    pub value: bool,
+    pub early: Answer,
+    pub settled: Answer,
+}
+
+// The answers of all properties, assumes first, and how many properties there are.
+pub struct Verdicts {
+    pub count: usize,
+    pub list: [Verdict; MOST_PROPERTIES],
+}
+
+fn bit(b: bool) -> u8
+    ensures { λ r. ⌜ r ≡ bitOf b ⌝ }
+{
+    if b { 1 } else { 0 }
+}
+
+// Whether nothing is left in a set that could matter from the clock on: it is empty.
+fn gone(set: &[u64]) -> bool
+    requires { ⌜ 0 < length (now set) ⌝ }
+    ensures { λ r. ⌜ ((c : ℕ) → r ≡ gone c (runs (now (set .entry)))) ⌝ }
+{
+    set[0] == 0
+}
+
+// What the rows are told of a set.
+fn fact_about(set: &[u64], clock: u64) -> u8
+    requires { ⌜ Good (now set) ⌝ }
+    ensures { λ r. ⌜ r ≡ factAbout clock (runs (now (set .entry))) ⌝ }
+{
+    let here = bit(numset::contains(set, clock));
+    let covers = bit(numset::covers(set, clock));
+    here + 2 * covers + GONE * bit(gone(set))
+}
+
+// The set of a slot.
+fn set_at(monitor: &[u64], slot: usize) -> &[u64]
+    requires { ⌜ (length (now monitor) ≡ SIZE) × (slot < 32) ⌝ }
+    ensures { λ r. ⌜ now r ≡ setWords (now (monitor .entry)) slot ⌝ }
+{
+    let from = rows::SETS + rows::SET * slot;
+    let to = from + rows::SET;
+    &monitor[from..to]
+}
+
+// What the rows are told of their sets. A row that is not temporal has the empty set.
+fn read_facts(monitor: &[u64]) -> [u8; MOST_ROWS]
+    requires { ⌜ Kept (now monitor) ⌝ }
+    ensures { λ r. ⌜ r ≡ factsOf (now (monitor .entry)) ⌝ }
+{
+    let clock = rows::clock(monitor);
+    let count = rows::temporal_count(monitor);
+    let mut facts = [GONE; MOST_ROWS];
+    let mut slot = 0;
+    while slot < count {
+        let row = rows::owner_at(monitor, slot);
+        facts[row] = fact_about(set_at(monitor, slot), clock);
+        slot += 1;
+    }
+    facts
+}
+
+// The atoms, a byte for each.
+fn read_atoms(monitor: &[u64]) -> [u8; WIDEST]
+    requires { ⌜ Kept (now monitor) ⌝ }
+    ensures { λ r. ⌜ r ≡ atomsOf (now (monitor .entry)) ⌝ }
+{
+    let count = rows::width(monitor);
+    let mut atoms = [0u8; WIDEST];
+    let mut i = 0;
+    while i < count {
+        atoms[i] = rows::word(monitor, rows::ATOMS + i) as u8;
+        i += 1;
+    }
+    atoms
+}
+
+// How many properties the book has.
+fn property_count(monitor: &[u64]) -> usize
+    requires { ⌜ BookKept (now monitor) ⌝ }
+    ensures { λ r. ⌜ r ≡ assumeCount (now (monitor .entry)) + guaranteeCount (now (monitor .entry)) ⌝ }
+{
+    rows::assume_count(monitor) + rows::guarantee_count(monitor)
+}
+
+// The answers of a property that is not there.
+fn absent() -> Verdict
+    ensures { λ r. ⌜ r ≡ absent ⌝ }
+{
+    Verdict {
+        value: false,
+        early: Answer::Open,
+        settled: Answer::Open,
+    }
+}
+
+// A row's settled answer: open before the first accepted call.
+fn settled_at<'a>(monitor: &'a [u64], facts: &'a [u8; MOST_ROWS], row: usize) -> Answer
+    requires { ⌜ BookKept (now monitor) ⌝ }
+    requires { ⌜ row < rowCount (now monitor) ⌝ }
+    ensures { λ r. ⌜ r ≡ cond (isOne (begunWord (now (monitor .entry)))) (settledOf (now (monitor .entry)) (now (facts .entry)) row) Answer.Open ⌝ }
+{
+    if rows::begun(monitor) == 1 {
+        return rows::settled(monitor, facts, row);
+    }
+    Answer::Open
+}
+
+// The answers of property `i`, from the monitor's atoms and facts.
+fn verdict_at<'a>(
+    monitor: &'a [u64],
+    atoms: &'a [u8; WIDEST],
+    facts: &'a [u8; MOST_ROWS],
+    i: usize,
+) -> Verdict
+    requires { ⌜ Seen (now monitor) (now atoms) (now facts) ⌝ }
+    ensures { λ r. ⌜ r ≡ verdictOf (now (monitor .entry)) i ⌝ }
+{
+    if property_count(monitor) <= i {
+        return absent();
+    }
+    let row = rows::word(monitor, rows::PROPERTIES + i) as usize;
+    let value = rows::output(monitor, atoms, facts, row);
+    let early = rows::valuation(monitor, facts, row);
+    let settled = settled_at(monitor, facts, row);
+    Verdict {
+        value,
+        early,
+        settled,
+    }
+}
+
+// The answers of property `i`, assumes first.
+pub fn of_property(monitor: &[u64], i: usize) -> Verdict
+    requires { ⌜ Kept (now monitor) ⌝ }
+    ensures { λ r. ⌜ r ≡ verdictOf (now (monitor .entry)) i ⌝ }
+{
+    let atoms = read_atoms(monitor);
+    let facts = read_facts(monitor);
+    verdict_at(monitor, &atoms, &facts, i)
+}
+
+// The answers of all properties, assumes first.
+pub fn all(monitor: &[u64]) -> Verdicts
+    requires { ⌜ Kept (now monitor) ⌝ }
+    ensures { λ r. ⌜ (r .count ≡ propertiesIn (now (monitor .entry))) × (r .list ≡ listed (verdictOf (now (monitor .entry))) 32) ⌝ }
+{
+    let atoms = read_atoms(monitor);
+    let facts = read_facts(monitor);
+    let count = property_count(monitor);
+    let none = absent();
+    let mut list = [none; MOST_PROPERTIES];
+    let mut i = 0;
+    while i < count {
+        list[i] = verdict_at(monitor, &atoms, &facts, i);
+        i += 1;
+    }
+    Verdicts { count, list }
+}
+
+// What is to be stored into a lent list: how many records, and the number to hand back.
+struct Filling {
+    number: u64,
+    count: usize,
+    list: [Verdict; MOST_PROPERTIES],
+}
+
+// What is to be stored into a list of `room` records: nothing where that is shorter than the properties.
+fn filling_for(monitor: &[u64], room: usize) -> Filling
+    requires { ⌜ Kept (now monitor) ⌝ }
+    ensures { λ r. ⌜ Answered (now (monitor .entry)) room (r .number) (r .count) (r .list) ⌝ }
+{
+    let verdicts = all(monitor);
+    let list = verdicts.list;
+    let count = verdicts.count;
+    if room < count {
+        return Filling {
+            number: TOO_SHORT,
+            count: 0,
+            list,
+        };
+    }
+    Filling {
+        number: DONE,
+        count,
+        list,
+    }
+}
+
+// The record of one property among them.
+fn nth(filling: Filling, i: usize) -> Verdict
+    requires { ⌜ i < 32 ⌝ }
+    ensures { λ r. ⌜ r ≡ getD (filling .list) i blank ⌝ }
+{
+    filling.list[i]
+}
+
+// The answers of all properties, assumes first, into the first records of `out`. Where that is shorter than the properties, the
+// answer is 12 and nothing is changed.
+pub fn answers(monitor: &[u64], out: &mut [Verdict]) -> u64
+    requires { ⌜ Kept (now monitor) ⌝ }
+    ensures { λ r. ⌜ (r ≡ answersNumber (now (monitor .entry)) (length (now (out .entry)))) × (now (out .exit) ≡ answersList (now (monitor .entry)) (now (out .entry))) ⌝ }
+{
+    let filling = filling_for(monitor, out.len());
+    let mut i = 0;
+    while i < filling.count {
+        out[i] = nth(filling, i);
+        i += 1;
+    }
+    filling.number
+}
