@@ -14,8 +14,8 @@ use Rattle.pmtl.specs.Calls.Call.{time, state}
 use Rattle.book.specs.Reading.{Read, section, next, Sections, sections}
 use Rattle.book.specs.Reading.Read.{got, refused}
 use Rattle.book.specs.Judging.{Loaded, loadedFrom}
-use Rattle.oracle.specs.declared.Verdict.{Verdict}
-use Rattle.oracle.specs.Oracle.{verdictIn}
+use Rattle.verdicts.specs.declared.Verdict.{Verdict}
+use Rattle.verdicts.specs.Verdict.{verdictIn}
 
 -- ---- lines. The words book, stop and end are fixed
 abbrev pub bookWord : List ℕ
