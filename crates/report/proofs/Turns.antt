@@ -53,7 +53,7 @@ module _ (input : List ℕ) (at : ℕ) where
         called = c;
       }
 
--- ---- state calls
+  -- ---- state calls
   pub no-state : (m′ : List ℕ) {p : reader.Part} {r n : ℕ} → StateRead input at m′ p → p ≡ reader.the-variants.Refused r → n ≡ r → stateFrom (supplyFrom input at .ending) (supplyFrom input at .words) ≡ refused n
   unfolding stateFrom andNext StateRead
   no-state m′ k e f = rw (rw e at k, f)
@@ -72,7 +72,7 @@ module _ (input : List ℕ) (at : ℕ) where
         called = as-words (rw (k .stand) at c);
       }
 
--- ---- calls
+  -- ---- calls
   pub no-kind : {r n : ℕ} → nextWord input at ≡ Refused r → n ≡ r → callFrom (supplyFrom input at .ending) (supplyFrom input at .words) ≡ refused n
   unfolding callFrom
   no-kind e f = rw (ended input at e, f)

@@ -71,9 +71,10 @@ loop-less c = search needs
 
 -- src/main.rt:34:5
 loop-again : tie.Need-loop-again Inv-loop μ-loop
-loop-again c = let l = c .before .before .before .before .before .before .before .before .before .loop in
-    (same-len-mid (l .n) (length (l .input) - l .n) (l .input) (c .before .before .before .before .before .before .read-some .last .0) (c .before .before .before .before .before .before .read-some .kept .0) ∙ l .inv .0,
-     omega (arith, l .inv .0, further (l .input) (l .n) (c .before .before .before .before .before .before .read-some .ensures) (c .before .before .came .given .1) (c .before .before .before .before .before .before .before .before .loop-test .taken)))
+loop-again c = let l = c .before .before .before .before .before .before .before .before .before .loop in (
+  same-len-mid (l .n) (length (l .input) - l .n) (l .input) (c .before .before .before .before .before .before .read-some .last .0) (c .before .before .before .before .before .before .read-some .kept .0) ∙ l .inv .0,
+  omega (arith, l .inv .0, further (l .input) (l .n) (c .before .before .before .before .before .before .read-some .ensures) (c .before .before .came .given .1) (c .before .before .before .before .before .before .before .before .loop-test .taken)),
+)
 
 -- src/main.rt:30:1
 same-length-3 : tie.Need-same-length-3 Inv-loop μ-loop
