@@ -13,7 +13,7 @@ use borrow.Author.Tests.{lt-ltb, le-ltb}
 use Rattle.pmtl.proofs.Bools.{and-intro, and-no-left, and-no-right}
 use Rattle.pmtl.specs.Book.{every}
 use Rattle.book.specs.Judging.{allTo}
-use Rattle.book.specs.Placing.{allBelow}
+use Rattle.book.specs.Steps.{allBelow}
 use Rattle.book.proofs.Tests.{Answers, due, undue}
 
 module _ (f : ℕ → Bool) where

@@ -13,7 +13,7 @@ use Rattle.pmtl.proofs.Bools.{fails-by, and-intro, and-no-left, and-no-right}
 use Rattle.pmtl.specs.Book.{H}
 use Rattle.rows.specs.Memory.{temporal}
 use Rattle.book.specs.Judging.{kindIn, argIn, lowerIn, upperIn, temporalsIn, argGood, formGood, rangeGood, rowNumber}
-use Rattle.book.specs.Placing.{refusal, leastArgs, largestArgs}
+use Rattle.book.specs.Steps.{refusal, leastArgs, largestArgs}
 use Rattle.book.proofs.Tests.{Answers, due, undue, good, stands, carried, goes-on}
 use Rattle.book.proofs.Accepted.{arg-kind}
 

@@ -6,7 +6,8 @@ use Prim.Native.Nat.{ℕ}
 use lib.Dec.{lit<}
 use Rattle.book.specs.Reading.{Sections}
 use Rattle.book.specs.Judging.{rowsIn, firstTo, rowNumber, linksGood, usedOnce, judged, Loaded, loaded}
-use Rattle.book.specs.Placing.{partsOf, Placed, Told}
+use Rattle.book.specs.Placing.{partsOf, Placed}
+use Rattle.book.specs.Steps.{Told}
 use Rattle.book.proofs.Tests.{Answers, good, stands, goes-on}
 use Rattle.book.proofs.Rows.{stays}
 use Rattle.book.proofs.Placing.{number-judged, loaded-from}

@@ -12,7 +12,8 @@ use Rattle.pmtl.specs.Book.{Book}
 use Rattle.rows.specs.Memory.{part}
 use Rattle.book.specs.Reading.{Read, got, refused, Sections, sections}
 use Rattle.book.specs.Judging.{rowsIn, judged, bookIn, Loaded, refusedWith, loadedFrom, whole, loaded}
-use Rattle.book.specs.Placing.{partsOf, Counted, Few, Placed}
+use Rattle.book.specs.Placing.{partsOf, Counted, Placed}
+use Rattle.book.specs.Steps.{Few}
 
 -- ---- what is loaded, by the number
 abbrev picked : Bool → ℕ → Book → Loaded

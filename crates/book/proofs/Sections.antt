@@ -10,7 +10,8 @@ use borrow.Author.Tests.{lt-ltb, le-ltb}
 use Rattle.rows.specs.Memory.{part}
 use Rattle.book.specs.Reading.{got, refused, section, next, sections}
 use Rattle.book.specs.Judging.{refusedWith, whole, loaded}
-use Rattle.book.specs.Placing.{partsOf, sectionsOf, Told, SectionTold}
+use Rattle.book.specs.Placing.{partsOf, sectionsOf}
+use Rattle.book.specs.Steps.{Told, SectionTold}
 
 module _ (words : List ℕ) (at limit size number count next : ℕ) where
   refuses : (number ≡ 0 → ⊥) → next ≡ 0 → section 1 limit size (drop at words) ≡ refused number → SectionTold words at limit size number count next

@@ -4,7 +4,7 @@ use mathlib.Core.Bool.{Bool, true, false, cond, not, true≢false, false≢true}
 use Prim.Native.Nat.{ℕ, zero, suc, _<_}
 use native.Mathlib.Omega.{arith}
 use Rattle.book.specs.Judging.{firstOf}
-use Rattle.book.specs.Placing.{refusal}
+use Rattle.book.specs.Steps.{refusal}
 
 -- a refusal that did not come: its test passed, and what comes after it is 0
 pub passed : (b : Bool) (n x : ℕ) → 0 < n → cond (not b) n x ≡ 0 → b ≡ true

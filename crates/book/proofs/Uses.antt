@@ -9,14 +9,14 @@ use native.Mathlib.Omega.{arith}
 use lib.ListN.{length, getD, take, set, replicate, length-set, getD-replicate}
 use lib.Seq.{length-take-le, take-suc, getD-set-same, getD-set-other, take-length}
 use lib.Dec.{eqb}
-use borrow.Author.Tests.{eqb-true, eqb-false}
+use borrow.Author.Tests.{eqb-true, eqb-false, eq-eqb, ne-eqb}
 use Rattle.pmtl.specs.Answer.{bitOf}
 use Rattle.book.specs.Reading.{Sections}
 use Rattle.book.specs.Judging.{rowsIn, allTo, timesIn, usesOf, usedOnce}
-use Rattle.book.specs.Placing.{refusal, Countable, Tallied, Linked}
+use Rattle.book.specs.Steps.{refusal, Countable, Tallied, Linked}
 use Rattle.book.proofs.Tests.{Answers}
 use Rattle.book.proofs.Accepted.{linked-operand, linked-assume, linked-guarantee}
-use Rattle.book.proofs.All.{all-same}
+use Rattle.book.proofs.All.{one-fails, all-more, all-same}
 
 pub times-append : (r : ℕ) (xs ys : List ℕ) → timesIn r (xs ++ ys) ≡ timesIn r xs + timesIn r ys
 unfolding timesIn
@@ -65,6 +65,14 @@ module _ (uses times₀ : List ℕ) where
 
     pub tally-done : i ≡ length uses → Tallied uses times₀ times
     tally-done e = rw (e, take-length) at t
+
+-- a table of counts, looked through
+module _ (times : List ℕ) (row : ℕ) where
+  pub not-once : (n : ℕ) → row < n → (getD times row 0 ≡ 1 → ⊥) → Answers 6 6 (allTo (λ r. eqb (getD times r 0) 1) n)
+  not-once n l other = one-fails (λ r. eqb (getD times r 0) 1) 6 row n l (ne-eqb (getD times row 0) 1 other)
+
+  pub once-more : allTo (λ r. eqb (getD times r 0) 1) row ≡ true → getD times row 0 ≡ 1 → allTo (λ r. eqb (getD times r 0) 1) (row + 1) ≡ true
+  once-more h e = all-more (λ r. eqb (getD times r 0) 1) row h (eq-eqb (getD times row 0) 1 e)
 
 -- ---- the three places where rows are used, tallied one after the other in a table of zeros
 abbrev zeros : List ℕ

@@ -1,14 +1,18 @@
 // A book handed over as words: the number that it is refused with, and where its sections stand.
 ghost use mathlib.Core.Path.{_≡_};
 ghost use mathlib.Core.Bool.{true, not, _&&_};
-ghost use mathlib.Core.List.{[]};
-ghost use Prim.Native.Nat.{ℕ, _+_, _*_, _/_, _≤_, _<_};
+ghost use Prim.Native.Nat.{_+_, _/_, _≤_, _<_};
 ghost use lib.ListN.{length, getD};
-ghost use lib.Dec.{ltb, leb, eqb};
+ghost use lib.Dec.{leb, eqb};
 ghost use Rattle.pmtl.specs.Answer.{bitOf};
 ghost use Rattle.rows.specs.Memory.{part, temporal, countOf};
-ghost use Rattle.book.specs.Judging.{kindIn, argIn, lowerIn, upperIn, temporalsIn, startIn, firstTo, allTo, argGood, formGood, rangeGood, rowNumber, operandsGood, linksGood, timesIn, usesOf, usedOnce, judged, loaded};
-ghost use Rattle.book.specs.Placing.{partsOf, sectionsOf, refusal, leastArgs, largestArgs, allBelow, operandsMet, Countable, Tallied, Few, Linked, Counted, Placed, Told, SectionTold};
+ghost use Rattle.book.specs.Judging.{kindIn, argIn, lowerIn, upperIn, temporalsIn, firstTo, allTo, argGood, formGood, rangeGood, rowNumber, linksGood, usedOnce, judged, loaded};
+ghost use Rattle.book.specs.Placing.{partsOf, sectionsOf, Counted, Placed};
+ghost use Rattle.book.specs.Steps.{refusal, leastArgs, largestArgs, allBelow, operandsMet, Countable, Tallied, Few, Linked, Told, SectionTold};
+use rows::AND;
+use rows::HISTORICALLY;
+use rows::MOST_ROWS;
+use rows::SINCE;
 
 // The numbers that a book is answered with.
 pub const ACCEPTED: u64 = 0;
@@ -26,16 +30,16 @@ const WRONG_LINK: u64 = 5;
 const WRONG_USE: u64 = 6;
 
 // How many there may be.
-const MOST_ROWS: usize = 128;
-
 const MOST_OPERANDS: usize = 128;
 
 const MOST_PROPERTIES: usize = 16;
 
 const MOST_TEMPORALS: usize = 32;
 
-// A section's count takes a word.
+// A section's count takes a word, and so does an operand or a property.
 pub const COUNT_WORD: usize = 1;
+
+const NUMBER_WORDS: usize = 1;
 
 // A row's words: kind, arg, lower, upper.
 pub const ROW_WORDS: usize = 4;
@@ -45,13 +49,6 @@ const ARG: usize = 1;
 const LOWER: usize = 2;
 
 const UPPER: usize = 3;
-
-// The first kind whose arg counts its operands, the first that is temporal, and the last.
-const AND: u64 = 3;
-
-const HISTORICALLY: u64 = 7;
-
-const SINCE: u64 = 9;
 
 // The least and the largest arg of each kind.
 const LEAST_ARGS: [u64; 10] = [0, 0, 0, 0, 0, 1, 2, 1, 1, 2];
@@ -150,15 +147,15 @@ fn counts(words: &[u64]) -> Places
     if rows.number != ACCEPTED {
         return refused(rows.number);
     }
-    let operands = read_section(words, rows.next, MOST_OPERANDS, 1);
+    let operands = read_section(words, rows.next, MOST_OPERANDS, NUMBER_WORDS);
     if operands.number != ACCEPTED {
         return refused(operands.number);
     }
-    let assumes = read_section(words, operands.next, MOST_PROPERTIES, 1);
+    let assumes = read_section(words, operands.next, MOST_PROPERTIES, NUMBER_WORDS);
     if assumes.number != ACCEPTED {
         return refused(assumes.number);
     }
-    let guarantees = read_section(words, assumes.next, MOST_PROPERTIES, 1);
+    let guarantees = read_section(words, assumes.next, MOST_PROPERTIES, NUMBER_WORDS);
     if guarantees.number != ACCEPTED {
         return refused(guarantees.number);
     }
@@ -218,18 +215,18 @@ fn largest_arg(kind: usize) -> u64
     LARGEST_ARGS[kind]
 }
 
-// Refuses what is no kind, and an arg that its kind does not take.
+// Refuses what is no kind, Since being the last, and an arg that its kind does not take.
 fn arg_number(kind: u64, arg: u64) -> u64
     ensures { λ r. ⌜ r ≡ refusal 3 (argGood kind arg) ⌝ }
 {
     if SINCE < kind {
         return WRONG_FORM;
     }
-    let row = kind as usize;
-    if arg < least_arg(row) {
+    let at = kind as usize;
+    if arg < least_arg(at) {
         return WRONG_FORM;
     }
-    if largest_arg(row) < arg {
+    if largest_arg(at) < arg {
         return WRONG_FORM;
     }
     ACCEPTED
@@ -295,18 +292,18 @@ fn row_number(rows: &[u64], row: usize, temporals: usize) -> u64
     let kind = kind_in(rows, row);
     let lower = lower_in(rows, row);
     let upper = upper_in(rows, row);
-    let wrong = form_number(kind, arg_in(rows, row), lower, upper);
-    if wrong != ACCEPTED {
-        return wrong;
+    let form = form_number(kind, arg_in(rows, row), lower, upper);
+    let range = range_number(lower, upper);
+    if form != ACCEPTED {
+        return form;
     }
-    let wrong = range_number(lower, upper);
-    if wrong != ACCEPTED {
-        return wrong;
+    if range != ACCEPTED {
+        return range;
     }
     room_number(kind, temporals)
 }
 
-// 1 for a temporal row, 0 for another.
+// 1 for a temporal row, from Historically on, 0 for another.
 fn temporal_bit(kind: u64) -> usize
     ensures { λ r. ⌜ r ≡ bitOf (temporal kind) ⌝ }
 {
@@ -407,7 +404,7 @@ fn links_number<'a>(
 }
 
 // Counts in a table how often each row is used.
-fn tally(uses: &[u64], times: &mut [u8; 128])
+fn tally(uses: &[u64], times: &mut [u8; MOST_ROWS])
     requires { ⌜ Countable (now uses) (now times) ⌝ }
     ensures { λ _. ⌜ Tallied (now (uses .entry)) (now (times .entry)) (now (times .exit)) ⌝ }
 {
@@ -420,7 +417,7 @@ fn tally(uses: &[u64], times: &mut [u8; 128])
 }
 
 // Refuses rows that are not used exactly once.
-fn once_number(times: &[u8; 128], count: usize) -> u64
+fn once_number(times: &[u8; MOST_ROWS], count: usize) -> u64
     requires { ⌜ (length (now times) ≡ 128) × (count ≤ 128) ⌝ }
     ensures { λ r. ⌜ r ≡ refusal 6 (allTo (λ row. eqb (getD (now (times .entry)) row 0) 1) count) ⌝ }
 {
@@ -444,7 +441,7 @@ fn uses_number<'a>(
     requires { ⌜ Linked (sectionsOf (now rows) (now operands) (now assumes) (now guarantees)) ⌝ }
     ensures { λ r. ⌜ r ≡ refusal 6 (usedOnce (sectionsOf (now (rows .entry)) (now (operands .entry)) (now (assumes .entry)) (now (guarantees .entry)))) ⌝ }
 {
-    let mut times = [0u8; 128];
+    let mut times = [0u8; MOST_ROWS];
     tally(operands, &mut times);
     tally(assumes, &mut times);
     tally(guarantees, &mut times);

@@ -3,12 +3,16 @@ ghost use Prim.Native.Nat.{_≤_};
 ghost use lib.ListN.{length};
 use libc::STDIN_FILENO;
 use libc::STDOUT_FILENO;
+use rows::SIZE;
 use text::Read;
 
 const MOST_BYTES: usize = 65536;
 
 // More than the words of the longest book, so that words left over are seen.
 const MOST_WORDS: usize = 1024;
+
+// What stands in a memory before a book is loaded into it.
+const UNKNOWN: u64 = 0xffff_ffff_ffff_ffff;
 
 fn show(n: u64) {
     let mut scratch = [0u8; 20];
@@ -49,10 +53,12 @@ fn words_of(line: &[u8], words: &mut [u64]) -> usize
     count
 }
 
+// What the book of a line is answered with, loaded over what is no monitor.
 fn number_of(line: &[u8]) -> u64 {
     let mut words = [0u64; MOST_WORDS];
     let count = words_of(line, &mut words);
-    count as u64
+    let mut monitor = [UNKNOWN; SIZE];
+    store::load(&words[..count], &mut monitor)
 }
 
 fn show_line(line: &[u8]) {

@@ -1,13 +1,13 @@
 -- What the search of `contains` knows at each turn. Assumes nothing.
 use Prim.Native.Nat.{ℕ, zero, suc, _+_, _-_, _^_, _≤_, _<_}
-use mathlib.Core.Path.{_≡_, refl, sym, ap, _∙_, subst}
+use mathlib.Core.Path.{_≡_, sym, ap, _∙_, subst}
 use mathlib.Core.Bool.{false, or-false}
 use mathlib.Core.List.{List}
 use native.Mathlib.Omega.{arith}
 use lib.ListN.{getD}
 use lib.Dec.{leb}
 use borrow.Author.Tests.{le-leb}
-use Rattle.numset.specs.Runs.{Runs, lo, hi, runsTo, runs, Under, Good, has}
+use Rattle.numset.specs.Runs.{Runs, lo, hi, runsTo, runs, Under, has}
 use Rattle.numset.proofs.Laws.{under-has, older-same}
 use Rattle.numset.proofs.Words.{runs-pos, runs-none, newest}
 
@@ -42,9 +42,6 @@ pub record Halving (m : List ℕ) (t low high : ℕ) : Type 0 where
   pub apart : Under (2 ^ 64 + 1) (runsTo m high)
   pub begun : 0 < low → lo m (low - 1) ≤ t
   pub same : has (runs m) t ≡ has (runsTo m high) t
-
-pub halving-start : {m : List ℕ} (t : ℕ) → Good m → Halving m t 0 (getD m 0 0)
-halving-start t g = record { order = omega arith; few = omega arith; apart = g .apart; begun = λ h. absurd (omega arith); same = refl }
 
 pub halving-up : {m : List ℕ} {t low high : ℕ} (mid : ℕ) → Halving m t low high → mid < high → lo m mid ≤ t → Halving m t (mid + 1) high
 halving-up {m} {t} mid w h p =

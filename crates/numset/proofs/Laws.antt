@@ -74,11 +74,6 @@ unfolding Under Canonical topOf
 under-topOf [] w = tt
 under-topOf (run l u ∷ rs) w = (w .0, omega arith, w .1)
 
--- a canonical set whose newest run ends before top - 1 is under top
-pub under-of : (top l u : ℕ) (rs : Runs) → Canonical (run l u ∷ rs) → u + 1 < top → Under top (run l u ∷ rs)
-unfolding Under Canonical
-under-of top l u rs w h = (w .0, h, w .1)
-
 pub canonical-older : (l u : ℕ) (rs : Runs) → Canonical (run l u ∷ rs) → Canonical rs
 unfolding Canonical
 canonical-older l u rs w = canonical l rs (w .1)

@@ -28,6 +28,9 @@ const NO_ROOM: u64 = 11;
 // The words of a set of one run.
 const ONE_RUN: usize = 3;
 
+// The gap between the ends of two neighbours: runs that are no further apart are one run.
+const ADJACENT: u64 = 1;
+
 // The lower end of run `j`.
 fn lower_at(set: &[u64], j: usize) -> u64
     requires { ⌜ 2 * j + 2 < length (now set) ⌝ }
@@ -117,7 +120,7 @@ fn wipe(set: &mut [u64], from: usize, to: usize)
     }
 }
 
-// How far `b` is past `a`, 0 where it is not. Two runs are apart where the gap is over 1: so asked, no sum wraps at MAX.
+// How far `b` is past `a`, 0 where it is not. With it no sum is needed, which would wrap at MAX.
 fn gap(a: u64, b: u64) -> u64
     ensures { λ r. ⌜ r ≡ b - a ⌝ }
 {
@@ -151,7 +154,7 @@ fn end_of(set: &[u64], upper: u64) -> usize
 {
     let mut i = set[0] as usize;
     while 0 < i {
-        if gap(upper, lower_at(set, i - 1)) < 2 {
+        if gap(upper, lower_at(set, i - 1)) <= ADJACENT {
             return i;
         }
         i -= 1;
@@ -170,7 +173,7 @@ fn join(set: &[u64], end: usize, lower: u64, upper: u64) -> Span
     let mut high = upper;
     while 0 < start {
         let top = upper_at(set, start - 1);
-        if 1 < gap(top, low) {
+        if ADJACENT < gap(top, low) {
             return Span {
                 start,
                 end,
@@ -179,7 +182,8 @@ fn join(set: &[u64], end: usize, lower: u64, upper: u64) -> Span
             };
         }
         start -= 1;
-        low = lesser(low, lower_at(set, start));
+        let bottom = lower_at(set, start);
+        low = lesser(low, bottom);
         high = greater(high, top);
     }
     Span {
@@ -211,7 +215,7 @@ fn find_span(set: &[u64], lower: u64, upper: u64) -> Span
         return join(set, end_of(set, upper), lower, upper);
     }
     let high = upper_at(set, n - 1);
-    if 1 < gap(high, lower) {
+    if ADJACENT < gap(high, lower) {
         return Span {
             start: n,
             end: n,

@@ -6,14 +6,14 @@ use native.Mathlib.Numerals.{add-one}
 use native.Mathlib.Decide.{decLt}
 use mathlib.Core.Path.{_≡_, refl, sym, ap, ap₂, subst, _∙_}
 use mathlib.Core.Logic.{_⊎_, inl, inr, ⊎-elim}
-use mathlib.Core.List.{List, [], _∷_, map}
+use mathlib.Core.List.{List, _∷_, map}
 use lib.ListN.{length, getD, take, drop, length-take, length-drop}
 use lib.Seq.{drop-cons, getD-take, getD-drop}
 use lib.Dec.{lit<}
 use Rattle.pmtl.specs.Book.{Row, mapRow, rowAt, AllBelow, Below, Ordered, answer}
 use Rattle.pmtl.specs.Book.Row.{never}
 use Rattle.pmtl.proofs.Table.{answer-in, row-out}
-use Rattle.rows.specs.Memory.{OPERANDS, SIZE, rowCount, kindAt, argAt, lowerAt, upperAt, startAt, operandsOf, rowFrom, countOf, rowOf, rowsOf, RowKept, BookKept}
+use Rattle.rows.specs.Memory.{OPERANDS, SIZE, rowCount, kindAt, argAt, lowerAt, upperAt, startAt, operandsOf, rowFrom, countOf, rowOf, rowsOf, BookKept}
 use Rattle.rows.specs.Walk.{Span, operandsFrom}
 use Rattle.rows.proofs.Listed.{listed-length, listed-at}
 

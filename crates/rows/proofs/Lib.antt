@@ -3,3 +3,4 @@ pub mod Kept
 pub mod Values
 pub mod Earlies
 pub mod Settleds
+pub mod Facts

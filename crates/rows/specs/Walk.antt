@@ -59,9 +59,7 @@ earlyCovered zero l = decided (isTrue l) (isFalse l && zero)
 
 -- an operand that decides And, or Or if `any`
 abbrev pub decides : (any : Bool) → Answer → Bool
-decides any False = not any
-decides any True = any
-decides any Open = false
+decides any x = cond any (isTrue x) (isFalse x)
 
 -- settled And or Or of the operands so far and those that are left
 unfoldable pub settledSoFar : (any : Bool) → Answer → List Answer → Answer

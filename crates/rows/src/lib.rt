@@ -60,16 +60,28 @@ pub const SET: usize = 129;
 
 pub const SIZE: usize = 5351;
 
+// The most rows, and the most atoms.
+pub const MOST_ROWS: usize = 128;
+
+pub const MOST_ATOMS: usize = 256;
+
+// A fact's bits: the set contains the clock, it covers, it is gone.
+pub const HERE: u8 = 1;
+
+pub const COVERS: u8 = 2;
+
+pub const GONE: u8 = 4;
+
 // Where a row's words stand in it, after its kind.
-const ARG: usize = 1;
+pub const ARG: usize = 1;
 
-const LOWER: usize = 2;
+pub const LOWER: usize = 2;
 
-const UPPER: usize = 3;
+pub const UPPER: usize = 3;
 
-const START: usize = 4;
+pub const START: usize = 4;
 
-const SLOT: usize = 5;
+pub const SLOT: usize = 5;
 
 // The kinds of a row.
 pub const FALSE: u64 = 0;
@@ -224,7 +236,7 @@ pub fn owner_at(monitor: &[u64], slot: usize) -> usize
 }
 
 // Whether a row's set contains the clock.
-fn here_at(facts: &[u8; 128], row: usize) -> bool
+fn here_at(facts: &[u8; MOST_ROWS], row: usize) -> bool
     requires { ⌜ row < 128 ⌝ }
     ensures { λ r. ⌜ r ≡ hereIn (now (facts .entry)) row ⌝ }
 {
@@ -234,8 +246,8 @@ fn here_at(facts: &[u8; 128], row: usize) -> bool
 // Whether a row holds.
 pub fn output<'a>(
     monitor: &'a [u64],
-    atoms: &'a [u8; 256],
-    facts: &'a [u8; 128],
+    atoms: &'a [u8; MOST_ATOMS],
+    facts: &'a [u8; MOST_ROWS],
     row: usize,
 ) -> bool
     requires { ⌜ BookKept (now monitor) ⌝ }
@@ -267,8 +279,8 @@ pub fn output<'a>(
 // Asks `left` operands of `row` from `place` on, in turn, until one answers `stop`.
 fn output_walk<'a>(
     monitor: &'a [u64],
-    atoms: &'a [u8; 256],
-    facts: &'a [u8; 128],
+    atoms: &'a [u8; MOST_ATOMS],
+    facts: &'a [u8; MOST_ROWS],
     row: usize,
     place: usize,
     left: usize,
@@ -298,15 +310,15 @@ fn from_now(monitor: &[u64], row: usize) -> bool
 }
 
 // Whether a row's set has every instant from the clock on.
-fn covers_at(facts: &[u8; 128], row: usize) -> bool
+fn covers_at(facts: &[u8; MOST_ROWS], row: usize) -> bool
     requires { ⌜ row < 128 ⌝ }
     ensures { λ r. ⌜ r ≡ coversIn (now (facts .entry)) row ⌝ }
 {
-    facts[row] / 2 % 2 == 1
+    facts[row] / COVERS % 2 == 1
 }
 
-// A row's early answer: it is always true, or always false, from the clock on.
-pub fn valuation<'a>(monitor: &'a [u64], facts: &'a [u8; 128], row: usize) -> Answer
+// A row's early answer.
+pub fn valuation<'a>(monitor: &'a [u64], facts: &'a [u8; MOST_ROWS], row: usize) -> Answer
     requires { ⌜ BookKept (now monitor) ⌝ }
     requires { ⌜ row < rowCount (now monitor) ⌝ }
     ensures { λ r. ⌜ r ≡ valuationOf (now (monitor .entry)) (now (facts .entry)) row ⌝ }
@@ -353,7 +365,7 @@ pub fn valuation<'a>(monitor: &'a [u64], facts: &'a [u8; 128], row: usize) -> An
 // Asks `left` operands of `row` from `place` on, in turn, until one is open.
 fn valuation_walk<'a>(
     monitor: &'a [u64],
-    facts: &'a [u8; 128],
+    facts: &'a [u8; MOST_ROWS],
     row: usize,
     place: usize,
     left: usize,
@@ -384,15 +396,15 @@ fn valuation_walk<'a>(
 }
 
 // Whether nothing of a row's set can matter any more.
-fn gone_at(facts: &[u8; 128], row: usize) -> bool
+fn gone_at(facts: &[u8; MOST_ROWS], row: usize) -> bool
     requires { ⌜ row < 128 ⌝ }
     ensures { λ r. ⌜ r ≡ goneIn (now (facts .entry)) row ⌝ }
 {
-    facts[row] / 4 % 2 == 1
+    facts[row] / GONE % 2 == 1
 }
 
 // Whether it covers and is not gone.
-fn covers_alone(facts: &[u8; 128], row: usize) -> bool
+fn covers_alone(facts: &[u8; MOST_ROWS], row: usize) -> bool
     requires { ⌜ row < 128 ⌝ }
     ensures { λ r. ⌜ r ≡ coversAlone (coversIn (now (facts .entry)) row) (goneIn (now (facts .entry)) row) ⌝ }
 {
@@ -404,7 +416,7 @@ fn covers_alone(facts: &[u8; 128], row: usize) -> bool
 }
 
 // A row's settled answer, once a call was accepted: no further call can change its value.
-pub fn settled<'a>(monitor: &'a [u64], facts: &'a [u8; 128], row: usize) -> Answer
+pub fn settled<'a>(monitor: &'a [u64], facts: &'a [u8; MOST_ROWS], row: usize) -> Answer
     requires { ⌜ BookKept (now monitor) ⌝ }
     requires { ⌜ row < rowCount (now monitor) ⌝ }
     ensures { λ r. ⌜ r ≡ settledOf (now (monitor .entry)) (now (facts .entry)) row ⌝ }
@@ -450,7 +462,12 @@ pub fn settled<'a>(monitor: &'a [u64], facts: &'a [u8; 128], row: usize) -> Answ
 }
 
 // The settled answer of a Since row, whose two operands stand from `start` on. Right is asked where left does not decide.
-fn settled_since<'a>(monitor: &'a [u64], facts: &'a [u8; 128], row: usize, start: usize) -> Answer
+fn settled_since<'a>(
+    monitor: &'a [u64],
+    facts: &'a [u8; MOST_ROWS],
+    row: usize,
+    start: usize,
+) -> Answer
     requires { ⌜ BookKept (now monitor) ⌝ }
     requires { ⌜ row < rowCount (now monitor) ⌝ }
     requires { ⌜ Span (now monitor) row start 2 ⌝ }
@@ -468,7 +485,7 @@ fn settled_since<'a>(monitor: &'a [u64], facts: &'a [u8; 128], row: usize, start
 // Asks `left` operands of `row` from `place` on, in turn, until one decides.
 fn settled_walk<'a>(
     monitor: &'a [u64],
-    facts: &'a [u8; 128],
+    facts: &'a [u8; MOST_ROWS],
     row: usize,
     place: usize,
     left: usize,

@@ -126,11 +126,7 @@ pub fn early_covered(zero: bool, left: Answer) -> Answer
 pub fn decides_it(any: bool, x: Answer) -> bool
     ensures { λ r. ⌜ r ≡ decides any x ⌝ }
 {
-    match x {
-        Answer::False => !any,
-        Answer::True => any,
-        Answer::Open => false,
-    }
+    if any { is_true(x) } else { is_false(x) }
 }
 
 pub fn settled_historically(zero: bool, covers: bool, gone: bool, x: Answer) -> Answer

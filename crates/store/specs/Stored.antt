@@ -10,7 +10,7 @@ use Rattle.pmtl.specs.Monitor.{initial}
 use Rattle.rows.specs.Memory.{ROWS, ROW, OPERANDS, PROPERTIES, OWNERS, SIZE, temporal, bookOf, stateOf}
 use Rattle.book.specs.Reading.{GIVEN, Sections}
 use Rattle.book.specs.Judging.{kindIn, argIn, lowerIn, upperIn, rowsIn, temporalsIn, startIn, argGood, judged, bookIn}
-use Rattle.book.specs.Placing.{Few}
+use Rattle.book.specs.Steps.{Few}
 use Rattle.book.specs.Kept.{Kept}
 
 -- the largest atom of the first n rows plus 1; 0 if there is no atom

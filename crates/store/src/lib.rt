@@ -18,10 +18,12 @@ use book::check::lower_in;
 use book::check::part_of;
 use book::check::taken_by;
 use book::check::upper_in;
+use rows::ARG;
 use rows::ASSUMES;
 use rows::ATOM;
 use rows::GUARANTEES;
 use rows::HISTORICALLY;
+use rows::LOWER;
 use rows::OPERANDS;
 use rows::OWNERS;
 use rows::PROPERTIES;
@@ -29,26 +31,19 @@ use rows::ROW;
 use rows::ROW_COUNT;
 use rows::ROWS;
 use rows::SIZE;
+use rows::SLOT;
+use rows::START;
 use rows::TEMPORALS;
+use rows::UPPER;
 use rows::WIDTH;
 
-// Where a row's words stand in it, after its kind.
-const ARG: usize = 1;
-
-const LOWER: usize = 2;
-
-const UPPER: usize = 3;
-
-const START: usize = 4;
-
-const SLOT: usize = 5;
-
-// What the head of a memory says of its rows.
-pub struct Totals {
-    pub width: u64,
-    pub temporals: u64,
+// What the head of a memory says of its rows: the largest atom plus 1, and how many are temporal.
+struct Totals {
+    width: u64,
+    temporals: u64,
 }
 
+// Every word 0: the memory of an empty book.
 fn wipe(monitor: &mut [u64])
     ensures { λ _. ⌜ now (monitor .exit) ≡ replicate (length (now (monitor .entry))) 0 ⌝ }
 {
@@ -59,6 +54,7 @@ fn wipe(monitor: &mut [u64])
     }
 }
 
+// A section, word for word, from a place on.
 fn copy(from: &[u64], monitor: &mut [u64], at: usize)
     requires { ⌜ at + length (now from) ≤ length (now monitor) ⌝ }
     ensures { λ _. ⌜ now (monitor .exit) ≡ put (now (monitor .entry)) at (now (from .entry)) ⌝ }
@@ -114,7 +110,7 @@ fn put_row(given: &[u64], row: usize, start: usize, slot: usize, monitor: &mut [
     slot + 1
 }
 
-// All rows.
+// All rows, one pass: each row's operands start where those of the row before it end.
 fn put_rows(given: &[u64], monitor: &mut [u64]) -> Totals
     requires { ⌜ Rowed (now given) ⌝ }
     requires { ⌜ length (now monitor) ≡ SIZE ⌝ }
@@ -203,6 +199,7 @@ fn store_parts(
     );
 }
 
+// Loading, over a memory whose length is not part of its type.
 fn load_into(words: &[u64], monitor: &mut [u64]) -> u64
     requires { ⌜ length (now monitor) ≡ SIZE ⌝ }
     ensures { λ r. ⌜ Loads (now (words .entry)) (now (monitor .exit)) r ⌝ }

@@ -1,3 +1,4 @@
+-- The invariant is `Halving`: runs below `low` begin at or before `t`, those from `high` on after it.
 use mathlib.Core.Path.{ap, _∙_}
 use lib.Dec.{leb}
 use Prim.Native.Nat.{_-_}

@@ -1,3 +1,4 @@
+-- The invariant is `Ending`: the runs from `i` on begin past `upper + 1`.
 use native.Mathlib.Omega.{arith}
 use Rattle.numset.proofs.Walk.{Ending, ending-start, ending-more, ending-stop}
 use borrow.Author.Needs.{needs}

@@ -1,3 +1,4 @@
+-- The invariant is `Joining`: the runs from `start` to `end` are joined, which makes the interval `low ..= high`.
 use native.Mathlib.Omega.{arith}
 use Rattle.numset.proofs.Walk.{Joining, joining-start, joining-more, joining-stop, joining-end}
 use borrow.Author.Needs.{needs}

@@ -1,17 +1,16 @@
 -- `rows::output` and `rows::output_walk` meet their contracts: row number and list place fall. Assumes nothing.
-use borrow.Author.Needs.{needs}
 use native.Mathlib.Omega.{arith}
 use native.Mathlib.Nat.{lt-trans}
 use mathlib.Core.Logic.{⊎-elim}
-use mathlib.Core.Path.{_≡_, refl, sym, ap, _∙_}
+use mathlib.Core.Path.{refl, sym, ap, _∙_}
 use mathlib.Core.Bool.{not}
 use lib.Dec.{lit<}
 use lib.ListN.{List·getD-map}
-use Rattle.pmtl.specs.Book.Row.{never, always, atom, conj, disj, neg, implies, historically, once, since}
+use Rattle.pmtl.specs.Book.Row.{neg, implies}
 use Rattle.pmtl.specs.Monitor.{valueRule}
 use Rattle.rows.specs.Memory.{rowCount, rowFrom, countOf, isOne, BookKept}
 use Rattle.rows.specs.Walk.{joined}
-use Rattle.rows.proofs.Kept.{Read, below-128, span-as, first-below, second-below, span-rest, walk-cons, answer-read, answer-one, answer-two, walk-falls, row-falls, operand-falls, rest-falls, past-seven, atom-as, some-left}
+use Rattle.rows.proofs.Kept.{Read, span-as, row-inside, first-inside, second-inside, first-below, second-below, span-rest, walk-cons, answer-read, answer-one, answer-two, walk-falls, row-falls, operand-falls, rest-falls, past-seven, atom-as, some-left}
 use Rattle.rows.proofs.Values.{joined-nil, joined-stop, joined-on}
 use Prim.Native.Nat.{ℕ, _<_, _+_, _*_, _^_}
 use borrow.Fn.Kinds.{In}
@@ -76,13 +75,13 @@ asks t p lt =
     (row-falls (s .pre .0) lt, (s .pre .1 .0, lt-trans lt (s .pre .1 .1)))
 
 output-kind-at-requires : (t : ℕ) → output-lts.Need-kind-at-requires (output-calls t) (output-at t) output.Post
-output-kind-at-requires t c κs = let s = c .before in (s .pre .1 .0 .long, below-128 (s .pre .1 .0) (s .pre .1 .1))
+output-kind-at-requires t c κs = let s = c .before in row-inside (s .pre .1 .0) (s .pre .1 .1)
 
 output-arg-at-requires : (t : ℕ) → output-lts.Need-arg-at-requires (output-calls t) (output-at t) output.Post
-output-arg-at-requires t c κs = let s = c .before .before in (s .pre .1 .0 .long, below-128 (s .pre .1 .0) (s .pre .1 .1))
+output-arg-at-requires t c κs = let s = c .before .before in row-inside (s .pre .1 .0) (s .pre .1 .1)
 
 output-start-at-requires : (t : ℕ) → output-lts.Need-start-at-requires (output-calls t) (output-at t) output.Post
-output-start-at-requires t c κs = let s = c .before .before .before in (s .pre .1 .0 .long, below-128 (s .pre .1 .0) (s .pre .1 .1))
+output-start-at-requires t c κs = let s = c .before .before .before in row-inside (s .pre .1 .0) (s .pre .1 .1)
 
 output-element-copy-out-result : (t : ℕ) → output-lts.Need-element-copy-out-result (output-calls t) (output-at t) output.Post
 output-element-copy-out-result t c = atom-as (seen t (c .before)) (c .match .keys3)
@@ -103,9 +102,7 @@ output-output-walk-requires-2 t c κs =
 
 output-operand-at-requires : (t : ℕ) → output-lts.Need-operand-at-requires (output-calls t) (output-at t) output.Post
 unfolding countOf
-output-operand-at-requires t c κs =
-    let sp = span-as (seen t (c .before)) (c .match .keys6) in
-    (c .before .before .before .before .before .pre .1 .0 .long, omega (arith, sp .inside))
+output-operand-at-requires t c κs = first-inside (seen t (c .before)) (c .match .keys6) (lit< tt)
 
 output-output-requires : (t : ℕ) → output-lts.Need-output-requires (output-calls t) (output-at t) output.Post
 unfolding countOf
@@ -113,9 +110,7 @@ output-output-requires t c κs = asks t (c .before .before) (first-below (span-a
 
 output-operand-at-requires-2 : (t : ℕ) → output-lts.Need-operand-at-requires-2 (output-calls t) (output-at t) output.Post
 unfolding countOf
-output-operand-at-requires-2 t c κs =
-    let sp = span-as (seen t (c .before)) (c .match .keys7) in
-    (c .before .before .before .before .before .pre .1 .0 .long, omega (arith, sp .inside))
+output-operand-at-requires-2 t c κs = first-inside (seen t (c .before)) (c .match .keys7) (lit< tt)
 
 output-output-requires-2 : (t : ℕ) → output-lts.Need-output-requires-2 (output-calls t) (output-at t) output.Post
 unfolding countOf
@@ -123,25 +118,21 @@ output-output-requires-2 t c κs = asks t (c .before .before) (first-below (span
 
 output-add-operand-at : (t : ℕ) → output-lts.Need-add-operand-at (output-calls t) (output-at t) output.Post
 unfolding countOf
-output-add-operand-at t c =
-    let sp = span-as (seen t (c .before .before .before .before)) (c .before .before .before .match .keys7) in
-    omega (arith, sp .inside)
+output-add-operand-at t c = omega (arith, second-inside (seen t (c .before .before .before .before)) (c .before .before .before .match .keys7) (lit< tt) .1)
 
 output-operand-at-requires-3 : (t : ℕ) → output-lts.Need-operand-at-requires-3 (output-calls t) (output-at t) output.Post
 unfolding countOf
-output-operand-at-requires-3 t c κs =
-    let sp = span-as (seen t (c .before .before .before .before)) (c .before .before .before .match .keys7) in
-    (c .before .before .before .before .before .before .before .before .pre .1 .0 .long, omega (arith, sp .inside))
+output-operand-at-requires-3 t c κs = second-inside (seen t (c .before .before .before .before)) (c .before .before .before .match .keys7) (lit< tt)
 
 output-output-requires-3 : (t : ℕ) → output-lts.Need-output-requires-3 (output-calls t) (output-at t) output.Post
 unfolding countOf
 output-output-requires-3 t c κs = asks t (c .before .before .before .before .before) (second-below (span-as (seen t (c .before .before .before .before .before)) (c .before .before .before .before .match .keys7)) (lit< tt) (c .operand-at3 .ensures))
 
 output-here-at-requires : (t : ℕ) → output-lts.Need-here-at-requires (output-calls t) (output-at t) output.Post
-output-here-at-requires t c κs = let s = c .before .before .before .before .before in below-128 (s .pre .1 .0) (s .pre .1 .1)
+output-here-at-requires t c κs = let s = c .before .before .before .before .before in row-inside (s .pre .1 .0) (s .pre .1 .1) .1
 
 output-here-at-requires-2 : (t : ℕ) → output-lts.Need-here-at-requires-2 (output-calls t) (output-at t) output.Post
-output-here-at-requires-2 t c κs = let s = c .before .before .before .before .before in below-128 (s .pre .1 .0) (s .pre .1 .1)
+output-here-at-requires-2 t c κs = let s = c .before .before .before .before .before in row-inside (s .pre .1 .0) (s .pre .1 .1) .1
 
 output-returns : (t : ℕ) → output-lts.Need-returns (output-calls t) (output-at t) output.Post
 unfolding valueRule rowFrom countOf

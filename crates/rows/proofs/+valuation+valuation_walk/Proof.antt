@@ -1,10 +1,9 @@
 -- `rows::valuation` and `rows::valuation_walk` meet their contracts: row number and list place fall. Assumes nothing.
 use native.Mathlib.Omega.{arith}
 use native.Mathlib.Nat.{lt-trans}
-use mathlib.Core.Path.{_≡_, refl, sym, ap, ap₂, _∙_}
+use mathlib.Core.Path.{refl, sym, ap, ap₂, _∙_}
 use borrow.Author.Needs.{needs}
 use lib.Dec.{lit<}
-use Rattle.pmtl.specs.Answer.{reversed}
 use Rattle.pmtl.specs.Book.{Range}
 use Rattle.pmtl.specs.Book.Row.{neg, implies, historically, once, since}
 use Rattle.pmtl.specs.Early.{earlyRule}

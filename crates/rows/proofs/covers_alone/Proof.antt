@@ -1,6 +1,5 @@
 -- `rows::covers_alone` meets its contract. Assumes nothing.
-use mathlib.Core.Path.{_≡_, sym, ap, ap₂, _∙_}
-use mathlib.Core.Bool.{not}
+use mathlib.Core.Path.{sym, ap, ap₂, _∙_}
 use borrow.Author.Needs.{needs}
 use Rattle.rows.specs.Facts.{goneIn}
 use Rattle.rows.specs.Walk.{coversAlone}

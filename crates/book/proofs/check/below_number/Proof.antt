@@ -1,5 +1,5 @@
 use Rattle.book.proofs.All.{below-start, all-below, one-above, one-below}
-use Rattle.book.specs.Placing.{allBelow}
+use Rattle.book.specs.Steps.{allBelow}
 use mathlib.Core.Bool.{true}
 use mathlib.Core.Path.{_≡_}
 use native.Mathlib.Omega.{arith}

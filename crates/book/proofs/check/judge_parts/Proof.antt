@@ -1,4 +1,4 @@
-use Rattle.book.specs.Placing.{Few}
+use Rattle.book.specs.Steps.{Few}
 use Rattle.book.proofs.Sections.{in-place}
 use Rattle.book.proofs.Placing.{parts-few}
 use Rattle.book.specs.Judging.{judged}

@@ -1,6 +1,6 @@
-use Rattle.book.proofs.All.{all-start, all-more, one-fails, all-pass}
+use Rattle.book.proofs.Uses.{not-once, once-more}
+use Rattle.book.proofs.All.{all-start, all-pass}
 use Rattle.book.specs.Judging.{allTo}
-use borrow.Author.Tests.{eq-eqb, ne-eqb}
 use lib.Dec.{eqb}
 use lib.ListN.{getD}
 use mathlib.Core.Bool.{true}
@@ -24,7 +24,7 @@ element-copy-out-if1 : tie.Need-element-copy-out-if1 Inv-loop μ-loop
 element-copy-out-if1 c = search needs
 
 returns : tie.Need-returns Inv-loop μ-loop
-returns c = one-fails _ 6 _ _ (c .before .before .loop-test .taken) (ne-eqb _ 1 (c .if1 .taken))
+returns c = not-once (c .before .before .before .before .args .times .now) _ _ (c .before .before .loop-test .taken) (λ e. omega arith)
 
 add-row : tie.Need-add-row Inv-loop μ-loop
 add-row c = search needs
@@ -33,7 +33,7 @@ loop-less : tie.Need-loop-less Inv-loop μ-loop
 loop-less c = search needs
 
 loop-again : tie.Need-loop-again Inv-loop μ-loop
-loop-again c = (omega arith, all-more _ _ (c .before .before .before .loop .inv .1) (eq-eqb _ 1 (c .if1 .left)))
+loop-again c = (omega arith, once-more (c .before .before .before .before .args .times .now) _ (c .before .before .before .loop .inv .1) (omega arith))
 
 returns-2 : tie.Need-returns-2 Inv-loop μ-loop
 returns-2 c = all-pass _ 6 _ _ (omega arith) (c .before .loop .inv .1)

@@ -19,19 +19,19 @@ form-number-requires : tie.Need-form-number-requires
 form-number-requires c κs = search needs
 
 returns : tie.Need-returns
-returns c = in-form _ _ _ _ _ _ (c .before .before .before .before .before .kind-in .ensures) (c .before .before .arg-in .ensures) (c .before .before .before .before .lower-in .ensures) (c .before .before .before .upper-in .ensures) _ (c .before .form-number .ensures) (c .if1 .taken)
+returns c = in-form _ _ _ _ _ _ (c .before .before .before .before .before .before .kind-in .ensures) (c .before .before .before .arg-in .ensures) (c .before .before .before .before .before .lower-in .ensures) (c .before .before .before .before .upper-in .ensures) _ (c .before .before .form-number .ensures) (c .if1 .taken)
 
 range-number-requires : tie.Need-range-number-requires
 range-number-requires c κs = search needs
 
 returns-2 : tie.Need-returns-2
-returns-2 c = in-range _ _ _ _ _ _ (c .before .before .before .before .before .before .before .kind-in .ensures) (c .before .before .before .before .arg-in .ensures) (c .before .before .before .before .before .before .lower-in .ensures) (c .before .before .before .before .before .upper-in .ensures) _ _ (c .before .before .before .form-number .ensures) (c .before .before .if1 .left) (c .before .range-number .ensures) (c .if2 .taken)
+returns-2 c = in-range _ _ _ _ _ _ (c .before .before .before .before .before .before .before .kind-in .ensures) (c .before .before .before .before .arg-in .ensures) (c .before .before .before .before .before .before .lower-in .ensures) (c .before .before .before .before .before .upper-in .ensures) _ _ (c .before .before .before .form-number .ensures) (c .before .if1 .left) (c .before .before .range-number .ensures) (c .if2 .taken)
 
 room-number-requires : tie.Need-room-number-requires
 room-number-requires c κs = search needs
 
 returns-3 : tie.Need-returns-3
-returns-3 c = in-room _ _ _ _ _ _ (c .before .before .before .before .before .before .before .before .kind-in .ensures) (c .before .before .before .before .before .arg-in .ensures) (c .before .before .before .before .before .before .before .lower-in .ensures) (c .before .before .before .before .before .before .upper-in .ensures) _ _ (c .before .before .before .before .form-number .ensures) (c .before .before .before .if1 .left) _ (c .before .before .range-number .ensures) (c .before .if2 .left) _ (c .before .before .before .before .before .before .before .before .before .before .pre .1) (c .room-number .ensures)
+returns-3 c = in-room _ _ _ _ _ _ (c .before .before .before .before .before .before .before .before .kind-in .ensures) (c .before .before .before .before .before .arg-in .ensures) (c .before .before .before .before .before .before .before .lower-in .ensures) (c .before .before .before .before .before .before .upper-in .ensures) _ _ (c .before .before .before .before .form-number .ensures) (c .before .before .if1 .left) _ (c .before .before .before .range-number .ensures) (c .before .if2 .left) _ (c .before .before .before .before .before .before .before .before .before .before .pre .1) (c .room-number .ensures)
 
 pub row-number-spec : {M : Type 1} → statement M
 row-number-spec =
@@ -42,8 +42,8 @@ row-number-spec =
     upper-in-requires
     arg-in-requires
     form-number-requires
-    returns
     range-number-requires
+    returns
     returns-2
     room-number-requires
     returns-3)

@@ -1,5 +1,5 @@
 use Rattle.book.proofs.Uses.{tally-start, tally-room, tally-more, tally-done}
-use Rattle.book.specs.Placing.{Tallied}
+use Rattle.book.specs.Steps.{Tallied}
 use lib.ListN.{length, take}
 use native.Mathlib.Omega.{arith}
 use Prim.Native.Nat.{_-_, _≤_}

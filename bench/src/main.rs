@@ -1,0 +1,229 @@
+//! Ours beside a straightforward Rust program over the original, on the same inputs, in one run.
+//!
+//! bench                         times and instruction counts, as ratios
+//! bench count PLACE PART SIDE   one measured run, for callgrind
+
+use bench::workloads::{with_calls_refused, workloads, Workload, MANY_RUNS, ONE_RUN};
+use bench::{plain, without_settled};
+use judge::report::{self, Nobody, LONGEST_INPUT};
+use std::hint::black_box;
+use std::process::Command;
+use std::time::{Duration, Instant};
+use std::{env, fs, process};
+
+extern "C" {
+    fn binefdar_report(input: *const u8, input_len: u64, report: *mut u8, report_len: u64) -> u64;
+}
+
+/// Room for the longest report of a workload.
+const ROOM: usize = 4 << 20;
+/// Rounds of measuring; the best of each side counts.
+const ROUNDS: usize = 15;
+/// How long a side runs in a round, at least.
+const ROUND: Duration = Duration::from_millis(20);
+
+#[derive(Clone, Copy)]
+enum Side {
+    Ours,
+    Plain,
+}
+
+const SIDES: [Side; 2] = [Side::Ours, Side::Plain];
+
+/// The functions that callgrind counts.
+const MEASURED: [&str; 2] = ["measured_ours", "measured_plain"];
+
+#[no_mangle]
+#[inline(never)]
+extern "C" fn measured_ours(input: &&[u8], out: &mut Buffers) {
+    // SAFETY: the pointers and lengths are those of a slice and of a vector.
+    let length = unsafe { binefdar_report(input.as_ptr(), input.len() as u64, out.ours.as_mut_ptr(), out.ours.len() as u64) };
+    assert!(length != u64::MAX, "the report has room");
+    black_box(length);
+}
+
+#[no_mangle]
+#[inline(never)]
+extern "C" fn measured_plain(input: &&[u8], out: &mut Buffers) {
+    plain::report(input, &mut out.plain);
+    black_box(out.plain.len());
+}
+
+/// Room for reports, there before anything is measured: lent to ours as it is, as the capacity of the Rust program's vector.
+struct Buffers {
+    ours: Vec<u8>,
+    plain: Vec<u8>,
+}
+
+impl Buffers {
+    fn new() -> Self {
+        Self { ours: vec![0; ROOM], plain: Vec::with_capacity(ROOM) }
+    }
+}
+
+fn run_once(side: Side, input: &[u8], out: &mut Buffers) {
+    match side {
+        Side::Ours => measured_ours(&black_box(input), out),
+        Side::Plain => measured_plain(&black_box(input), out),
+    }
+}
+
+/// The two texts of a workload: its calls accepted, and its calls refused once they are read.
+fn texts(workload: &Workload) -> [Vec<u8>; 2] {
+    let texts = [workload.case.text(), with_calls_refused(&workload.case).text()];
+    assert!(texts.iter().all(|t| t.len() <= LONGEST_INPUT), "{}: too long", workload.name);
+    texts
+}
+
+/// Both sides must give the expected report, the Rust apart from settled, and every call must be accepted, or refused.
+fn check(name: &str, texts: &[Vec<u8>; 2]) {
+    for (part, text) in texts.iter().enumerate() {
+        let expected = report::report(text, &mut Nobody).expect("original and rules agree");
+        let mut out = vec![0; ROOM];
+        // SAFETY: as above.
+        let length = unsafe { binefdar_report(text.as_ptr(), text.len() as u64, out.as_mut_ptr(), ROOM as u64) };
+        assert!(length as usize == expected.len() && out[..length as usize] == expected, "{name}: ours is not the expected report");
+        plain::report(text, &mut out);
+        assert!(without_settled(&out) == without_settled(&expected), "{name}: the Rust program's is not the expected report");
+        let lines = String::from_utf8(expected).expect("a report is ASCII");
+        let accepted = lines.lines().filter(|l| l.split(' ').nth(1) == Some("0")).count();
+        // One line is the book's; with the calls refused the one more is the first call.
+        assert_eq!(accepted, if part == 0 { lines.lines().count() - 1 } else { 2 }, "{name}: accepted lines");
+    }
+}
+
+/// Nanoseconds for one run of each side on each text, the best of all rounds.
+fn times(texts: &[Vec<u8>; 2]) -> [[f64; 2]; 2] {
+    let mut best = [[f64::INFINITY; 2]; 2];
+    let mut out = Buffers::new();
+    for _ in 0..ROUNDS {
+        for (part, text) in texts.iter().enumerate() {
+            for (place, side) in SIDES.into_iter().enumerate() {
+                run_once(side, text, &mut out);
+                let start = Instant::now();
+                let mut runs = 0;
+                while start.elapsed() < ROUND {
+                    run_once(side, text, &mut out);
+                    runs += 1;
+                }
+                let time = start.elapsed().as_nanos() as f64 / f64::from(runs);
+                best[part][place] = best[part][place].min(time);
+            }
+        }
+    }
+    best
+}
+
+/// Instructions of one run of each side on each text; nothing if valgrind is not there.
+fn counts(place: usize) -> Option<[[f64; 2]; 2]> {
+    let mut counts = [[0.0; 2]; 2];
+    for (part, sides) in counts.iter_mut().enumerate() {
+        for (side, count) in sides.iter_mut().enumerate() {
+            *count = counted(place, part, side)?;
+        }
+    }
+    Some(counts)
+}
+
+fn counted(place: usize, part: usize, side: usize) -> Option<f64> {
+    let file = env::temp_dir().join(format!("bench-callgrind-{}", process::id()));
+    let output = Command::new("valgrind")
+        .args(["--tool=callgrind", &format!("--toggle-collect={}", MEASURED[side])])
+        .arg(format!("--callgrind-out-file={}", file.display()))
+        .arg(env::current_exe().ok()?)
+        .args(["count".to_string(), place.to_string(), part.to_string(), side.to_string()])
+        .output()
+        .ok()?;
+    let text = fs::read_to_string(&file).ok()?;
+    fs::remove_file(&file).ok()?;
+    let total = text.lines().find_map(|line| line.strip_prefix("totals: ").or(line.strip_prefix("summary: ")))?;
+    assert!(output.status.success(), "a run under callgrind failed");
+    total.trim().parse().ok()
+}
+
+/// Of two measures, ours and the Rust program's: the whole job, and the calls alone for each call.
+struct Measures {
+    whole: [f64; 2],
+    call: [f64; 2],
+}
+
+fn measures(of: [[f64; 2]; 2], calls: usize) -> Measures {
+    Measures { whole: of[0], call: [0, 1].map(|side| (of[0][side] - of[1][side]) / calls as f64) }
+}
+
+fn row(name: &str, head: &str, times: [f64; 2], counts: Option<[f64; 2]>) {
+    let [ours, plain] = times;
+    print!("| {name} | {head} | {ours:.1} | {plain:.1} | {:.2} |", ours / plain);
+    match counts {
+        Some([ours, plain]) => println!(" {ours:.0} | {plain:.0} | {:.2} |", ours / plain),
+        None => println!(" - | - | - |"),
+    }
+}
+
+fn heading(title: &str, head: &str, unit: &str) {
+    println!("\n{title}\n");
+    println!("| workload | {head} | ours {unit} | Rust {unit} | ratio | ours instructions | Rust instructions | ratio |");
+    println!("|---|---|---|---|---|---|---|---|");
+}
+
+fn measure_all() {
+    let all = workloads();
+    let measured: Vec<(Measures, Option<Measures>)> = all
+        .iter()
+        .enumerate()
+        .map(|(place, workload)| {
+            let texts = texts(workload);
+            check(workload.name, &texts);
+            let calls = workload.case.calls.len();
+            (measures(times(&texts), calls), counts(place).map(|of| measures(of, calls)))
+        })
+        .collect();
+    if measured.iter().any(|(_, counts)| counts.is_none()) {
+        println!("valgrind is missing: no instruction counts");
+    }
+    heading("The whole job, text in and report out, for one run:", "calls", "us");
+    for (workload, (times, counts)) in all.iter().zip(&measured) {
+        let calls = workload.case.calls.len().to_string();
+        row(workload.name, &calls, times.whole.map(|ns| ns / 1000.0), counts.as_ref().map(|c| c.whole));
+    }
+    heading("The calls alone, for one call: the whole job less the same text with its calls refused once they are read:", "rows", "ns");
+    for (workload, (times, counts)) in all.iter().zip(&measured) {
+        let rows = workload.case.rows.len().to_string();
+        row(workload.name, &rows, times.call, counts.as_ref().map(|c| c.call));
+    }
+    print_growth(&all, &measured);
+}
+
+/// What 64 runs in each set cost against 1, for each side.
+fn print_growth(all: &[Workload], measured: &[(Measures, Option<Measures>)]) {
+    let at = |name: &str| &measured[all.iter().position(|w| w.name == name).expect("a workload of this name")];
+    let ((one, one_counts), (many, many_counts)) = (at(ONE_RUN), at(MANY_RUNS));
+    println!("\nA call with 64 runs in each set against one with 1 run:\n");
+    println!("| side | times | instructions |\n|---|---|---|");
+    for (side, name) in ["ours", "Rust"].into_iter().enumerate() {
+        let counts = one_counts.as_ref().zip(many_counts.as_ref());
+        let counts = counts.map_or("-".to_string(), |(one, many)| format!("{:.2}", many.call[side] / one.call[side]));
+        println!("| {name} | {:.2} | {counts} |", many.call[side] / one.call[side]);
+    }
+}
+
+/// Runs one side once on one text.
+fn count_once(words: &[usize]) {
+    let text = &texts(&workloads()[words[0]])[words[1]];
+    run_once(SIDES[words[2]], text, &mut Buffers::new());
+}
+
+fn main() {
+    let words: Vec<String> = env::args().skip(1).collect();
+    match words.split_first() {
+        None => measure_all(),
+        Some((word, rest)) if word == "count" && rest.len() == 3 => {
+            let numbers: Vec<usize> = rest.iter().map(|w| w.parse().expect("a number")).collect();
+            count_once(&numbers);
+        }
+        _ => {
+            eprintln!("bench, or bench count PLACE PART SIDE");
+            process::exit(2);
+        }
+    }
+}

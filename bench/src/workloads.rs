@@ -1,0 +1,179 @@
+//! What is measured: books with their calls, each below 65,536 bytes of text.
+
+use compare::case::{Call, Case, Row, AND, ATOM, HISTORICALLY, IMPLIES, NOT, ONCE, OR, SINCE, TRUE};
+
+const MAX: u64 = u64::MAX;
+const H: u64 = u64::MAX / 2;
+
+pub struct Workload {
+    pub name: &'static str,
+    pub case: Case,
+}
+
+pub fn workloads() -> Vec<Workload> {
+    vec![
+        Workload { name: "whole case", case: whole_case() },
+        Workload { name: "desk of 16 kits", case: desk() },
+        Workload { name: "nested temporal", case: nested() },
+        Workload { name: "wide and/or", case: wide() },
+        Workload { name: ONE_RUN, case: runs(RUNS_IN_ONE) },
+        Workload { name: MANY_RUNS, case: runs(RUNS_APART) },
+    ]
+}
+
+pub const ONE_RUN: &str = "sets of 1 run";
+pub const MANY_RUNS: &str = "sets of 64 runs";
+
+/// The same text with every call refused after it is read: the clock is set to H first, so that times are below it, and
+/// a state's last word is 2.
+pub fn with_calls_refused(case: &Case) -> Case {
+    let refused = |call: &Call| match call {
+        Call::State(state) => Call::State([&state[..state.len() - 1], &[2]].concat()),
+        time => time.clone(),
+    };
+    let calls = [Call::Time(H)].into_iter().chain(case.calls.iter().map(refused)).collect();
+    Case { calls, ..case.clone() }
+}
+
+/// Rows put together one by one.
+#[derive(Default)]
+struct Rows(Vec<Row>);
+
+impl Rows {
+    fn plain(&mut self, kind: u64, operands: Vec<usize>) -> usize {
+        self.put(Row::plain(kind, 0, operands))
+    }
+
+    fn atom(&mut self, number: u64) -> usize {
+        self.put(Row::plain(ATOM, number, Vec::new()))
+    }
+
+    fn temporal(&mut self, kind: u64, operands: Vec<usize>, lower: u64, upper: u64) -> usize {
+        self.put(Row { kind, atom: 0, lower, upper, operands })
+    }
+
+    fn put(&mut self, row: Row) -> usize {
+        self.0.push(row);
+        self.0.len() - 1
+    }
+
+    fn case(self, assumes: Vec<usize>, guarantees: Vec<usize>, calls: Vec<Call>) -> Case {
+        Case { rows: self.0, assumes, guarantees, calls }
+    }
+}
+
+/// Document 01's whole case, with 4000 calls.
+fn whole_case() -> Case {
+    let mut rows = Rows::default();
+    let atom = rows.atom(0);
+    let once = rows.temporal(ONCE, vec![atom], 0, MAX);
+    let historically = rows.temporal(HISTORICALLY, vec![once], 0, MAX);
+    let calls = (0..2000).flat_map(|i| [Call::State(vec![i / 3 % 2]), Call::Time(i + 1)]).collect();
+    rows.case(vec![], vec![historically], calls)
+}
+
+const KITS: u64 = 16;
+const WINDOW: u64 = 72;
+const SCANS: u64 = 280;
+
+/// For each kit: after every call so far, a handout implies that within the window a promise was scanned with no return
+/// since. A scan is a time, a state with one bit on, and a state all clear.
+fn desk() -> Case {
+    let mut rows = Rows::default();
+    let mut guarantees = Vec::new();
+    for kit in 0..KITS {
+        let handout = rows.atom(3 * kit + 1);
+        let returned = rows.atom(3 * kit + 2);
+        let kept = rows.plain(NOT, vec![returned]);
+        let promise = rows.atom(3 * kit);
+        let promised = rows.temporal(SINCE, vec![kept, promise], 0, WINDOW);
+        let allowed = rows.plain(IMPLIES, vec![handout, promised]);
+        guarantees.push(rows.temporal(HISTORICALLY, vec![allowed], 0, MAX));
+    }
+    let clear = vec![0; 3 * KITS as usize];
+    let mut calls = Vec::new();
+    for scan in 0..SCANS {
+        // Every kit in turn: promise, handout, return; every fifth kit's handout comes without a promise.
+        let (kit, round) = (scan % KITS, scan / KITS);
+        let code = if kit % 5 == 0 { 1 + round % 2 } else { round % 3 };
+        let mut state = clear.clone();
+        state[(3 * kit + code) as usize] = 1;
+        calls.extend([Call::Time(scan * 2), Call::State(state), Call::State(clear.clone())]);
+    }
+    rows.case(vec![], guarantees, calls)
+}
+
+/// 32 temporal rows, each above the last, with Not and And between them: 128 rows.
+fn nested() -> Case {
+    let mut rows = Rows::default();
+    let mut top = rows.atom(0);
+    for step in 0..32u64 {
+        let upper = if step % 4 == 3 { MAX } else { 20 + step };
+        let lower = step % 3;
+        top = match step % 3 {
+            0 => rows.temporal(ONCE, vec![top], lower, upper),
+            1 => rows.temporal(HISTORICALLY, vec![top], lower, upper),
+            _ => {
+                let left = rows.plain(TRUE, vec![]);
+                rows.temporal(SINCE, vec![left, top], lower, upper)
+            }
+        };
+        let not = rows.plain(NOT, vec![top]);
+        top = rows.plain(AND, vec![not]);
+    }
+    while rows.0.len() < 128 {
+        top = rows.plain(NOT, vec![top]);
+    }
+    // The atom turns every 50 rounds: no set comes to have more than 64 runs.
+    let calls = (0..2000).flat_map(|i| [Call::State(vec![i / 50 % 2]), Call::Time(i + 1)]).collect();
+    rows.case(vec![], vec![top], calls)
+}
+
+/// Not (And of 62 atoms implies Or of 62 atoms): 128 rows and 127 operands. Each state is followed by twenty times.
+fn wide() -> Case {
+    let mut rows = Rows::default();
+    let all: Vec<usize> = (0..62).map(|n| rows.atom(n)).collect();
+    let and = rows.plain(AND, all);
+    let any: Vec<usize> = (62..124).map(|n| rows.atom(n)).collect();
+    let or = rows.plain(OR, any);
+    let implies = rows.plain(IMPLIES, vec![and, or]);
+    let not = rows.plain(NOT, vec![implies]);
+    let mut calls = Vec::new();
+    for round in 0..120u64 {
+        // The And holds or fails at its end, and so does the Or.
+        let state = (0..124).map(|n| {
+            if n < 61 {
+                1
+            } else if n == 61 {
+                round % 2
+            } else {
+                u64::from(n == 123) * (round / 2 % 2)
+            }
+        });
+        calls.push(Call::State(state.collect()));
+        calls.extend((0..20).map(|step| Call::Time(round * 20 + step)));
+    }
+    rows.case(vec![not], vec![], calls)
+}
+
+/// 64 steps that leave one run in each set, or 64 runs, up to the same clock.
+const RUNS_IN_ONE: (u64, u64) = (1063, 1);
+const RUNS_APART: (u64, u64) = (1000, 2);
+
+/// 32 Once rows over an instant, half of them now, half 63 later, so that the clock stands at the end of the first
+/// sets and within the others. After the runs are made: 2000 equal times, then 2000 steps of one.
+fn runs((start, step): (u64, u64)) -> Case {
+    let mut rows = Rows::default();
+    let mut properties = Vec::new();
+    for number in 0..32 {
+        let atom = rows.atom(number);
+        let distance = if number % 2 == 0 { 0 } else { 63 };
+        properties.push(rows.temporal(ONCE, vec![atom], distance, distance));
+    }
+    let guarantees = properties.split_off(16);
+    let mut calls = vec![Call::Time(start), Call::State(vec![1; 32])];
+    calls.extend((1..64).map(|i| Call::Time(start + i * step)));
+    calls.extend((0..2000).map(|_| Call::Time(1127)));
+    calls.extend((1..=2000).map(|i| Call::Time(1127 + i)));
+    rows.case(properties, guarantees, calls)
+}

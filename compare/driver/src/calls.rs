@@ -1,0 +1,196 @@
+//! Calls drawn at random for a book.
+
+use crate::case::{Call, Case};
+use crate::chance::Chance;
+use judge::book::{is_temporal, H, MAX};
+use judge::monitor::MOST_WIDTH;
+
+/// Calls stop before an input's text grows past this many bytes.
+const LONGEST_TEXT: usize = 60_000;
+
+/// How the clock moves.
+#[derive(Clone, Copy)]
+pub enum Pace {
+    /// Equal times and small steps.
+    Slow,
+    /// Steps as long as the book's bounds, or one more or less.
+    Bounds,
+    /// Steps of two and a little more, each a run of its own.
+    Apart,
+    /// Jumps of any size.
+    Jumps,
+    /// Small steps just below H.
+    NearH,
+}
+
+/// How states change.
+#[derive(Clone, Copy)]
+enum States {
+    /// Each word is 1 once in so many.
+    OneIn(usize),
+    /// Each word is 0 once in so many.
+    ZeroIn(usize),
+    /// The last state with one word turned.
+    Turning,
+}
+
+pub struct Style {
+    count: usize,
+    pace: Pace,
+    states: States,
+    /// A call is a state call once in so many.
+    state_in: usize,
+    /// A call is meant to be refused once in so many; 0 is never.
+    refused_in: usize,
+    /// States are as wide as the book asks, or wider.
+    wide: bool,
+}
+
+impl Style {
+    pub fn drawn(chance: &mut Chance, count: usize) -> Self {
+        Self {
+            count: chance.below(count + 1),
+            pace: chance.among(&[Pace::Slow, Pace::Slow, Pace::Bounds, Pace::Bounds, Pace::Apart, Pace::Jumps, Pace::NearH]),
+            states: chance.among(&[States::OneIn(2), States::OneIn(6), States::ZeroIn(6), States::Turning, States::Turning]),
+            state_in: chance.among(&[2, 2, 3, 5]),
+            refused_in: chance.among(&[0, 0, 20, 8]),
+            wide: chance.one_in(4),
+        }
+    }
+
+    /// Calls apart from each other in time, enough of them to fill a set.
+    pub fn with_many_runs(chance: &mut Chance) -> Self {
+        Self {
+            count: 100 + chance.below(300),
+            pace: Pace::Apart,
+            states: chance.among(&[States::ZeroIn(4), States::OneIn(4), States::Turning]),
+            state_in: chance.among(&[3, 6, 30]),
+            ..Self::drawn(chance, 1)
+        }
+    }
+}
+
+/// Adds drawn calls to a case.
+pub fn add_calls(chance: &mut Chance, case: &mut Case, style: &Style) {
+    let bounds: Vec<u64> =
+        case.rows.iter().filter(|r| is_temporal(r.kind)).flat_map(|r| [r.lower, r.upper]).filter(|&b| b != MAX && b > 0).collect();
+    let mut drawing = Drawing { chance, style, bounds, width: case.width(), clock: 0, state: Vec::new() };
+    drawing.state.resize(drawing.width, 0);
+    let mut bytes = case.text().len();
+    for _ in 0..style.count {
+        let call = drawing.call();
+        bytes += match &call {
+            Call::Time(_) => 23,
+            Call::State(state) => 6 + 2 * state.len(),
+        };
+        if bytes > LONGEST_TEXT {
+            break;
+        }
+        case.calls.push(call);
+    }
+}
+
+struct Drawing<'a> {
+    chance: &'a mut Chance,
+    style: &'a Style,
+    bounds: Vec<u64>,
+    width: usize,
+    /// The time of the last time call that was not meant to be refused.
+    clock: u64,
+    state: Vec<u64>,
+}
+
+impl Drawing<'_> {
+    fn call(&mut self) -> Call {
+        let refused = self.style.refused_in > 0 && self.chance.one_in(self.style.refused_in);
+        match (self.chance.one_in(self.style.state_in), refused) {
+            (true, false) => Call::State(self.next_state()),
+            (true, true) => Call::State(self.bad_state()),
+            (false, false) => {
+                self.clock = self.next_time();
+                Call::Time(self.clock)
+            }
+            (false, true) => Call::Time(self.bad_time()),
+        }
+    }
+
+    fn next_time(&mut self) -> u64 {
+        let small = self.chance.among(&[0, 1, 1, 1, 2, 2, 3, 7]);
+        let step = match self.style.pace {
+            Pace::Slow => small,
+            Pace::Bounds if !self.bounds.is_empty() && self.chance.one_in(2) => {
+                let bound = self.chance.among(&self.bounds);
+                self.chance.among(&[bound, bound, bound - 1, bound.saturating_add(1), bound.saturating_add(small)])
+            }
+            Pace::Apart => self.chance.among(&[2, 2, 2, 2, 2, 3, 4, 8, 1, 0, small]),
+            Pace::Jumps if self.chance.one_in(3) => {
+                let shift = 1 + self.chance.below(60);
+                (self.chance.word() & H) >> shift
+            }
+            Pace::NearH if self.clock < H / 2 && self.chance.one_in(4) => {
+                let before_h = self.chance.among(&[0, 1, 10, 100, 1000]);
+                H - self.clock - before_h
+            }
+            _ => small,
+        };
+        // Past H there is nothing to accept: stay where the clock is.
+        if step > H - self.clock {
+            self.clock
+        } else {
+            self.clock + step
+        }
+    }
+
+    /// A time below the clock, or above H.
+    fn bad_time(&mut self) -> u64 {
+        let above = self.chance.among(&[H + 1, H + 2, MAX, MAX - 1, H + 1000]);
+        if self.clock == 0 || self.chance.one_in(3) {
+            return above;
+        }
+        let back = self.chance.among(&[1, 1, 2, 5, self.clock]);
+        self.clock.saturating_sub(back)
+    }
+
+    /// A state that the monitor takes.
+    fn next_state(&mut self) -> Vec<u64> {
+        for place in 0..self.width {
+            self.state[place] = match self.style.states {
+                States::OneIn(n) => u64::from(self.chance.one_in(n)),
+                States::ZeroIn(n) => u64::from(!self.chance.one_in(n)),
+                States::Turning => self.state[place],
+            };
+        }
+        if matches!(self.style.states, States::Turning) && self.width > 0 {
+            let place = self.chance.below(self.width);
+            self.state[place] ^= 1;
+        }
+        let mut state = self.state.clone();
+        if self.style.wide {
+            let more = self.chance.among(&[0, 1, 2, 9, MOST_WIDTH]);
+            let width = MOST_WIDTH.min(self.width + more);
+            while state.len() < width {
+                state.push(self.chance.below(2) as u64);
+            }
+        }
+        state
+    }
+
+    /// A state too short, or with a word over 1, or both.
+    fn bad_state(&mut self) -> Vec<u64> {
+        let mut state = self.next_state();
+        let short = self.width > 0 && self.chance.one_in(2);
+        if short {
+            state.truncate(self.chance.below(self.width));
+        }
+        if !short || self.chance.one_in(3) {
+            let bad = self.chance.among(&[2, 2, 3, 255, 256, 257, 1 << 32, (1 << 32) + 1, H, MAX]);
+            if state.is_empty() && !short {
+                state.push(bad);
+            } else if !state.is_empty() {
+                let place = self.chance.below(state.len());
+                state[place] = bad;
+            }
+        }
+        state
+    }
+}

@@ -1,0 +1,149 @@
+//! Document 01's examples, run through the report.
+
+use crate::report::{report, Nobody, LONGEST_INPUT};
+
+const MAX: &str = "18446744073709551615";
+
+fn reported(input: &str) -> String {
+    String::from_utf8(report(input.as_bytes(), &mut Nobody).expect("original and rules agree")).expect("a report is ASCII")
+}
+
+/// The lines after `book 0`, of a book and calls; the calls are given without their count.
+fn lines(book: &str, calls: &[&str]) -> Vec<String> {
+    let report = reported(&format!("{book}\n{}\n{}", calls.len(), calls.join("\n")));
+    let mut lines = report.lines().map(str::to_string);
+    assert_eq!(lines.next().as_deref(), Some("book 0"));
+    lines.collect()
+}
+
+/// The first property's word after each call.
+fn words(book: &str, calls: &[&str]) -> Vec<String> {
+    let lines = lines(book, calls);
+    lines[..calls.len()].iter().map(|l| l.split(' ').nth(2).unwrap_or("-").to_string()).collect()
+}
+
+fn values(book: &str, calls: &[&str]) -> String {
+    words(book, calls).iter().map(|w| &w[..1]).collect()
+}
+
+#[test]
+fn whole_case() {
+    let input = "3\n2 0 0 0\n8 1 0 18446744073709551615\n7 1 0 18446744073709551615\n2 0 1\n0\n1 2\n4\n1 1 0\n0 1\n1 1 1\n0 5\n";
+    assert_eq!(reported(input), "book 0\n1 0 000\n2 0 000\n3 0 010\n4 0 010\nend\n");
+}
+
+#[test]
+fn p6_once_in_a_window() {
+    let book = "2 2 0 0 0 8 1 2 3 1 0 0 1 1";
+    assert_eq!(values(book, &["1 1 1", "1 1 0", "0 1", "0 2", "0 3", "0 4"]), "000110");
+}
+
+#[test]
+fn p7_only_calls_count() {
+    assert_eq!(values("2 2 0 0 0 8 1 1 1 1 0 0 1 1", &["1 1 1", "0 5"]), "00");
+}
+
+#[test]
+fn p8_a_time_call_sees_the_old_state() {
+    assert_eq!(values("2 2 0 0 0 7 1 0 0 1 0 0 1 1", &["0 4", "1 1 1"]), "00");
+}
+
+#[test]
+fn p9_since() {
+    let book = format!("3 2 0 0 0 2 1 0 0 9 2 0 {MAX} 2 0 1 0 1 2");
+    assert_eq!(values(&book, &["1 2 0 1", "1 2 1 0", "0 7", "1 2 0 0"]), "1110");
+}
+
+#[test]
+fn p10_since_false_true() {
+    let book = format!("3 0 0 0 0 1 0 0 0 9 2 0 {MAX} 2 0 1 0 1 2");
+    assert_eq!(words(&book, &["0 0"]), ["101"]);
+}
+
+#[test]
+fn p11_and_or() {
+    assert_eq!(words("3 0 0 0 0 2 0 0 0 3 2 0 0 2 0 1 0 1 2", &["1 1 1"]), ["020"]);
+    assert_eq!(words("1 3 0 0 0 0 0 1 0", &["0 0"]), ["111"]);
+    assert_eq!(words("1 4 0 0 0 0 0 1 0", &["0 0"]), ["000"]);
+}
+
+#[test]
+fn p12_once_historically() {
+    let book = format!("3 2 0 0 0 7 1 0 {MAX} 8 1 0 {MAX} 2 0 1 0 1 2");
+    assert_eq!(words(&book, &["1 1 1", "1 1 0"]), ["111", "101"]);
+}
+
+#[test]
+fn a_lapsed_rule_stays_open() {
+    let book = format!("3 2 0 0 0 7 1 0 {MAX} 8 1 0 5 2 0 1 0 1 2");
+    assert_eq!(words(&book, &["1 1 1", "1 1 0", "0 6"])[2], "002");
+}
+
+#[test]
+fn sixty_four_runs() {
+    let book = "2 2 0 0 0 8 1 0 0 1 0 0 1 1";
+    let steps: Vec<String> = (1..=63).map(|i| format!("0 {}", 2 * i)).collect();
+    let mut calls = vec!["1 1 1"];
+    calls.extend(steps.iter().map(String::as_str));
+    calls.extend(["0 128", "0 127", "0 128"]);
+    let lines = lines(book, &calls);
+    assert!(lines[..64].iter().all(|l| l.ends_with(" 0 122")), "{lines:?}");
+    assert_eq!(lines[64..], ["65 11", "66 0 122", "67 0 122", "end"]);
+}
+
+#[test]
+fn a_full_row_leaves_the_rows_below_as_they_were() {
+    // Row 1 counts calls without b, row 3 those with a. Row 3 is full at t128, so row 1 must not get 129 from that call.
+    let book = "4 2 1 0 0 7 1 1 1 2 0 0 0 8 1 0 0 2 0 2 0 2 1 3";
+    let steps: Vec<String> = (1..=63).map(|i| format!("0 {}", 2 * i)).collect();
+    let mut calls = vec!["1 2 1 1"];
+    calls.extend(steps.iter().map(String::as_str));
+    calls.extend(["1 2 1 0", "0 128", "0 127", "1 2 0 1", "0 129"]);
+    let lines = lines(book, &calls);
+    assert_eq!(lines[65], "66 11");
+    assert_eq!(lines[66], "67 0 022 122");
+    assert_eq!(lines[68], "69 0 122 022");
+}
+
+#[test]
+fn h_is_accepted_and_no_later_time() {
+    let book = "1 1 0 0 0 0 0 1 0";
+    let calls = ["0 9223372036854775808", "0 9223372036854775807", "0 18446744073709551615", "0 5"];
+    assert_eq!(lines(book, &calls), ["1 8", "2 0 111", "3 8", "4 7", "end"]);
+}
+
+#[test]
+fn refused_states() {
+    let book = "1 2 1 0 0 0 0 1 0";
+    let calls = ["1 1 5", "1 2 0 2", "1 3 0 1 18446744073709551615", "1 3 0 1 0", "1 0"];
+    assert_eq!(lines(book, &calls), ["1 9", "2 10", "3 10", "4 0 122", "5 9", "end"]);
+    // 9 never if the book has no atom.
+    assert_eq!(lines("0 0 0 0", &["1 0", "1 1 1", "1 1 2"]), ["1 0", "2 0", "3 10", "end"]);
+}
+
+#[test]
+fn stops() {
+    let book = "0 0 0 0";
+    assert_eq!(reported(""), "book 1\n");
+    assert_eq!(reported("\n \n"), "book 1\n");
+    assert_eq!(reported("x"), "book 13\n");
+    assert_eq!(reported(book), "book 0\nstop 1\n");
+    assert_eq!(reported(&format!("{book} 00")), "book 0\nstop 13\n");
+    assert_eq!(reported(&format!("{book} 0")), "book 0\nend\n");
+    assert_eq!(reported(&format!("{book} 0 0")), "book 0\nstop 1\n");
+    assert_eq!(reported(&format!("{book} 0 0\r")), "book 0\nstop 13\n");
+    assert_eq!(reported(&format!("{book} {MAX} 0 3")), "book 0\n1 0\nstop 1\n");
+    assert_eq!(reported(&format!("{book} 1 2 x")), "book 0\nstop 13\n");
+    assert_eq!(reported(&format!("{book} 1 1 257 x")), "book 0\nstop 2\n");
+    assert_eq!(reported(&format!("{book} 1 1 256 x")), "book 0\nstop 13\n");
+    // A text that ends within a state has no line, whatever 10 would have said.
+    assert_eq!(reported(&format!("{book} 1 1 2 7")), "book 0\nstop 1\n");
+    assert_eq!(reported(&format!("{book} 1 1 1 18446744073709551616")), "book 0\nstop 13\n");
+}
+
+#[test]
+fn input_too_long() {
+    let padded = |length: usize| format!("0 0 0 0 0{}", " ".repeat(length - 9));
+    assert_eq!(reported(&padded(LONGEST_INPUT)), "book 0\nend\n");
+    assert_eq!(reported(&padded(LONGEST_INPUT + 1)), "stop 2\n");
+}

@@ -1,0 +1,122 @@
+//! A running monitor by document 01's rules alone.
+
+use crate::book::{Book, Range, Row, H};
+use crate::rules::{self, Answer};
+use crate::runs::Runs;
+
+pub const ACCEPTED: u64 = 0;
+/// A state width over 256.
+pub const TOO_WIDE: u64 = 2;
+pub const TIME_BELOW_CLOCK: u64 = 7;
+pub const TIME_ABOVE_H: u64 = 8;
+pub const STATE_TOO_SHORT: u64 = 9;
+pub const BAD_STATE: u64 = 10;
+pub const NO_ROOM: u64 = 11;
+
+/// The widest state.
+pub const MOST_WIDTH: usize = 256;
+/// The most runs in a set.
+pub const MOST_RUNS: usize = 64;
+
+pub struct Monitor {
+    pub book: Book,
+    pub clock: u64,
+    atoms: Vec<bool>,
+    /// A set for each row; only temporal rows ever have instants in theirs.
+    pub sets: Vec<Runs>,
+    /// Each row's value after the last accepted call.
+    pub values: Vec<bool>,
+}
+
+/// What a call does to a row's set.
+enum Change {
+    Stays,
+    Becomes(Runs),
+}
+
+impl Monitor {
+    pub fn new(book: Book) -> Self {
+        let rows = book.rows.len();
+        let atoms = vec![false; book.width];
+        Self { book, clock: 0, atoms, sets: vec![Runs::default(); rows], values: vec![false; rows] }
+    }
+
+    pub fn time_call(&mut self, time: u64) -> u64 {
+        if time < self.clock {
+            return TIME_BELOW_CLOCK;
+        }
+        if time > H {
+            return TIME_ABOVE_H;
+        }
+        let atoms = self.atoms.clone();
+        self.step(time, atoms)
+    }
+
+    pub fn state_call(&mut self, state: &[u64]) -> u64 {
+        if state.len() > MOST_WIDTH {
+            return TOO_WIDE;
+        }
+        if state.len() < self.book.width {
+            return STATE_TOO_SHORT;
+        }
+        if state.iter().any(|&word| word > 1) {
+            return BAD_STATE;
+        }
+        let atoms = state[..self.book.width].iter().map(|&word| word == 1).collect();
+        self.step(self.clock, atoms)
+    }
+
+    /// Re-evaluates every row at this clock and these atoms; nothing changes if one of the sets has no room.
+    fn step(&mut self, clock: u64, atoms: Vec<bool>) -> u64 {
+        let mut values = Vec::with_capacity(self.book.rows.len());
+        let mut changes = Vec::with_capacity(self.book.rows.len());
+        for (row, old) in self.book.rows.iter().zip(&self.sets) {
+            let change = change(row, &values, old, clock);
+            let set = if let Change::Becomes(new) = &change { new } else { old };
+            if set.list().len() > MOST_RUNS {
+                return NO_ROOM;
+            }
+            values.push(rules::value(row, &values, set, &atoms, clock));
+            changes.push(change);
+        }
+        for (set, change) in self.sets.iter_mut().zip(changes) {
+            if let Change::Becomes(new) = change {
+                *set = new;
+            }
+        }
+        self.clock = clock;
+        self.atoms = atoms;
+        self.values = values;
+        ACCEPTED
+    }
+
+    /// Each row's early answer.
+    pub fn early(&self) -> Vec<Answer> {
+        rules::early(&self.book, &self.sets, self.clock)
+    }
+
+    /// Each row's settled answer after an accepted call.
+    pub fn settled(&self) -> Vec<Answer> {
+        rules::settled(&self.book, &self.sets, self.clock)
+    }
+}
+
+/// The call's part in a row's set: Once counts calls after which the argument held, Historically those after which it
+/// failed, Since those after which right held, as long as left holds after each later call.
+fn change(row: &Row, values: &[bool], old: &Runs, clock: u64) -> Change {
+    let with = |set: &Runs, range: &Range| {
+        let (lower, upper) = range.counted_from(clock);
+        Change::Becomes(set.with(lower, upper))
+    };
+    match row {
+        Row::Once(argument, range) if values[*argument] => with(old, range),
+        Row::Historically(argument, range) if !values[*argument] => with(old, range),
+        Row::Since(left, right, range) => match (values[*left], values[*right]) {
+            (true, true) => with(old, range),
+            (true, false) => Change::Stays,
+            (false, true) => with(&Runs::default(), range),
+            (false, false) => Change::Becomes(Runs::default()),
+        },
+        _ => Change::Stays,
+    }
+}

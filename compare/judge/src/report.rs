@@ -1,0 +1,145 @@
+//! The report, byte for byte.
+
+use crate::book::{self, Book, PASSES_LIMIT};
+use crate::monitor::{Monitor, ACCEPTED, MOST_WIDTH};
+use crate::original::Original;
+use crate::rules::Answer;
+use crate::text::{Reader, BAD_WORD, ENDS_EARLY};
+use std::io::Write;
+
+/// The longest input, in bytes.
+pub const LONGEST_INPUT: usize = 65536;
+
+/// Sees what the report is made of, while it is made.
+pub trait Watch {
+    /// The book's number.
+    fn book(&mut self, _number: u64) {}
+    /// A call's number of refusal, or 0, and the monitor after it.
+    fn call(&mut self, _number: u64, _monitor: &Monitor) {}
+    /// The number after `stop`.
+    fn stop(&mut self, _number: u64) {}
+}
+
+/// Watches nothing.
+pub struct Nobody;
+
+impl Watch for Nobody {}
+
+/// A call as it is read.
+pub enum Call {
+    Time(u64),
+    State(Vec<u64>),
+}
+
+/// The report expected for an input; or, in words, where the original leaves document 01's rules for value and early.
+pub fn report(input: &[u8], watch: &mut impl Watch) -> Result<Vec<u8>, String> {
+    let mut out = Vec::new();
+    if input.len() > LONGEST_INPUT {
+        stop_line(&mut out, PASSES_LIMIT, watch);
+        return Ok(out);
+    }
+    let mut words = Reader::new(input);
+    let judged = book::read(&mut words).and_then(|sections| book::judge(&sections));
+    let number = judged.as_ref().err().copied().unwrap_or(ACCEPTED);
+    watch.book(number);
+    out.extend_from_slice(format!("book {number}\n").as_bytes());
+    if let Ok(book) = judged {
+        match call_lines(&mut words, book, &mut out, watch)? {
+            ENDED => out.extend_from_slice(b"end\n"),
+            number => stop_line(&mut out, number, watch),
+        }
+    }
+    Ok(out)
+}
+
+/// All calls were read, and nothing is left over.
+const ENDED: u64 = 0;
+
+fn stop_line(out: &mut Vec<u8>, number: u64, watch: &mut impl Watch) {
+    watch.stop(number);
+    out.extend_from_slice(format!("stop {number}\n").as_bytes());
+}
+
+/// A line for each call; then `ENDED`, or the number that stops the reading.
+fn call_lines(words: &mut Reader, book: Book, out: &mut Vec<u8>, watch: &mut impl Watch) -> Result<u64, String> {
+    let count = match words.next_word() {
+        Ok(count) => count,
+        Err(number) => return Ok(number),
+    };
+    let mut pair = Pair { original: Original::new(&book), monitor: Monitor::new(book) };
+    for number in 1..=count {
+        let call = match read_call(words) {
+            Ok(call) => call,
+            Err(refusal) => return Ok(refusal),
+        };
+        let refusal = pair.call(&call);
+        watch.call(refusal, &pair.monitor);
+        write!(out, "{number} {refusal}").expect("a vector takes all bytes");
+        if refusal == ACCEPTED {
+            pair.answers(number, out)?;
+        }
+        out.push(b'\n');
+    }
+    Ok(match words.next_word() {
+        Ok(_) => ENDS_EARLY,
+        Err(ENDS_EARLY) => ENDED,
+        Err(number) => number,
+    })
+}
+
+/// A call, or the number that stops the reading: a kind over 1 and a width over 256 are refused at once.
+pub fn read_call(words: &mut Reader) -> Result<Call, u64> {
+    match words.next_word()? {
+        0 => Ok(Call::Time(words.next_word()?)),
+        1 => {
+            let width = words.next_word()?;
+            if width > MOST_WIDTH as u64 {
+                return Err(PASSES_LIMIT);
+            }
+            Ok(Call::State((0..width).map(|_| words.next_word()).collect::<Result<_, _>>()?))
+        }
+        _ => Err(BAD_WORD),
+    }
+}
+
+/// The monitor by 01's rules and the original beside it; a refused call does not reach the original.
+struct Pair {
+    monitor: Monitor,
+    original: Original,
+}
+
+impl Pair {
+    fn call(&mut self, call: &Call) -> u64 {
+        match call {
+            Call::Time(time) => {
+                let refusal = self.monitor.time_call(*time);
+                if refusal == ACCEPTED {
+                    self.original.time_call(*time);
+                }
+                refusal
+            }
+            Call::State(state) => {
+                let refusal = self.monitor.state_call(state);
+                if refusal == ACCEPTED {
+                    self.original.state_call(state);
+                }
+                refusal
+            }
+        }
+    }
+
+    /// A word for each property: value and early of the original, settled of the rules.
+    fn answers(&self, call: u64, out: &mut Vec<u8>) -> Result<(), String> {
+        let (values, early) = (self.original.values(), self.original.early());
+        let (rules_early, settled) = (self.monitor.early(), self.monitor.settled());
+        for (property, row) in self.monitor.book.properties().enumerate() {
+            let original = (values[property], early[property]);
+            let rules = (self.monitor.values[row], rules_early[row]);
+            if original != rules {
+                return Err(format!("call {call}, property {property}: the original says {original:?}, the rules of 01 {rules:?}"));
+            }
+            out.extend_from_slice(&[b' ', Answer::of(original.0).digit(), original.1.digit(), settled[row].digit()]);
+        }
+        Ok(())
+    }
+}

@@ -1,0 +1,179 @@
+// A call, and what it gave, on one line.
+use libc::STDOUT_FILENO;
+use numset::NumSet;
+ghost use Prim.Native.Nat.{_<_, _≤_};
+ghost use Rattle.numset.specs.Runs.{Good};
+
+const MAX: u64 = 0xffff_ffff_ffff_ffff;
+
+pub fn text(bytes: &[u8]) {
+    io::write_all(STDOUT_FILENO, bytes);
+}
+
+fn instant(t: u64) {
+    if t == MAX {
+        text(b"MAX");
+        return;
+    }
+    io::print_decimal(STDOUT_FILENO, t);
+}
+
+fn interval(lower: u64, upper: u64) {
+    text(b"[");
+    instant(lower);
+    text(b",");
+    instant(upper);
+    text(b"]");
+}
+
+fn answer(yes: bool) {
+    if yes {
+        text(b": yes\n");
+        return;
+    }
+    text(b": no\n");
+}
+
+// The runs of a set, the oldest first.
+fn runs(set: &[u64])
+    requires { ⌜ Good (now set) ⌝ }
+{
+    let n = set[0] as usize;
+    let mut j = 0;
+    text(b"{");
+    while j < n {
+        if 0 < j {
+            text(b",");
+        }
+        interval(set[2 * j + 1], set[2 * j + 2]);
+        j += 1;
+    }
+    text(b"}\n");
+}
+
+fn result(number: u64, set: &[u64])
+    requires { ⌜ Good (now set) ⌝ }
+{
+    text(b": ");
+    instant(number);
+    text(b" ");
+    runs(set);
+}
+
+pub fn set_to(set: &mut [u64], lower: u64, upper: u64)
+    requires { ⌜ Good (now set) ⌝ }
+    ensures { λ _. ⌜ Good (now (set .exit)) ⌝ }
+{
+    text(b"  set to ");
+    interval(lower, upper);
+    let number = numset::set_to(set, lower, upper);
+    result(number, set);
+}
+
+// The set's own `add`, of which only this is needed here: it gives a set again.
+pub fn added(set: &mut [u64], lower: u64, upper: u64) -> u64
+    requires { ⌜ Good (now set) ⌝ }
+    ensures { λ _. ⌜ Good (now (set .exit)) ⌝ }
+{
+    numset::add(set, lower, upper)
+}
+
+pub fn add(set: &mut [u64], lower: u64, upper: u64)
+    requires { ⌜ Good (now set) ⌝ }
+    ensures { λ _. ⌜ Good (now (set .exit)) ⌝ }
+{
+    text(b"  add ");
+    interval(lower, upper);
+    let number = added(set, lower, upper);
+    result(number, set);
+}
+
+// Adds, where the set is too long to print whole.
+pub fn add_to_many(set: &mut [u64], lower: u64, upper: u64)
+    requires { ⌜ Good (now set) ⌝ }
+    ensures { λ _. ⌜ Good (now (set .exit)) ⌝ }
+{
+    text(b"  add ");
+    interval(lower, upper);
+    let number = added(set, lower, upper);
+    text(b": ");
+    instant(number);
+    text(b", ");
+    tally(set);
+}
+
+pub fn clear(set: &mut [u64])
+    requires { ⌜ Good (now set) ⌝ }
+    ensures { λ _. ⌜ Good (now (set .exit)) ⌝ }
+{
+    numset::clear(set);
+    text(b"  clear: ");
+    runs(set);
+}
+
+pub fn ask(set: &[u64], t: u64)
+    requires { ⌜ Good (now set) ⌝ }
+{
+    text(b"  contains ");
+    instant(t);
+    answer(numset::contains(set, t));
+}
+
+pub fn ask_cover(set: &[u64], from: u64)
+    requires { ⌜ Good (now set) ⌝ }
+{
+    text(b"  covers ");
+    instant(from);
+    answer(numset::covers(set, from));
+}
+
+pub fn ask_room(set: &[u64], lower: u64, upper: u64)
+    requires { ⌜ Good (now set) ⌝ }
+{
+    text(b"  has room for ");
+    interval(lower, upper);
+    answer(numset::has_room(set, lower, upper));
+}
+
+// The number of runs, with the first and the last.
+pub fn tally(set: &[u64])
+    requires { ⌜ Good (now set) ⌝ }
+{
+    let n = set[0] as usize;
+    instant(n as u64);
+    if n == 0 {
+        text(b" runs\n");
+        return;
+    }
+    text(b" runs from ");
+    interval(set[1], set[2]);
+    text(b" to ");
+    interval(set[2 * n - 1], set[2 * n]);
+    text(b"\n");
+}
+
+// An addition to a set by value, which is printed before and after.
+pub fn add_value(set: NumSet, lower: u64, upper: u64)
+    requires { ⌜ Good (set .words) ⌝ }
+{
+    let before = set.words;
+    text(b"  ");
+    runs(&before);
+    let sum = set.add(lower, upper);
+    let after = sum.set;
+    let words = after.words;
+    text(b"  add ");
+    interval(lower, upper);
+    result(sum.number, &words);
+}
+
+pub fn ask_value(set: NumSet, t: u64)
+    requires { ⌜ Good (set .words) ⌝ }
+{
+    text(b"  contains ");
+    instant(t);
+    answer(set.contains(t));
+    text(b"  covers ");
+    instant(t);
+    answer(set.covers(t));
+}
