@@ -1,1 +1,3 @@
 pub mod Oracle
+pub mod Made
+pub mod Steps

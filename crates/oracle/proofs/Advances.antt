@@ -1,0 +1,166 @@
+-- A planned call carried out: the memory that it leaves holds the definitions' next state, and is kept. Assumes nothing.
+use Prim.Native.Nat.{ℕ, _+_, _^_, _≤_, _<_}
+use mathlib.Core.Path.{_≡_, refl, sym, ap, ap₂, _∙_}
+use mathlib.Core.Logic.{⊎-elim}
+use mathlib.Core.Bool.{Bool, true, false}
+use mathlib.Core.List.{List, [], _∷_, map}
+use native.Mathlib.Omega.{arith}
+use lib.ListN.{length, getD, take, length-map, List·getD-map}
+use lib.Seq.{ext-getD, getD-take, length-take-le}
+use lib.Dec.{eqb}
+use borrow.Author.Tests.{eqb-false}
+use Rattle.numset.specs.Runs.{MAX, Runs, runs, Good, fits, pack}
+use Rattle.numset.proofs.Laws.{either, lt-or-ge}
+use Rattle.numset.proofs.Packs.{runs-pack, good-pack}
+use Rattle.pmtl.specs.Book.{H, Range, start, stop}
+use Rattle.pmtl.specs.Monitor.{Snap, State, setAt}
+use Rattle.pmtl.specs.Calls.{crowded, play}
+use Rattle.pmtl.proofs.Steps.{step-sets, step-now, step-begun}
+use Rattle.rows.specs.Memory.{ATOMS, OWNERS, SET, widthWord, temporals, rowCount, kindAt, slotAt, ownerAt, setStart, setWords, listed, rowsOf, setOf, stateOf, isOne}
+use Rattle.rows.proofs.Kept.{rows-length}
+use Rattle.rows.proofs.Listed.{listed-length, listed-at}
+use Rattle.store.proofs.Parts.{part-same}
+use Rattle.store.proofs.Steps.{Stepped, kept-step, step-book, kind-same, slot-same, width-same}
+use Rattle.change.proofs.Changes.{changed-under}
+use Rattle.oracle.specs.Steps.{Bytes, snapOf, stepOf, rangeAt, setAfter, Planned, Written, Headed, Timely, Fitting, Advanced}
+use Rattle.oracle.proofs.Rules.{set-of-slot, set-of-none}
+use Rattle.oracle.proofs.Plans.{set-none, fits-each}
+use Rattle.oracle.proofs.Commits.{room-is}
+
+-- the end of a range is a time or MAX
+stop-fits : (g : Range) (c : ℕ) → c ≤ H → ((g .upper ≡ MAX → ⊥) → g .upper ≤ H) → stop g c + 1 < 2 ^ 64 + 1
+unfolding stop
+stop-fits g c h b =
+    ⊎-elim
+    (λ (e : eqb (g .upper) MAX ≡ true). rw e (omega arith))
+    (λ (e : eqb (g .upper) MAX ≡ false). let q = b (eqb-false (g .upper) MAX e) in rw e (omega arith))
+    (either (eqb (g .upper) MAX))
+
+-- a state is its parts
+state-is : (st : State) {begun : Bool} {now : Snap} {sets : List Runs} → st .begun ≡ begun → st .now ≡ now → st .sets ≡ sets → record { begun = begun; now = now; sets = sets } ≡ st
+state-is st e f g = λ i. record { begun = sym e i; now = sym f i; sets = sym g i }
+
+module _ {m : List ℕ} {c : ℕ} {atoms modes : List ℕ} (timely : Timely m c) (planned : Planned m c atoms true modes) where
+  roomy : crowded (stepOf m c atoms) ≡ false
+  roomy = planned .fits
+
+  pub fitting : Fitting m c modes
+  fitting =
+      let kept = timely .kept .book in
+      record { timely = timely; room = λ j h. ap (fits SET) (planned .sets refl j h) ∙ fits-each m kept c atoms roomy j h }
+
+  abbrev after : ℕ → Runs
+  after j = setAfter m c (getD modes j 0) j
+
+  module _ (bytes : Bytes atoms (widthWord m)) {m₁ m₂ : List ℕ} (w : Written m (λ j. setAfter m c (getD modes j 0) j) (temporals m) m₁) (h : Headed m₁ c atoms m₂) where
+    few : temporals m ≤ 32
+    few = timely .kept .book .temporal-few
+
+    narrow : widthWord m ≤ 256
+    narrow = timely .kept .book .narrow
+
+    width-mid : widthWord m₁ ≡ widthWord m
+    width-mid = w .below 3 (omega arith)
+
+    high : (j : ℕ) → j < 32 → setWords m₂ j ≡ setWords m₁ j
+    high j lt =
+        let n = narrow in
+        let e = width-mid in
+        part-same (setStart j) SET m₁ m₂ (let l = w .long in omega arith) (h .long ∙ sym (w .long)) (λ i p. h .above (setStart j + i) (omega arith))
+
+    set-new : (j : ℕ) → j < temporals m → setWords m₂ j ≡ pack SET (after j)
+    set-new j lt = let f = few in high j (omega arith) ∙ w .new j lt
+
+    after-good : (j : ℕ) → j < temporals m → Good (pack SET (after j))
+    after-good j lt =
+        let f = few in
+        let b = timely .kept .book in
+        let g : Range = rangeAt m (ownerAt m j) in
+        good-pack SET (after j) (room-is (after j) (fitting .room j lt))
+        (changed-under (2 ^ 64 + 1) (getD modes j 0) (start g c) (stop g c) (runs (setWords m j)) (timely .kept .sets j (omega arith) .apart)
+        (stop-fits g c (timely .clock) (b .rows (ownerAt m j) (b .owned j lt) .upper)))
+
+    pub stepped : Stepped m m₂
+    stepped =
+        let n = narrow in
+        let e = width-mid in
+        let f = few in
+        record {
+          long = h .long ∙ sym (timely .kept .book .long);
+          rows-same = h .below 0 (omega arith) (omega arith) (omega arith) ∙ w .below 0 (omega arith);
+          book-same = λ i p q. h .below i (omega arith) (omega arith) q ∙ w .below i (omega arith);
+          atoms-same = λ i p q. h .above (ATOMS + i) (omega arith) ∙ w .below (ATOMS + i) (omega arith);
+          owners-same = λ j p. h .above (OWNERS + j) (omega arith) ∙ w .below (OWNERS + j) (omega arith);
+          sets-same = λ j p q. high j q ∙ w .old j p q;
+          begun = rw (h .begun) (omega arith);
+          clock = rw (h .clock) (timely .clock);
+          atoms = λ i p. rw (h .new i (omega arith)) (bytes .bits i p);
+          sets = λ j p. rw (set-new j p) (after-good j p);
+        }
+
+    atoms-are : listed (λ i. isOne (getD m₂ (ATOMS + i) 0)) (widthWord m₂) ≡ map isOne (take (widthWord m) atoms)
+    atoms-are =
+        let wd = width-same m m₂ (timely .kept) stepped in
+        let f : ℕ → Bool = λ i. isOne (getD m₂ (ATOMS + i) 0) in
+        let long : length (take (widthWord m) atoms) ≡ widthWord m = length-take-le (widthWord m) atoms (let l = bytes .long in let n = narrow in omega arith) in
+        ap (listed f) wd
+        ∙ ext-getD false (listed f (widthWord m)) (map isOne (take (widthWord m) atoms)) (listed-length f (widthWord m) ∙ sym (length-map (take (widthWord m) atoms) isOne ∙ long))
+        (λ i lt.
+        let p : i < widthWord m = omega (arith, listed-length f (widthWord m)) in
+        listed-at f false (widthWord m) i p
+        ∙ ap isOne (h .new i (let e = width-mid in omega arith) ∙ sym (getD-take (widthWord m) atoms i 0 p))
+        ∙ sym (List·getD-map isOne (take (widthWord m) atoms) i 0))
+
+    set-is : (r : ℕ) → r < rowCount m → setOf m₂ r ≡ setAt (stepOf m c atoms) r
+    set-is r p =
+        let kept = timely .kept .book in
+        let small : r < 128 = let f = kept .few in omega arith in
+        let ek = kind-same m m₂ (timely .kept) stepped r small in
+        let es = slot-same m m₂ (timely .kept) stepped r small in
+        ⊎-elim
+        (λ (k : kindAt m r < 7). set-of-none m₂ r (rw ek k) ∙ sym (set-none m kept c atoms r p k))
+        (λ (k : 7 ≤ kindAt m r).
+        let row = kept .rows r p in
+        let j : ℕ = slotAt m r in
+        let lt : slotAt m r < temporals m = row .slot k in
+        set-of-slot m₂ r (rw ek k)
+        ∙ ap (λ (i : ℕ). runs (setWords m₂ i)) es
+        ∙ ap runs (set-new j lt) ∙ runs-pack SET (after j)
+        ∙ planned .sets refl j lt
+        ∙ ap (setAt (stepOf m c atoms)) (row .owner k))
+        (lt-or-ge (kindAt m r) 7)
+
+    sets-are : listed (setOf m₂) (rowCount m₂) ≡ stepOf m c atoms .sets
+    sets-are =
+        let long : length (stepOf m c atoms .sets) ≡ rowCount m = step-sets (rowsOf m) (stateOf m) (snapOf c atoms (widthWord m)) ∙ rows-length m in
+        ap (listed (setOf m₂)) (stepped .rows-same)
+        ∙ ext-getD [] (listed (setOf m₂) (rowCount m)) (stepOf m c atoms .sets) (listed-length (setOf m₂) (rowCount m) ∙ sym long)
+        (λ r lt.
+        let p : r < rowCount m = omega (arith, listed-length (setOf m₂) (rowCount m)) in
+        listed-at (setOf m₂) [] (rowCount m) r p ∙ set-is r p)
+
+    -- the memory holds the next state
+    pub state-after : stateOf m₂ ≡ stepOf m c atoms
+    unfolding stateOf
+    state-after =
+        state-is (stepOf m c atoms)
+        (step-begun (rowsOf m) (stateOf m) (snapOf c atoms (widthWord m)) ∙ sym (ap isOne (h .begun)))
+        (step-now (rowsOf m) (stateOf m) (snapOf c atoms (widthWord m)) ∙ sym (ap₂ (λ (t : ℕ) (bs : List Bool). record { clock = t; atoms = bs }) (h .clock) atoms-are))
+        (sym sets-are)
+
+    pub advanced : Advanced m (snapOf c atoms (widthWord m) ∷ []) m₂ 0
+    unfolding play
+    advanced =
+        record {
+          number = sym (rw roomy);
+          state = state-after ∙ sym (rw roomy);
+          book = step-book m m₂ (timely .kept) stepped;
+          refused = λ ne. absurd (ne refl);
+          kept = kept-step m m₂ (timely .kept) stepped;
+        }
+
+pub unmoved : {m : List ℕ} {c : ℕ} {atoms modes : List ℕ} → Timely m c → Planned m c atoms false modes → Advanced m (snapOf c atoms (widthWord m) ∷ []) m 11
+unfolding play
+unmoved timely planned =
+    let e = planned .fits in
+    record { number = sym (rw e); state = sym (rw e); book = refl; refused = λ ne. refl; kept = timely .kept }

@@ -1,0 +1,125 @@
+-- The public calls, arm by arm: refused for themselves, or played. Assumes nothing.
+use Prim.Native.Nat.{ℕ, _+_, _≤_, _<_}
+use mathlib.Core.Path.{_≡_, refl, sym, ap, ap₂, _∙_}
+use mathlib.Core.Bool.{Bool, true, false, true≢false}
+use mathlib.Core.List.{List, [], _∷_, map}
+use native.Mathlib.Omega.{arith}
+use lib.ListN.{length, getD, take, length-map, List·getD-map}
+use lib.Seq.{ext-getD, getD-take, length-take-le}
+use lib.Dec.{ltb}
+use borrow.Author.Tests.{lt-ltb, le-ltb, ltb-false, ne-eqb}
+use Rattle.pmtl.specs.Book.{H, widthOf, some}
+use Rattle.pmtl.specs.Monitor.{Snap}
+use Rattle.pmtl.specs.Calls.{Call, WIDEST, turns, refusal, play, call}
+use Rattle.pmtl.specs.Calls.Call.{time, state}
+use Rattle.pmtl.proofs.Bools.{fails-by}
+use Rattle.rows.specs.Memory.{ATOMS, part, clockOf, widthWord, listed, rowsOf, bookOf, stateOf, isOne}
+use Rattle.rows.proofs.Listed.{listed-length, listed-at}
+use Rattle.book.specs.Kept.{Kept}
+use Rattle.store.proofs.Parts.{part-length, part-at}
+use Rattle.oracle.specs.Steps.{firstBytes, Bytes, snapOf, Timely, Advanced}
+use Rattle.oracle.specs.Oracle.{Called}
+use Rattle.oracle.proofs.Plans.{some-hit}
+use Rattle.oracle.proofs.Heads.{first-bytes, first-take}
+
+-- ---- a call that is refused for itself, and one that is not
+called-refused : {m : List ℕ} {k : Call} {n : ℕ} → Kept m → refusal (rowsOf m) (stateOf m .now) k ≡ n → (n ≡ 0 → ⊥) → Called k m m n
+unfolding call bookOf
+called-refused {m} {k} {n} kept e ne =
+    let q = ne-eqb n 0 ne in
+    record { number = sym (rw (e, q) e); state = sym (rw (e, q)); book = refl; refused = λ z. refl; kept = kept }
+
+called-played : {m m′ : List ℕ} {k : Call} {r : ℕ} {ns : List Snap} → refusal (rowsOf m) (stateOf m .now) k ≡ 0 → ns ≡ turns (rowsOf m) (stateOf m .now) k → Advanced m ns m′ r → Called k m m′ r
+unfolding call bookOf
+called-played {m} {m′} {k} {r} e en a =
+    record {
+      number = a .number ∙ ap (λ (ns : List Snap). play (rowsOf m) (stateOf m) (stateOf m) ns .number) en ∙ sym (rw e);
+      state = a .state ∙ ap (λ (ns : List Snap). play (rowsOf m) (stateOf m) (stateOf m) ns .state) en ∙ sym (rw e);
+      book = a .book;
+      refused = a .refused;
+      kept = a .kept;
+    }
+
+module _ {m : List ℕ} (kept : Kept m) where
+  narrow : widthWord m ≤ 256
+  narrow = kept .book .narrow
+
+  -- ---- a time call
+  old-long : length (part ATOMS 256 m) ≡ 256
+  old-long = part-length ATOMS 256 m (let l = kept .book .long in omega arith)
+
+  pub old-bytes : Bytes (firstBytes (part ATOMS 256 m) (widthWord m)) (widthWord m)
+  old-bytes =
+      first-bytes (widthWord m) (part ATOMS 256 m) (omega (arith, old-long, narrow)) narrow
+      (λ i h. rw (part-at ATOMS 256 m i (omega (arith, narrow))) (kept .atoms i h))
+
+  old-atoms : map isOne (take (widthWord m) (firstBytes (part ATOMS 256 m) (widthWord m))) ≡ listed (λ i. isOne (getD m (ATOMS + i) 0)) (widthWord m)
+  old-atoms =
+      let w : ℕ = widthWord m in
+      let f : ℕ → Bool = λ i. isOne (getD m (ATOMS + i) 0) in
+      let long : length (map isOne (take w (part ATOMS 256 m))) ≡ w = length-map (take w (part ATOMS 256 m)) isOne ∙ length-take-le w (part ATOMS 256 m) (omega (arith, old-long, narrow)) in
+      ap (map isOne) (first-take w (part ATOMS 256 m) (omega (arith, old-long, narrow)) narrow)
+      ∙ ext-getD false (map isOne (take w (part ATOMS 256 m))) (listed f w) (long ∙ sym (listed-length f w))
+      (λ i lt.
+      let h : i < w = omega arith in
+      List·getD-map isOne (take w (part ATOMS 256 m)) i 0
+      ∙ ap isOne (getD-take w (part ATOMS 256 m) i 0 h ∙ part-at ATOMS 256 m i (omega (arith, narrow)))
+      ∙ sym (listed-at f false w i h))
+
+  module _ {t clock : ℕ} (ec : clock ≡ clockOf m) where
+    pub time-early : t < clock → Called (time t) m m 7
+    unfolding refusal stateOf
+    time-early h = called-refused kept (let e = lt-ltb t (clockOf m) (omega arith) in rw e) (omega arith)
+
+    pub time-late : clock ≤ t → H < t → Called (time t) m m 8
+    unfolding refusal stateOf
+    time-late h k = called-refused kept (let e = le-ltb t (clockOf m) (omega arith) in rw (e, lt-ltb H t k)) (omega arith)
+
+    module _ (h : clock ≤ t) (k : t ≤ H) where
+      pub time-timely : Timely m t
+      time-timely = record { kept = kept; clock = k }
+
+      pub time-played : {atoms m′ : List ℕ} {r : ℕ} → atoms ≡ firstBytes (part ATOMS 256 m) (widthWord m) → Advanced m (snapOf t atoms (widthWord m) ∷ []) m′ r → Called (time t) m m′ r
+      unfolding refusal stateOf
+      time-played {atoms} ea a =
+          called-played (let e = le-ltb t (clockOf m) (omega arith) in rw (e, le-ltb H t k))
+          (ap (λ (bs : List Bool). record { clock = t; atoms = bs } ∷ []) (ap (λ (xs : List ℕ). map isOne (take (widthWord m) xs)) ea ∙ old-atoms)) a
+
+  -- ---- a state call
+  module _ (s : List ℕ) where
+    pub state-wide : WIDEST < length s → Called (state s) m m 2
+    unfolding refusal
+    state-wide h = called-refused kept (rw (lt-ltb WIDEST (length s) h)) (omega arith)
+
+    module _ (h : length s ≤ WIDEST) {w : ℕ} (ew : w ≡ widthWord m) where
+      width : widthOf (rowsOf m) ≡ w
+      width = sym (ew ∙ kept .book .width)
+
+      pub state-short : length s < w → Called (state s) m m 9
+      unfolding refusal
+      state-short k = called-refused kept (rw (le-ltb WIDEST (length s) h, width, lt-ltb (length s) w k)) (omega arith)
+
+      module _ (k : w ≤ length s) {b : Bool} (eb : b ≡ some (ltb 1) s) where
+        pub state-other : b ≡ true → Called (state s) m m 10
+        unfolding refusal
+        state-other e = called-refused kept (rw (le-ltb WIDEST (length s) h, width, le-ltb (length s) w k, ← eb, e)) (omega arith)
+
+        pub new-narrow : w ≤ 256
+        new-narrow = omega (arith, narrow)
+
+        module _ (e : b ≡ false) where
+          bit-each : (i : ℕ) → i < length s → getD s i 0 ≤ 1
+          bit-each i lt = ltb-false 1 (getD s i 0) (fails-by (ltb 1 (getD s i 0)) (λ z. true≢false (sym (some-hit (ltb 1) 0 s i lt z) ∙ sym eb ∙ e)))
+
+          pub new-bytes : {atoms : List ℕ} → atoms ≡ firstBytes s w → Bytes atoms (widthWord m)
+          new-bytes ea = rw (ea, ← ew) (first-bytes w s k new-narrow (λ i lt. bit-each i (omega arith)))
+
+          pub state-played : {atoms m′ : List ℕ} {r clock : ℕ} → clock ≡ clockOf m → atoms ≡ firstBytes s w → Advanced m (snapOf clock atoms (widthWord m) ∷ []) m′ r → Called (state s) m m′ r
+          unfolding refusal stateOf
+          state-played {atoms} ec ea a =
+              called-played (rw (le-ltb WIDEST (length s) h, width, le-ltb (length s) w k, ← eb, e))
+              (ap₂ (λ (c : ℕ) (xs : List ℕ). record { clock = c; atoms = map isOne xs } ∷ []) ec
+              (ap₂ (λ (n : ℕ) (xs : List ℕ). take n xs) (sym ew) ea ∙ first-take w s k new-narrow ∙ ap (λ (n : ℕ). take n s) (sym width))) a
+
+        pub state-timely : {clock : ℕ} → clock ≡ clockOf m → Timely m clock
+        state-timely ec = record { kept = kept; clock = rw ec (kept .clock) }

@@ -1,0 +1,84 @@
+-- What load and the calls promise over any list of calls: the memory holds the definitions' monitor after those calls, so that document 01's
+-- demands hold of the answers that the code hands back. Nothing is assumed.
+use Prim.Native.Nat.{ℕ}
+use mathlib.Core.Path.{_≡_, sym, ap, ap₂, _∙_}
+use mathlib.Core.Bool.{Bool}
+use mathlib.Core.List.{List, _++_}
+use Rattle.pmtl.specs.Answer.{known}
+use Rattle.pmtl.specs.Book.{Book, Ordered}
+use Rattle.pmtl.specs.Monitor.{State}
+use Rattle.pmtl.specs.Calls.{Call, call, after, accepted}
+use Rattle.pmtl.specs.Meaning.{meaning}
+use Rattle.pmtl.proofs.Theorems.{demand-2 as means, demand-3 as stays}
+use Rattle.rows.specs.Memory.{bookOf, stateOf}
+use Rattle.rows.proofs.Kept.{kept-ordered}
+use Rattle.book.specs.Judging.{loaded}
+use Rattle.book.specs.Kept.{Kept}
+use Rattle.store.proofs.Same.{same-words}
+use Rattle.verdicts.specs.declared.Verdict.{Verdict}
+use Rattle.verdicts.specs.Verdict.{propertyAt, verdictIn, verdictOf}
+use Rattle.oracle.specs.Oracle.{Called}
+use Rattle.oracle.specs.Made.{Made}
+use Rattle.oracle.specs.Made.Made.{loads, calls}
+
+-- the book that the words say: an empty one where they are refused
+abbrev pub bookSaid : List ℕ → Book
+bookSaid words = loaded words .book
+
+-- load and the calls leave memories that the next call may be made on
+pub made-kept : {words : List ℕ} {ks : List Call} {m : List ℕ} → Made words ks m → Kept m
+made-kept (loads l) = l .kept
+made-kept (calls k made c) = c .kept
+
+-- the memory holds the book that was loaded
+pub made-book : {words : List ℕ} {ks : List Call} {m : List ℕ} → Made words ks m → bookOf m ≡ bookSaid words
+made-book (loads l) = l .book
+made-book (calls k made c) = c .book ∙ made-book made
+
+-- and the definitions' state after those calls
+pub made-state : {words : List ℕ} {ks : List Call} {m : List ℕ} → Made words ks m → stateOf m ≡ after (bookSaid words .rows) ks
+unfolding after
+made-state (loads l) = l .state
+made-state (calls k made c) =
+    c .state ∙ ap₂ (λ (b : Book) (st : State). call (b .rows) st k .state) (made-book made) (made-state made)
+
+-- a call handed back the definitions' number
+pub made-number : {words : List ℕ} {ks : List Call} {m m′ : List ℕ} {k : Call} {r : ℕ} → Made words ks m → Called k m m′ r
+    → r ≡ call (bookSaid words .rows) (after (bookSaid words .rows) ks) k .number
+made-number {k = k} made c = c .number ∙ ap₂ (λ (b : Book) (st : State). call (b .rows) st k .number) (made-book made) (made-state made)
+
+-- operands are below their owners
+made-ordered : {words : List ℕ} {ks : List Call} {m : List ℕ} → Made words ks m → Ordered (bookSaid words .rows)
+unfolding bookOf
+made-ordered {m = m} made = rw (sym (ap (λ (b : Book). b .rows) (made-book made))) (kept-ordered (made-kept made .book))
+
+-- the answers of property i are the definitions'
+pub made-verdict : {words : List ℕ} {ks : List Call} {m : List ℕ} → Made words ks m → (i : ℕ) → verdictOf m i ≡ verdictIn (bookSaid words) (after (bookSaid words .rows) ks) i
+made-verdict made i = ap₂ (λ (b : Book) (st : State). verdictIn b st i) (made-book made) (made-state made)
+
+-- DEMAND 2: the value handed back of a property is what its row means on the history of the accepted calls
+pub demand-2 : {words : List ℕ} {ks : List Call} {m : List ℕ} → Made words ks m → (i : ℕ)
+    → verdictOf m i .value ≡ meaning (bookSaid words .rows) (propertyAt (bookSaid words) i) (accepted (bookSaid words .rows) ks)
+unfolding verdictIn
+demand-2 {words} {ks} made i =
+    ap (λ (v : Verdict). v .value) (made-verdict made i) ∙ means (bookSaid words .rows) (made-ordered made) ks (propertyAt (bookSaid words) i)
+
+-- DEMAND 3: if settled is handed back true or false, then now and after every further list of calls the value handed back is that, and settled is that
+pub demand-3 : {words : List ℕ} {ks : List Call} {m : List ℕ} → Made words ks m → (i : ℕ) (x : Bool) → verdictOf m i .settled ≡ known x
+    → (more : List Call) {m′ : List ℕ} → Made words (more ++ ks) m′ → (verdictOf m′ i .value ≡ x) × (verdictOf m′ i .settled ≡ known x)
+unfolding verdictIn
+demand-3 {words} {ks} made i x e more later =
+    let b : Book = bookSaid words in
+    let s = stays (b .rows) (made-ordered made) ks (propertyAt b i) more x (sym (ap (λ (v : Verdict). v .settled) (made-verdict made i)) ∙ e) in
+    (ap (λ (v : Verdict). v .value) (made-verdict later i) ∙ s .0, ap (λ (v : Verdict). v .settled) (made-verdict later i) ∙ s .1)
+
+-- ---- what is allowed for one input coincides
+-- a call on a memory has one answer and leaves one memory
+pub called-unique : {k : Call} {m m′ m″ : List ℕ} {r q : ℕ} → Called k m m′ r → Called k m m″ q → (r ≡ q) × (m′ ≡ m″)
+called-unique {k} {m} {m′} {m″} c d =
+    (c .number ∙ sym (d .number), same-words m′ m″ (c .kept) (d .kept) (c .book ∙ sym (d .book)) (c .state ∙ sym (d .state)))
+
+-- so have words loaded and any list of calls
+pub made-unique : {words : List ℕ} {ks : List Call} {m m′ : List ℕ} → Made words ks m → Made words ks m′ → m ≡ m′
+made-unique {words} {ks} {m} {m′} a b =
+    same-words m m′ (made-kept a) (made-kept b) (made-book a ∙ sym (made-book b)) (made-state a ∙ sym (made-state b))

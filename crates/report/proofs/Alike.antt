@@ -1,0 +1,68 @@
+-- A state's words and the bytes that stand for them are one call. Assumes nothing.
+use Prim.Native.Nat.{ℕ, zero, suc}
+use mathlib.Core.Path.{_≡_, refl, sym, ap₂, _∙_}
+use mathlib.Core.Bool.{Bool, true, false}
+use mathlib.Core.List.{List, [], _∷_, map}
+use native.Mathlib.Omega.{arith}
+use lib.ListN.{length, take, length-map}
+use lib.Dec.{ltb, eqb}
+use borrow.Author.Tests.{ltb-true, ne-eqb}
+use Rattle.pmtl.specs.Book.{Rows, widthOf, some}
+use Rattle.pmtl.specs.Monitor.{Snap, State}
+use Rattle.pmtl.specs.Calls.{Call, Outcome, turns, refusal, play, call}
+use Rattle.pmtl.specs.Calls.Call.{state}
+use Rattle.oracle.specs.Oracle.{Called}
+use Rattle.reader.specs.Steps.{byteOf}
+
+same-over : (w : ℕ) → ltb 1 (byteOf w) ≡ ltb 1 w
+same-over w = by-size (ltb 1 w) refl
+  where
+    by-size : (t : Bool) → ltb 1 w ≡ t → ltb 1 (byteOf w) ≡ ltb 1 w
+    by-size true e = rw e
+    by-size false e = rw e e
+
+same-bit : (w : ℕ) → eqb (byteOf w) 1 ≡ eqb w 1
+same-bit w = by-size (ltb 1 w) refl
+  where
+    by-size : (t : Bool) → ltb 1 w ≡ t → eqb (byteOf w) 1 ≡ eqb w 1
+    by-size true e = let h = ltb-true 1 w e in rw (e, ne-eqb w 1 (λ z. omega arith))
+    by-size false e = rw e
+
+same-some : (ws : List ℕ) → some (ltb 1) (map byteOf ws) ≡ some (ltb 1) ws
+unfolding some
+same-some [] = refl
+same-some (w ∷ ws) = rw (same-over w, same-some ws)
+
+same-bits : (n : ℕ) (ws : List ℕ) → map (λ x. eqb x 1) (take n (map byteOf ws)) ≡ map (λ x. eqb x 1) (take n ws)
+same-bits zero ws = refl
+same-bits (suc n) [] = refl
+same-bits (suc n) (w ∷ ws) = rw (same-bit w, same-bits n ws)
+
+-- a call, by what is wrong with it and by what it leaves
+abbrev outcome : Rows → State → ℕ → List Snap → Outcome
+outcome b st n ts = elim (eqb n 0) [ true ↦ play b st st ts | false ↦ record { number = n; state = st } ]
+
+by-outcome : (b : Rows) (st : State) (k : Call) → call b st k ≡ outcome b st (refusal b (st .now) k) (turns b (st .now) k)
+unfolding call
+by-outcome b st k = refl
+
+module _ (b : Rows) (st : State) (ws : List ℕ) where
+  same-refusal : refusal b (st .now) (state (map byteOf ws)) ≡ refusal b (st .now) (state ws)
+  unfolding refusal
+  same-refusal = rw (length-map ws byteOf, same-some ws)
+
+  same-turns : turns b (st .now) (state (map byteOf ws)) ≡ turns b (st .now) (state ws)
+  same-turns = rw (same-bits (widthOf b) ws)
+
+  same-call : call b st (state (map byteOf ws)) ≡ call b st (state ws)
+  same-call = by-outcome b st (state (map byteOf ws)) ∙ ap₂ (outcome b st) same-refusal same-turns ∙ sym (by-outcome b st (state ws))
+
+pub as-words : {ws m m′ : List ℕ} {r : ℕ} → Called (state (map byteOf ws)) m m′ r → Called (state ws) m m′ r
+as-words {ws} {m} c =
+    record {
+      number = c .number ∙ rw (same-call _ _ ws);
+      state = c .state ∙ rw (same-call _ _ ws);
+      book = c .book;
+      refused = c .refused;
+      kept = c .kept;
+    }

@@ -1,0 +1,139 @@
+-- Laws of a report's calls, one after the other, and of the whole report. Assumes nothing.
+use Prim.Native.Nat.{ℕ, zero, suc, _+_, _-_, _≤_, _<_}
+use mathlib.Core.Path.{_≡_, refl, sym, ap, _∙_}
+use mathlib.Core.List.{List, [], _∷_, _++_, append-nil}
+use native.Mathlib.Omega.{arith}
+use native.Mathlib.Numerals.{add-one}
+use lib.ListN.{length, take}
+use borrow.Author.Tests.{eq-eqb, ne-eqb, lt-ltb, le-ltb}
+use Rattle.text.specs.Words.{nextWord, supply, supplyFrom}
+use Rattle.text.specs.declared.words.Read.the-variants.{Word, Refused}
+use Rattle.text.proofs.Supplies.{word, refused as ended}
+use Rattle.pmtl.specs.Book.{Book}
+use Rattle.pmtl.specs.Monitor.{State, initial}
+use Rattle.pmtl.specs.Calls.{Outcome, call}
+use Rattle.rows.specs.Memory.{bookOf, stateOf}
+use Rattle.book.specs.Reading.{got, refused, sections}
+use Rattle.book.specs.Judging.{Loaded, loadedFrom, whole as wholeBook, loaded}
+use Rattle.book.specs.Kept.{Kept}
+use Rattle.reader.specs.declared.Part as reader
+use Rattle.reader.specs.Steps.{BookTook, BookRead}
+use Rattle.writer.specs.Buffer.{Handed}
+use Rattle.writer.specs.Finish.{finish, Wrote}
+use Rattle.report.specs.declared.calls.Turn.{Turn}
+use Rattle.report.specs.declared.calls.Turn.the-variants.{Made, Stopped}
+use Rattle.report.specs.Report.{bookLine, stopLine, callLine, callFrom, orStop, lastLine, linesFrom, callLines, bookThen, bookLines, LONGEST, report}
+use Rattle.report.specs.Steps.{CallMade, Turned}
+
+outcome-is : {o : Outcome} {n : ℕ} {st : State} → n ≡ o .number → st ≡ o .state → o ≡ record { number = n; state = st }
+outcome-is e f = rw (e, f)
+
+-- ---- the lines of the calls: so many are done, and what is still owed comes to what was owed at first
+pub record Going (input : List ℕ) (from count : ℕ) (m₀ out₀ : List ℕ) (start : ℕ) (m out : List ℕ) (at cursor done : ℕ) : Type 0 where
+  pub low : done ≤ count
+  pub held : length m ≡ length m₀
+  pub size : length out ≡ length out₀
+  pub kept : Kept m
+  pub book : bookOf m ≡ bookOf m₀
+  pub on : supplyFrom input cursor .ending ≡ supplyFrom input from .ending
+  pub owed : finish out at (linesFrom (bookOf m₀) (supplyFrom input from .ending) (count - done) done (stateOf m) (supplyFrom input cursor .words)) ≡ finish out₀ start (linesFrom (bookOf m₀) (supplyFrom input from .ending) count 0 (stateOf m₀) (supplyFrom input from .words))
+
+pub go-start : (input : List ℕ) (from count : ℕ) (m out : List ℕ) (start : ℕ) → Kept m → Going input from count m out start m out start from 0
+go-start input from count m out start k =
+    let e : count - 0 ≡ count = omega arith in
+    record { low = omega arith; held = refl; size = refl; kept = k; book = refl; on = refl; owed = rw e }
+
+module _ {input : List ℕ} {from count : ℕ} {m₀ out₀ : List ℕ} {start : ℕ} {m out : List ℕ} {at cursor done : ℕ} (g : Going input from count m₀ out₀ start m out at cursor done) where
+  abbrev Next : List ℕ → Turn → Type 0
+  Next m′ t = Turned input (supplyFrom input cursor .ending) (callFrom (supplyFrom input cursor .ending) (supplyFrom input cursor .words)) m m′ t
+
+  pub go-called : (m′ : List ℕ) {t : Turn} {r next : ℕ} → Next m′ t → t ≡ Made r next → CallMade input (supplyFrom input cursor .ending) (callFrom (supplyFrom input cursor .ending) (supplyFrom input cursor .words)) m m′ r next
+  unfolding Turned
+  go-called m′ k e = rw e at k
+
+  module _ {m′ : List ℕ} {r next : ℕ} (c : CallMade input (supplyFrom input cursor .ending) (callFrom (supplyFrom input cursor .ending) (supplyFrom input cursor .words)) m m′ r next) where
+    made : call (bookOf m₀ .rows) (stateOf m) (c .what) ≡ record { number = r; state = stateOf m′ }
+    made = rw (← g .book) (outcome-is (c .called .number) (c .called .state))
+
+    asked : callFrom (supplyFrom input from .ending) (supplyFrom input cursor .words) ≡ got (c .what) (supplyFrom input next .words)
+    asked = rw (g .on) at (c .read)
+
+    step : (k : ℕ) → count - done ≡ suc k → linesFrom (bookOf m₀) (supplyFrom input from .ending) (count - done) done (stateOf m) (supplyFrom input cursor .words) ≡ callLine (bookOf m₀) (done + 1) (record { number = r; state = stateOf m′ }) ++ linesFrom (bookOf m₀) (supplyFrom input from .ending) k (done + 1) (stateOf m′) (supplyFrom input next .words)
+    unfolding linesFrom orStop
+    step k e = rw (e, asked, made, add-one)
+
+    pub go-more : {out′ : List ℕ} {at′ : ℕ} → done < count → Wrote out at (callLine (bookOf m′) (done + 1) (record { number = r; state = stateOf m′ })) out′ at′ → length out′ ≡ length out → length m′ ≡ length m → Going input from count m₀ out₀ start m′ out′ at′ next (done + 1)
+    go-more h w z y =
+        let b : bookOf m′ ≡ bookOf m₀ = c .called .book ∙ g .book in
+        let w′ = rw b at w in
+        record {
+          low = omega arith;
+          held = y ∙ g .held;
+          size = z ∙ g .size;
+          kept = c .called .kept;
+          book = b;
+          on = c .ending-on ∙ g .on;
+          owed = sym (w′ .same (linesFrom (bookOf m₀) (supplyFrom input from .ending) (count - (done + 1)) (done + 1) (stateOf m′) (supplyFrom input next .words))) ∙ sym (ap (finish out at) (step (count - (done + 1)) (omega arith))) ∙ g .owed;
+        }
+
+  halt : {n : ℕ} (k : ℕ) → callFrom (supplyFrom input cursor .ending) (supplyFrom input cursor .words) ≡ refused n → count - done ≡ suc k → linesFrom (bookOf m₀) (supplyFrom input from .ending) (count - done) done (stateOf m) (supplyFrom input cursor .words) ≡ stopLine n
+  unfolding linesFrom orStop
+  halt k e f = let a = rw (g .on) at e in rw (f, a)
+
+  go-refused : (m′ : List ℕ) {t : Turn} {n : ℕ} → Next m′ t → t ≡ Stopped n → callFrom (supplyFrom input cursor .ending) (supplyFrom input cursor .words) ≡ refused n
+  unfolding Turned
+  go-refused m′ k e = rw e at k
+
+  pub go-stop : (m′ : List ℕ) {t : Turn} {h : Handed} {n k : ℕ} → Next m′ t → t ≡ Stopped n → done < count → h ≡ finish out at (stopLine k) → k ≡ n → h ≡ finish out₀ start (linesFrom (bookOf m₀) (supplyFrom input from .ending) count 0 (stateOf m₀) (supplyFrom input from .words))
+  go-stop m′ {n = n} c e l p f =
+      p ∙ ap (λ (x : ℕ). finish out at (stopLine x)) f
+      ∙ sym (ap (finish out at) (halt (count - (done + 1)) (go-refused m′ c e) (omega arith))) ∙ g .owed
+
+  none : count - done ≡ zero → linesFrom (bookOf m₀) (supplyFrom input from .ending) (count - done) done (stateOf m) (supplyFrom input cursor .words) ≡ lastLine (supplyFrom input from .ending) (supplyFrom input cursor .words)
+  unfolding linesFrom
+  none e = rw e
+
+  pub go-end : {h : Handed} → count ≤ done → h ≡ finish out at (lastLine (supplyFrom input cursor .ending) (supplyFrom input cursor .words)) → h ≡ finish out₀ start (linesFrom (bookOf m₀) (supplyFrom input from .ending) count 0 (stateOf m₀) (supplyFrom input from .words))
+  go-end {h} l p = let q = rw (g .on) at p in q ∙ sym (ap (finish out at) (none (omega arith))) ∙ g .owed
+
+-- ---- the calls after their count
+module _ (input : List ℕ) (cursor : ℕ) (out : List ℕ) (at : ℕ) (b : Book) where
+  pub no-count : {h : Handed} {r n : ℕ} → nextWord input cursor ≡ Refused r → n ≡ r → h ≡ finish out at (stopLine n) → h ≡ finish out at (callLines b (supplyFrom input cursor .ending) (supplyFrom input cursor .words))
+  unfolding callLines
+  no-count {h} e f p = let s = ended input cursor e in p ∙ rw (s, f)
+
+  pub after-count : {h : Handed} {count from : ℕ} {st : State} → nextWord input cursor ≡ Word count from → st ≡ initial (b .rows) → h ≡ finish out at (linesFrom b (supplyFrom input from .ending) count 0 st (supplyFrom input from .words)) → h ≡ finish out at (callLines b (supplyFrom input cursor .ending) (supplyFrom input cursor .words))
+  unfolding callLines
+  after-count {h} e f p = let s = word input cursor e .gave in p ∙ rw (s, f)
+
+-- ---- the book, and what follows it
+pub book-accepted : (l : Loaded) (ending : ℕ) (ws : List ℕ) {out out₁ : List ℕ} {at n : ℕ} {h : Handed} {b : Book} → Wrote out 0 (bookLine n) out₁ at → n ≡ 0 → n ≡ l .number → b ≡ l .book → h ≡ finish out₁ at (callLines b ending ws) → h ≡ finish out 0 (bookThen l ending ws)
+unfolding bookThen
+book-accepted l ending ws {n = n} w z e f p =
+    let y : l .number ≡ 0 = sym e ∙ z in
+    p ∙ sym (w .same (callLines _ ending ws)) ∙ rw (eq-eqb (l .number) 0 y, e, f)
+
+pub book-refused : (l : Loaded) (ending : ℕ) (ws out : List ℕ) {n : ℕ} {h : Handed} → (n ≡ 0 → ⊥) → n ≡ l .number → h ≡ finish out 0 (bookLine n) → h ≡ finish out 0 (bookThen l ending ws)
+unfolding bookThen
+book-refused l ending ws out {n} z e p =
+    let y : l .number ≡ 0 → ⊥ = λ q. z (e ∙ q) in
+    p ∙ rw (ne-eqb (l .number) 0 y, e, append-nil)
+
+-- ---- the whole report
+pub book-there : (input m : List ℕ) {p : reader.Part} {end next : ℕ} → BookRead input m p → p ≡ reader.the-variants.Words end next → BookTook input m end next
+unfolding BookRead
+book-there input m q e = rw e at q
+
+module _ (input : List ℕ) where
+  pub too-long : LONGEST < length input → stopLine 2 ≡ report input
+  unfolding report
+  too-long h = rw (lt-ltb LONGEST (length input) h)
+
+  module _ (fits : length input ≤ LONGEST) where
+    pub no-book : (m : List ℕ) {p : reader.Part} {n k : ℕ} → BookRead input m p → p ≡ reader.the-variants.Refused n → k ≡ n → bookLine k ≡ report input
+    unfolding report bookLines BookRead
+    no-book m q e f = let s = rw e at q in rw (le-ltb LONGEST (length input) fits, s, f)
+
+    pub of-book : {m : List ℕ} {end next : ℕ} → BookTook input m end next → bookThen (loaded (take end m)) (supplyFrom input next .ending) (supplyFrom input next .words) ≡ report input
+    unfolding report bookLines loaded wholeBook
+    of-book k = rw (le-ltb LONGEST (length input) fits, k .read, k .ending, k .stand)

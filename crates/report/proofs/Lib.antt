@@ -1,0 +1,4 @@
+pub mod Alike
+pub mod Lasting
+pub mod Turns
+pub mod Going

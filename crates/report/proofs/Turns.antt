@@ -1,0 +1,104 @@
+-- Laws of a call that is read and made. Assumes nothing.
+use Prim.Native.Nat.{ℕ}
+use mathlib.Core.Path.{_≡_, refl, sym, ap, _∙_}
+use mathlib.Core.List.{List, [], _∷_, map}
+use native.Mathlib.Omega.{arith}
+use lib.ListN.{length, take}
+use borrow.Author.Tests.{eq-eqb, ne-eqb}
+use Rattle.text.specs.Words.{Supply, badWord, nextWord, supplyFrom}
+use Rattle.text.specs.declared.words.Read.the-variants.{Word, Refused}
+use Rattle.text.proofs.Supplies.{word, refused as ended}
+use Rattle.pmtl.specs.Calls.{WIDEST, Call}
+use Rattle.pmtl.specs.Calls.Call.{time, state}
+use Rattle.book.specs.Reading.{Read, got, refused, section, next as andNext}
+use Rattle.oracle.specs.Oracle.{Called}
+use Rattle.reader.specs.declared.Part as reader
+use Rattle.reader.specs.Steps.{StateTook, StateRead}
+use Rattle.report.specs.declared.calls.Turn.{Turn}
+use Rattle.report.specs.declared.calls.Turn.the-variants.{Made, Stopped}
+use Rattle.report.specs.Report.{timeFrom, stateFrom, callFrom}
+use Rattle.report.specs.Steps.{partNumber, turnNumber, CallMade, Turned}
+use Rattle.report.proofs.Alike.{as-words}
+
+-- ---- numbers that end a reading
+pub part-refused : {p : reader.Part} {n : ℕ} → p ≡ reader.the-variants.Refused n → n ≡ partNumber p
+unfolding partNumber
+part-refused e = rw e
+
+pub part-read : {p : reader.Part} {end next : ℕ} → p ≡ reader.the-variants.Words end next → 0 ≡ partNumber p
+unfolding partNumber
+part-read e = rw e
+
+pub turn-stopped : {t : Turn} {n : ℕ} → t ≡ Stopped n → n ≡ turnNumber t
+unfolding turnNumber
+turn-stopped e = rw e
+
+pub turn-made : {t : Turn} {r next : ℕ} → t ≡ Made r next → 0 ≡ turnNumber t
+unfolding turnNumber
+turn-made e = rw e
+
+-- ---- time calls
+module _ (input : List ℕ) (at : ℕ) where
+  pub no-time : {r n : ℕ} → nextWord input at ≡ Refused r → n ≡ r → timeFrom (supplyFrom input at .ending) (supplyFrom input at .words) ≡ refused n
+  unfolding timeFrom
+  no-time e f = rw (ended input at e, f)
+
+  pub timed : {t next : ℕ} {m m′ : List ℕ} {r : ℕ} → nextWord input at ≡ Word t next → Called (time t) m m′ r → CallMade input (supplyFrom input at .ending) (timeFrom (supplyFrom input at .ending) (supplyFrom input at .words)) m m′ r next
+  unfolding timeFrom
+  timed {t} e c =
+      record {
+        what = time t;
+        read = rw (word input at e .gave);
+        ending-on = rw (word input at e .gave);
+        called = c;
+      }
+
+  -- ---- state calls
+  pub no-state : (m′ : List ℕ) {p : reader.Part} {r n : ℕ} → StateRead input at m′ p → p ≡ reader.the-variants.Refused r → n ≡ r → stateFrom (supplyFrom input at .ending) (supplyFrom input at .words) ≡ refused n
+  unfolding stateFrom andNext StateRead
+  no-state m′ k e f = rw (rw e at k, f)
+
+  pub state-there : (m′ : List ℕ) {p : reader.Part} {end next : ℕ} → StateRead input at m′ p → p ≡ reader.the-variants.Words end next → StateTook input at m′ end next
+  unfolding StateRead
+  state-there m′ k e = rw e at k
+
+  pub stated : {bytes : List ℕ} {width next : ℕ} {m m′ : List ℕ} {r : ℕ} → StateTook input at bytes width next → Called (state (take width bytes)) m m′ r → CallMade input (supplyFrom input at .ending) (stateFrom (supplyFrom input at .ending) (supplyFrom input at .words)) m m′ r next
+  unfolding stateFrom andNext
+  stated k c =
+      record {
+        what = state (k .words);
+        read = rw (k .read);
+        ending-on = k .ending;
+        called = as-words (rw (k .stand) at c);
+      }
+
+  -- ---- calls
+  pub no-kind : {r n : ℕ} → nextWord input at ≡ Refused r → n ≡ r → callFrom (supplyFrom input at .ending) (supplyFrom input at .words) ≡ refused n
+  unfolding callFrom
+  no-kind e f = rw (ended input at e, f)
+
+  module _ {kind from : ℕ} (e : nextWord input at ≡ Word kind from) where
+    ending-kept : supplyFrom input from .ending ≡ supplyFrom input at .ending
+    ending-kept = rw (word input at e .gave)
+
+    is-time : kind ≡ 0 → timeFrom (supplyFrom input from .ending) (supplyFrom input from .words) ≡ callFrom (supplyFrom input at .ending) (supplyFrom input at .words)
+    unfolding callFrom
+    is-time h = rw (word input at e .gave, h)
+
+    is-state : kind ≡ 1 → stateFrom (supplyFrom input from .ending) (supplyFrom input from .words) ≡ callFrom (supplyFrom input at .ending) (supplyFrom input at .words)
+    unfolding callFrom
+    is-state h = rw (word input at e .gave, h)
+
+    pub other-kind : (kind ≡ 0 → ⊥) → (kind ≡ 1 → ⊥) → callFrom (supplyFrom input at .ending) (supplyFrom input at .words) ≡ refused badWord
+    unfolding callFrom
+    other-kind h k = rw (word input at e .gave, ne-eqb kind 0 h, ne-eqb kind 1 k)
+
+    turned : {asked asked′ : Read Call} (m m′ : List ℕ) (t : Turn) → asked ≡ asked′ → Turned input (supplyFrom input from .ending) asked m m′ t → Turned input (supplyFrom input at .ending) asked′ m m′ t
+    unfolding Turned
+    turned m m′ t f k = rw (← f, ← ending-kept) k
+
+    pub turned-time : (m m′ : List ℕ) (t : Turn) → kind ≡ 0 → Turned input (supplyFrom input from .ending) (timeFrom (supplyFrom input from .ending) (supplyFrom input from .words)) m m′ t → Turned input (supplyFrom input at .ending) (callFrom (supplyFrom input at .ending) (supplyFrom input at .words)) m m′ t
+    turned-time m m′ t h k = turned m m′ t (is-time h) k
+
+    pub turned-state : (m m′ : List ℕ) (t : Turn) → kind ≡ 1 → Turned input (supplyFrom input from .ending) (stateFrom (supplyFrom input from .ending) (supplyFrom input from .words)) m m′ t → Turned input (supplyFrom input at .ending) (callFrom (supplyFrom input at .ending) (supplyFrom input at .words)) m m′ t
+    turned-state m m′ t h k = turned m m′ t (is-state h) k

@@ -1,0 +1,95 @@
+// The calls of a text, read one by one and made on a monitor.
+ghost use mathlib.Core.Path.{_≡_};
+ghost use Prim.Native.Nat.{_≤_};
+ghost use lib.ListN.{length, take};
+ghost use Rattle.text.specs.Words.{supplyFrom};
+ghost use Rattle.pmtl.specs.Calls.{Call};
+ghost use Rattle.book.specs.Kept.{Kept};
+ghost use Rattle.oracle.specs.Oracle.{Called};
+ghost use Rattle.report.specs.Report.{timeFrom, stateFrom, callFrom};
+ghost use Rattle.report.specs.Steps.{partNumber, turnNumber, Turned};
+use reader::Part;
+use text::Read;
+
+// The kinds of a call, and the number for another kind.
+const TIME: u64 = 0;
+
+const STATE: u64 = 1;
+
+const NO_KIND: u64 = 13;
+
+// The widest state.
+pub const WIDEST: usize = 256;
+
+// A call that was made, with its number and the place after it; or the number that ends the reading.
+pub enum Turn {
+    Made(u64, usize),
+    Stopped(u64),
+}
+
+// The numbers that ended a reading.
+pub fn part_number(p: Part) -> u64
+    ensures { λ n. ⌜ n ≡ partNumber p ⌝ }
+{
+    match p {
+        Part::Words(_, _) => 0,
+        Part::Refused(n) => n,
+    }
+}
+
+pub fn turn_number(t: Turn) -> u64
+    ensures { λ n. ⌜ n ≡ turnNumber t ⌝ }
+{
+    match t {
+        Turn::Made(_, _) => 0,
+        Turn::Stopped(n) => n,
+    }
+}
+
+fn time_call(input: &[u8], at: usize, monitor: &mut [u64]) -> Turn
+    requires { ⌜ Kept (now monitor) ⌝ }
+    ensures { λ t. ⌜ Turned (now (input .entry)) (supplyFrom (now (input .entry)) at .ending) (timeFrom (supplyFrom (now (input .entry)) at .ending) (supplyFrom (now (input .entry)) at .words)) (now (monitor .entry)) (now (monitor .exit)) t ⌝ }
+{
+    let r = text::next_word(input, at);
+    let Read::Word(time, next) = r else {
+        return Turn::Stopped(reader::number_of(r));
+    };
+    Turn::Made(oracle::update_time(monitor, time), next)
+}
+
+// A state call of the first `width` bytes.
+fn state_made(monitor: &mut [u64], bytes: &[u8], width: usize) -> u64
+    requires { ⌜ Kept (now monitor) × (width ≤ length (now bytes)) ⌝ }
+    ensures { λ r. ⌜ Called (Call.state (take width (now (bytes .entry)))) (now (monitor .entry)) (now (monitor .exit)) r ⌝ }
+{
+    oracle::update_state(monitor, &bytes[..width])
+}
+
+fn state_call(input: &[u8], at: usize, bytes: &mut [u8; WIDEST], monitor: &mut [u64]) -> Turn
+    requires { ⌜ Kept (now monitor) ⌝ }
+    ensures { λ t. ⌜ Turned (now (input .entry)) (supplyFrom (now (input .entry)) at .ending) (stateFrom (supplyFrom (now (input .entry)) at .ending) (supplyFrom (now (input .entry)) at .words)) (now (monitor .entry)) (now (monitor .exit)) t ⌝ }
+{
+    let p = reader::state(input, at, bytes);
+    let Part::Words(width, next) = p else {
+        return Turn::Stopped(part_number(p));
+    };
+    Turn::Made(state_made(monitor, bytes, width), next)
+}
+
+// The next call. `bytes` is room for a state, whatever stands there.
+pub fn call(input: &[u8], at: usize, bytes: &mut [u8; WIDEST], monitor: &mut [u64]) -> Turn
+    requires { ⌜ Kept (now monitor) ⌝ }
+    ensures { λ t. ⌜ Turned (now (input .entry)) (supplyFrom (now (input .entry)) at .ending) (callFrom (supplyFrom (now (input .entry)) at .ending) (supplyFrom (now (input .entry)) at .words)) (now (monitor .entry)) (now (monitor .exit)) t ⌝ }
+{
+    let r = text::next_word(input, at);
+    let Read::Word(kind, next) = r else {
+        return Turn::Stopped(reader::number_of(r));
+    };
+    if kind == TIME {
+        return time_call(input, next, monitor);
+    }
+    if kind == STATE {
+        return state_call(input, next, bytes, monitor);
+    }
+    Turn::Stopped(NO_KIND)
+}

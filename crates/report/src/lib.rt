@@ -1,0 +1,101 @@
+// Text in, report out.
+mod calls;
+mod lines;
+
+ghost use mathlib.Core.Path.{_≡_};
+ghost use Rattle.text.specs.Words.{supplyFrom};
+ghost use Rattle.rows.specs.Memory.{bookOf, stateOf};
+ghost use Rattle.pmtl.specs.Monitor.{initial};
+ghost use Rattle.book.specs.Judging.{loaded};
+ghost use Rattle.book.specs.Kept.{Kept};
+ghost use Rattle.writer.specs.Buffer.{handed, inBuffer};
+ghost use Rattle.writer.specs.Finish.{finish};
+ghost use Rattle.report.specs.Report.{bookLine, linesFrom, callLines, bookThen, report};
+use calls::Turn;
+use reader::Part;
+use text::Read;
+
+// The longest input, and the number for one that is longer.
+const LONGEST: usize = 65536;
+
+const TOO_MANY: u64 = 2;
+
+const ACCEPTED: u64 = 0;
+
+// A line for each call, and the last line.
+fn call_lines(
+    input: &[u8],
+    from: usize,
+    count: u64,
+    monitor: &mut [u64],
+    out: &mut [u8],
+    start: usize,
+) -> u64
+    requires { ⌜ Kept (now monitor) ⌝ }
+    ensures { λ r. ⌜ handed r (now (out .exit)) ≡ finish (now (out .entry)) start (linesFrom (bookOf (now (monitor .entry))) (supplyFrom (now (input .entry)) from .ending) count 0 (stateOf (now (monitor .entry))) (supplyFrom (now (input .entry)) from .words)) ⌝ }
+{
+    let mut bytes = [0u8; calls::WIDEST];
+    let mut at = start;
+    let mut cursor = from;
+    let mut done: u64 = 0;
+    while done < count {
+        let t = calls::call(input, cursor, &mut bytes, monitor);
+        let Turn::Made(refusal, next) = t else {
+            return lines::stopped(out, at, calls::turn_number(t));
+        };
+        at = lines::put_call(out, at, done + 1, refusal, monitor);
+        cursor = next;
+        done += 1;
+    }
+    lines::last(input, cursor, out, at)
+}
+
+// The calls, after their count, on a fresh monitor.
+fn counted_calls(input: &[u8], cursor: usize, monitor: &mut [u64], out: &mut [u8], at: usize) -> u64
+    requires { ⌜ Kept (now monitor) × (stateOf (now monitor) ≡ initial (bookOf (now monitor) .rows)) ⌝ }
+    ensures { λ r. ⌜ handed r (now (out .exit)) ≡ finish (now (out .entry)) at (callLines (bookOf (now (monitor .entry))) (supplyFrom (now (input .entry)) cursor .ending) (supplyFrom (now (input .entry)) cursor .words)) ⌝ }
+{
+    let r = text::next_word(input, cursor);
+    let Read::Word(count, from) = r else {
+        return lines::stopped(out, at, reader::number_of(r));
+    };
+    call_lines(input, from, count, monitor, out, at)
+}
+
+// A refused book's line, which nothing follows.
+fn refused_book(out: &mut [u8], number: u64) -> u64
+    ensures { λ r. ⌜ handed r (now (out .exit)) ≡ finish (now (out .entry)) 0 (bookLine number) ⌝ }
+{
+    let at = lines::put_book(out, 0, number);
+    writer::finished(out, at)
+}
+
+// The report from a book's words on, the text after them at `cursor`.
+fn loaded_book(input: &[u8], cursor: usize, words: &[u64], out: &mut [u8]) -> u64
+    ensures { λ r. ⌜ handed r (now (out .exit)) ≡ finish (now (out .entry)) 0 (bookThen (loaded (now (words .entry))) (supplyFrom (now (input .entry)) cursor .ending) (supplyFrom (now (input .entry)) cursor .words)) ⌝ }
+{
+    let mut monitor = [0u64; rows::SIZE];
+    let number = store::load(words, &mut monitor);
+    if number == ACCEPTED {
+        let at = lines::put_book(out, 0, number);
+        return counted_calls(input, cursor, &mut monitor, out, at);
+    }
+    refused_book(out, number)
+}
+
+// The report of `input` in `out`: its length, with what stands after it unchanged; or MAX, with zeros throughout, where it
+// does not fit.
+#[no_mangle]
+pub extern "C" fn binefdar_report(input: &[u8], out: &mut [u8]) -> u64
+    ensures { λ r. ⌜ handed r (now (out .exit)) ≡ inBuffer (now (out .entry)) (report (now (input .entry))) ⌝ }
+{
+    if LONGEST < input.len() {
+        return lines::stopped(out, 0, TOO_MANY);
+    }
+    let mut words = [0u64; reader::BOOK_WORDS];
+    let read = reader::book(input, &mut words);
+    let Part::Words(end, next) = read else {
+        return refused_book(out, calls::part_number(read));
+    };
+    loaded_book(input, next, &words[..end], out)
+}
