@@ -1,5 +1,5 @@
 -- What the words of a row say: how many operands it takes, the row that they make, the width that it asks for. Assumes nothing.
-use Prim.Native.Nat.{ℕ, zero, suc, _+_, _≤_, _<_, max}
+use Prim.Native.Nat.{ℕ, zero, suc, _≤_, _<_, max}
 use mathlib.Core.Path.{_≡_, refl, sym, ap, ap₂, _∙_}
 use mathlib.Core.Bool.{true}
 use mathlib.Core.Logic.{⊎-elim}
@@ -87,7 +87,7 @@ width-reaches ws zero r h = absurd (omega arith)
 width-reaches ws (suc n) r h =
     ⊎-elim
     (λ p. let w = width-reaches ws n r p in omega arith)
-    (λ p. let e : r ≡ n = omega arith in rw e (omega arith))
+    (λ (p : n ≤ r). let e : r ≡ n = omega arith in rw e (omega arith))
     (lt-or-ge r n)
 
 pub width-small : (ws : List ℕ) (n : ℕ) → ((r : ℕ) → r < n → argGood (kindIn ws r) (argIn ws r) ≡ true) → widthIn ws n ≤ 256

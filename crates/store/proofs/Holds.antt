@@ -1,25 +1,24 @@
 -- A memory whose words are those of an accepted book holds that book and a fresh monitor, and is kept. Assumes nothing.
-use Prim.Native.Nat.{ℕ, zero, suc, _+_, _*_, _-_, _/_, _≤_, _<_}
-use mathlib.Core.Path.{_≡_, refl, sym, ap, ap₂, _∙_}
-use mathlib.Core.Bool.{true, false, cond}
+use Prim.Native.Nat.{ℕ, zero, suc, _+_, _*_, _-_, _≤_, _<_}
+use mathlib.Core.Path.{_≡_, refl, sym, ap, _∙_}
+use mathlib.Core.Bool.{true, false}
 use mathlib.Core.Logic.{⊎-elim}
-use mathlib.Core.List.{List, [], _∷_, _++_}
+use mathlib.Core.List.{List, [], _++_}
 use native.Mathlib.Omega.{arith}
 use native.Mathlib.Nat.{add-zero}
-use lib.ListN.{length, getD, drop, replicate, length-append, length-drop, length-replicate, List·getD-append, List·getD-eq-default}
+use lib.ListN.{length, getD, drop, replicate, length-append, length-drop, List·getD-append, List·getD-eq-default}
 use lib.Seq.{getD-drop, getD-append-add}
 use borrow.Author.Tests.{le-leb, lt-leb, eq-eqb}
-use Rattle.numset.specs.Runs.{MAX, Good, Runs, runs, runsTo}
+use Rattle.numset.specs.Runs.{runs, runsTo}
 use Rattle.numset.proofs.Laws.{lt-or-ge}
 use Rattle.numset.proofs.Packs.{good-zeros}
-use Rattle.pmtl.specs.Book.{H, Row, widthOf}
-use Rattle.pmtl.specs.Answer.{bitOf}
+use Rattle.pmtl.specs.Book.{widthOf}
 use Rattle.pmtl.specs.Monitor.{initial}
-use Rattle.rows.specs.Memory.{ROWS, ROW, OPERANDS, PROPERTIES, ATOMS, OWNERS, SET, SIZE, part, rowCount, widthWord, temporals, assumeCount, guaranteeCount, kindAt, argAt, lowerAt, upperAt, startAt, slotAt, operandsOf, ownerAt, setStart, setWords, countOf, temporal, listed, rowOf, rowsOf, bookOf, isOne, setOf, stateOf, RowKept, BookKept}
+use Rattle.rows.specs.Memory.{ROWS, ROW, OPERANDS, PROPERTIES, ATOMS, OWNERS, SET, SIZE, part, assumeCount, guaranteeCount, kindAt, argAt, lowerAt, upperAt, startAt, slotAt, operandsOf, ownerAt, setStart, setWords, countOf, listed, rowOf, rowsOf, bookOf, isOne, setOf, stateOf, RowKept, BookKept}
 use Rattle.rows.proofs.Listed.{listed-length, listed-agree}
 use Rattle.book.specs.Reading.{Sections}
-use Rattle.book.specs.Judging.{kindIn, argIn, lowerIn, upperIn, rowsIn, temporalsIn, startIn, argGood, formGood, rangeGood, rowIn, bookIn}
-use Rattle.book.specs.Kept.{startTo, slotTo, Tidy, Kept}
+use Rattle.book.specs.Judging.{kindIn, argIn, lowerIn, upperIn, rowsIn, temporalsIn, startIn, argGood, rowIn, bookIn}
+use Rattle.book.specs.Kept.{startTo, slotTo, Tidy}
 use Rattle.book.proofs.Accepted.{form, range, temporals-fit, operands-taken, operands-there, operand-below, assume-below, guarantee-below, form-arg, form-kind, lower-small, upper-small}
 use Rattle.store.specs.Stored.{reach, widthIn, slotIn, rowsPut, put, headPut, stored, Rowed, Accepted, Holds}
 use Rattle.store.proofs.Parts.{word-at, part-length, part-at, part-is, part-zeros}

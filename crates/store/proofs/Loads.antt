@@ -1,14 +1,11 @@
 -- What loading leaves, accepted and refused. Assumes nothing.
-use Prim.Native.Nat.{ℕ, _≤_}
+use Prim.Native.Nat.{ℕ}
 use mathlib.Core.Path.{_≡_, ap, _∙_}
 use mathlib.Core.List.{List}
-use native.Mathlib.Omega.{arith}
-use lib.ListN.{length, replicate, length-replicate}
+use lib.ListN.{replicate, length-replicate}
 use Rattle.numset.proofs.Packs.{getD-zeros}
-use Rattle.pmtl.specs.Monitor.{initial}
 use Rattle.rows.specs.Memory.{SIZE}
-use Rattle.book.specs.Judging.{judged, Loaded, loaded}
-use Rattle.book.specs.Placing.{partsOf, Counted, Placed}
+use Rattle.book.specs.Placing.{partsOf, Placed}
 use Rattle.book.proofs.Placing.{parts-few, accepted, accepted-book, refused-book}
 use Rattle.store.specs.Loading.{Loads}
 use Rattle.store.specs.Stored.{Accepted, Holds}

@@ -1,12 +1,12 @@
 -- A memory with words put into it, word by word. Assumes nothing.
-use Prim.Native.Nat.{ℕ, suc, _+_, _-_, _≤_, _<_}
-use mathlib.Core.Path.{_≡_, refl, sym, ap, _∙_}
-use mathlib.Core.List.{List, [], _∷_, _++_, append-nil}
+use Prim.Native.Nat.{ℕ, _+_, _-_, _≤_, _<_}
+use mathlib.Core.Path.{_≡_, _∙_}
+use mathlib.Core.List.{List, _++_, append-nil}
 use native.Mathlib.Omega.{arith}
 use native.Mathlib.Numerals.{add-one}
 use borrow.Author.Fill.{fill-more}
 use lib.ListN.{length, getD, set, take, drop, replicate, List·getD-append}
-use lib.Seq.{paste, length-paste, length-paste-head, length-take-le, getD-append-add, getD-take, getD-drop, paste-suc, drop-length}
+use lib.Seq.{paste, length-paste-head, length-take-le, getD-append-add, getD-take, getD-drop, paste-suc, drop-length}
 use Rattle.store.proofs.Parts.{word-at}
 
 module _ (d : List ℕ) (at : ℕ) (s : List ℕ) (n : ℕ) (hd : at + n ≤ length d) (hs : n ≤ length s) where

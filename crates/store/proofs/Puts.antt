@@ -1,13 +1,13 @@
 -- What the functions that write rows leave, as the definitions have it. Assumes nothing.
 use Prim.Native.Nat.{ℕ, zero, suc, _+_, _*_, _/_, _≤_, _<_, max}
-use mathlib.Core.Path.{_≡_, refl, sym, ap, ap₂, _∙_}
-use mathlib.Core.Bool.{true, false, cond}
+use mathlib.Core.Path.{_≡_, refl, sym, ap, _∙_}
+use mathlib.Core.Bool.{true}
 use mathlib.Core.Logic.{⊎-elim}
 use mathlib.Core.List.{List, [], _∷_}
 use native.Mathlib.Omega.{arith}
 use native.Mathlib.Nat.{add-zero}
 use native.Mathlib.Numerals.{add-one, add-two, add-three, add-four, add-five}
-use lib.ListN.{length, getD, set}
+use lib.ListN.{length, set}
 use lib.Seq.{paste, sets-eq}
 use borrow.Author.Tests.{le-leb, lt-leb}
 use Rattle.numset.proofs.Laws.{lt-or-ge}
@@ -16,25 +16,25 @@ use Rattle.rows.specs.Memory.{ROWS, ROW, OWNERS, countOf, temporal}
 use Rattle.book.specs.Reading.{GIVEN}
 use Rattle.book.specs.Judging.{kindIn, argIn, lowerIn, upperIn, temporalsIn, startIn, argGood}
 use Rattle.book.proofs.Accepted.{start-mono}
-use Rattle.store.specs.Stored.{reach, widthIn, wordsWith, slotIn, rowWords, ownerPut, rowPut, rowsPut, Rowed}
+use Rattle.store.specs.Stored.{reach, widthIn, wordsWith, slotIn, ownerPut, rowPut, rowsPut, Rowed}
 
 -- ---- one row more
 module _ (ws : List ℕ) (r : ℕ) where
   pub temporals-next : temporalsIn ws (r + 1) ≡ temporalsIn ws r + bitOf (temporal (kindIn ws r))
   unfolding temporalsIn
-  temporals-next = rw add-one
+  temporals-next = rw (add-one r)
 
   pub start-next : startIn ws (r + 1) ≡ startIn ws r + countOf (kindIn ws r) (argIn ws r)
   unfolding startIn
-  start-next = rw add-one
+  start-next = rw (add-one r)
 
   pub width-next : widthIn ws (r + 1) ≡ max (widthIn ws r) (reach (kindIn ws r) (argIn ws r))
   unfolding widthIn
-  width-next = rw add-one
+  width-next = rw (add-one r)
 
   pub rows-next : (m : List ℕ) → rowsPut ws m (r + 1) ≡ rowPut ws (rowsPut ws m r) r
   unfolding rowsPut
-  rows-next m = rw add-one
+  rows-next m = rw (add-one r)
 
   pub temporals-same : kindIn ws r < 7 → temporalsIn ws (r + 1) ≡ temporalsIn ws r
   temporals-same h = temporals-next ∙ rw (lt-leb 7 (kindIn ws r) h) (add-zero (temporalsIn ws r))
@@ -47,7 +47,7 @@ pub temporals-mono : (ws : List ℕ) (r n : ℕ) → r ≤ n → temporalsIn ws 
 unfolding temporalsIn
 temporals-mono ws r zero h = let e : r ≡ 0 = omega arith in rw e (omega arith)
 temporals-mono ws r (suc n) h =
-    ⊎-elim (λ p. omega (arith, temporals-mono ws r n (omega arith))) (λ p. let e : r ≡ suc n = omega arith in rw e (omega arith)) (lt-or-ge r (suc n))
+    ⊎-elim (λ p. omega (arith, temporals-mono ws r n (omega arith))) (λ (p : suc n ≤ r). let e : r ≡ suc n = omega arith in rw e (omega arith)) (lt-or-ge r (suc n))
 
 pub slot-fits : (ws : List ℕ) (r n : ℕ) → r < n → 7 ≤ kindIn ws r → temporalsIn ws r < temporalsIn ws n
 slot-fits ws r n h k = omega (arith, temporals-more ws r k, temporals-mono ws (r + 1) n (omega arith))

@@ -1,19 +1,17 @@
 -- The rows that are put into a memory, word by word, and the temporal rows among them. Assumes nothing.
 use Prim.Native.Nat.{ℕ, zero, suc, _+_, _*_, _≤_, _<_}
-use mathlib.Core.Path.{_≡_, refl, sym, ap, _∙_}
-use mathlib.Core.Bool.{Bool, true, false}
+use mathlib.Core.Path.{_≡_, refl, ap, _∙_}
 use mathlib.Core.Logic.{⊎-elim}
 use mathlib.Core.List.{List}
 use native.Mathlib.Omega.{arith}
 use native.Mathlib.Numerals.{add-one}
 use lib.ListN.{length, getD, set, length-set}
 use lib.Seq.{paste, length-paste, getD-set-same, getD-set-other}
-use lib.Dec.{leb}
-use borrow.Author.Tests.{leb-true, leb-false, le-leb, lt-leb}
-use Rattle.numset.proofs.Laws.{either, lt-or-ge}
-use Rattle.rows.specs.Memory.{ROWS, ROW, OPERANDS, OWNERS, SIZE}
+use borrow.Author.Tests.{le-leb, lt-leb}
+use Rattle.numset.proofs.Laws.{lt-or-ge}
+use Rattle.rows.specs.Memory.{ROWS, ROW, OWNERS, SIZE}
 use Rattle.book.specs.Judging.{kindIn, temporalsIn}
-use Rattle.store.specs.Stored.{rowWords, ownerPut, rowPut, rowsPut}
+use Rattle.store.specs.Stored.{rowWords, ownerPut, rowsPut}
 use Rattle.store.proofs.Parts.{word-at}
 use Rattle.store.proofs.Pastes.{paste-below, paste-at, paste-above}
 use Rattle.store.proofs.Puts.{temporals-same, temporals-more, temporals-mono, slot-fits}
@@ -144,7 +142,7 @@ temporal-of ws (suc n) j h =
     (λ p. let t = temporal-of ws n j p in record { row = t .row; below = omega (arith, t .below); kind = t .kind; slot = t .slot })
     (λ p.
     ⊎-elim
-    (λ k. absurd (let q = rw add-one at (temporals-same ws n k) in omega arith))
-    (λ k. let q = rw add-one at (temporals-more ws n k) in record { row = n; below = omega arith; kind = k; slot = omega arith })
+    (λ k. absurd (let q = rw (add-one n) at (temporals-same ws n k) in omega arith))
+    (λ k. let q = rw (add-one n) at (temporals-more ws n k) in record { row = n; below = omega arith; kind = k; slot = omega arith })
     (lt-or-ge (kindIn ws n) 7))
     (lt-or-ge j (temporalsIn ws n))

@@ -1,21 +1,19 @@
 -- Two kept memories that hold the same monitor are equal, word for word. Assumes nothing.
 use Prim.Native.Nat.{ℕ, zero, suc, _+_, _*_, _-_, _/_, _%_, _≤_, _<_}
 use mathlib.Core.Path.{_≡_, refl, sym, ap, ap₂, _∙_}
-use mathlib.Core.Bool.{Bool, true, false, cond}
+use mathlib.Core.Bool.{Bool, false}
 use mathlib.Core.Logic.{⊎-elim}
-use mathlib.Core.List.{List, [], _∷_, _++_}
+use mathlib.Core.List.{List, [], _++_}
 use native.Mathlib.Omega.{arith}
-use lib.ListN.{length, getD, take, drop, replicate, length-drop}
+use lib.ListN.{length, getD, take, drop, length-drop}
 use lib.Seq.{ext-getD, getD-take, take-add}
-use lib.Dec.{eqb}
 use borrow.Author.Tests.{eqb-true, eqb-false, le-leb}
-use Rattle.numset.specs.Runs.{Runs, Good, runs, pack}
+use Rattle.numset.specs.Runs.{Runs, runs, pack}
 use Rattle.numset.proofs.Laws.{either, lt-or-ge}
 use Rattle.numset.proofs.Packs.{packed}
 use Rattle.pmtl.specs.Book.{Row, Book, widthOf}
-use Rattle.pmtl.specs.Answer.{bitOf}
 use Rattle.pmtl.specs.Monitor.{State}
-use Rattle.rows.specs.Memory.{ROWS, ROW, OPERANDS, PROPERTIES, ATOMS, OWNERS, SETS, SET, SIZE, part, rowCount, begunWord, clockOf, widthWord, temporals, assumeCount, guaranteeCount, kindAt, argAt, lowerAt, upperAt, startAt, slotAt, operandsOf, ownerAt, setStart, setWords, countOf, temporal, listed, rowOf, rowsOf, bookOf, isOne, setOf, stateOf}
+use Rattle.rows.specs.Memory.{ROWS, ROW, OPERANDS, PROPERTIES, ATOMS, OWNERS, SETS, SET, SIZE, part, rowCount, begunWord, clockOf, widthWord, temporals, assumeCount, guaranteeCount, kindAt, argAt, lowerAt, upperAt, startAt, slotAt, operandsOf, ownerAt, setStart, setWords, countOf, listed, rowOf, rowsOf, bookOf, isOne, setOf, stateOf}
 use Rattle.rows.proofs.Listed.{listed-at}
 use Rattle.rows.proofs.Kept.{rows-length, row-at}
 use Rattle.book.specs.Kept.{startTo, slotTo, Kept}

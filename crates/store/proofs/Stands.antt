@@ -1,15 +1,14 @@
 -- The memory of an accepted book, word by word. Assumes nothing.
-use Prim.Native.Nat.{ℕ, zero, suc, _+_, _*_, _-_, _/_, _≤_, _<_}
-use mathlib.Core.Path.{_≡_, refl, sym, ap, _∙_}
-use mathlib.Core.Bool.{true}
+use Prim.Native.Nat.{ℕ, _+_, _*_, _-_, _≤_, _<_}
+use mathlib.Core.Path.{_≡_, sym, ap, _∙_}
 use mathlib.Core.Logic.{_⊎_, inl, inr, ⊎-elim}
-use mathlib.Core.List.{List, [], _∷_, _++_}
+use mathlib.Core.List.{List, _++_}
 use native.Mathlib.Omega.{arith}
-use lib.ListN.{length, getD, set, replicate, length-set, length-append, length-replicate, getD-replicate, List·getD-append, List·getD-eq-default}
-use lib.Seq.{paste, length-paste, getD-append-add, getD-set-same, getD-set-other}
+use lib.ListN.{length, getD, set, replicate, length-set, length-replicate, getD-replicate, List·getD-append, List·getD-eq-default}
+use lib.Seq.{length-paste, getD-append-add, getD-set-same, getD-set-other}
 use Rattle.numset.proofs.Laws.{lt-or-ge}
-use Rattle.rows.specs.Memory.{ROWS, ROW, OPERANDS, PROPERTIES, ATOMS, OWNERS, SETS, SIZE, rowCount, begunWord, clockOf, widthWord, temporals, assumeCount, guaranteeCount, ownerAt}
-use Rattle.book.specs.Reading.{GIVEN, Sections}
+use Rattle.rows.specs.Memory.{ROWS, ROW, OPERANDS, PROPERTIES, ATOMS, OWNERS, SIZE, rowCount, begunWord, clockOf, widthWord, temporals, assumeCount, guaranteeCount, ownerAt}
+use Rattle.book.specs.Reading.{Sections}
 use Rattle.book.specs.Judging.{kindIn, rowsIn, temporalsIn}
 use Rattle.book.proofs.Accepted.{temporals-fit}
 use Rattle.store.specs.Stored.{widthIn, rowWords, rowsPut, put, headPut, linksPut, stored, Accepted}

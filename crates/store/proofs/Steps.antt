@@ -1,16 +1,15 @@
 -- What a call may change of a kept memory: whether one was accepted, the clock, the atoms that the book names, and the sets in use. It is kept
 -- again, and holds the same book. Assumes nothing.
 use Prim.Native.Nat.{ℕ, zero, suc, _+_, _*_, _≤_, _<_}
-use mathlib.Core.Path.{_≡_, refl, sym, ap, ap₂, _∙_, subst}
+use mathlib.Core.Path.{_≡_, refl, sym, ap, _∙_}
 use mathlib.Core.Logic.{_⊎_, inl, inr}
 use mathlib.Core.List.{List}
 use native.Mathlib.Omega.{arith}
-use lib.ListN.{length, getD, replicate}
+use lib.ListN.{length, getD}
 use Rattle.numset.specs.Runs.{Good}
 use Rattle.numset.proofs.Laws.{lt-or-ge}
-use Rattle.pmtl.specs.Book.{H, Row, widthOf}
-use Rattle.pmtl.specs.Answer.{bitOf}
-use Rattle.rows.specs.Memory.{ROWS, ROW, OPERANDS, PROPERTIES, ATOMS, OWNERS, SET, SIZE, part, rowCount, begunWord, clockOf, widthWord, temporals, assumeCount, guaranteeCount, kindAt, argAt, lowerAt, upperAt, startAt, slotAt, operandsOf, ownerAt, setWords, countOf, temporal, listed, rowOf, rowsOf, bookOf, RowKept, BookKept}
+use Rattle.pmtl.specs.Book.{H, widthOf}
+use Rattle.rows.specs.Memory.{ROWS, ROW, OPERANDS, PROPERTIES, ATOMS, SIZE, rowCount, begunWord, clockOf, widthWord, temporals, assumeCount, guaranteeCount, kindAt, argAt, lowerAt, upperAt, startAt, slotAt, operandsOf, ownerAt, setWords, rowOf, rowsOf, bookOf, RowKept, BookKept}
 use Rattle.rows.proofs.Listed.{listed-agree}
 use Rattle.book.specs.Kept.{startTo, slotTo, Tidy, Kept}
 use Rattle.store.proofs.Parts.{part-same}

@@ -37,12 +37,13 @@ use rows::TEMPORALS;
 use rows::UPPER;
 use rows::WIDTH;
 
-// What the head of a memory says of its rows.
-pub struct Totals {
-    pub width: u64,
-    pub temporals: u64,
+// What the head of a memory says of its rows: the largest atom plus 1, and how many are temporal.
+struct Totals {
+    width: u64,
+    temporals: u64,
 }
 
+// Every word 0: the memory of an empty book.
 fn wipe(monitor: &mut [u64])
     ensures { λ _. ⌜ now (monitor .exit) ≡ replicate (length (now (monitor .entry))) 0 ⌝ }
 {
@@ -53,6 +54,7 @@ fn wipe(monitor: &mut [u64])
     }
 }
 
+// A section, word for word, from a place on.
 fn copy(from: &[u64], monitor: &mut [u64], at: usize)
     requires { ⌜ at + length (now from) ≤ length (now monitor) ⌝ }
     ensures { λ _. ⌜ now (monitor .exit) ≡ put (now (monitor .entry)) at (now (from .entry)) ⌝ }
@@ -108,7 +110,7 @@ fn put_row(given: &[u64], row: usize, start: usize, slot: usize, monitor: &mut [
     slot + 1
 }
 
-// All rows.
+// All rows, one pass: each row's operands start where those of the row before it end.
 fn put_rows(given: &[u64], monitor: &mut [u64]) -> Totals
     requires { ⌜ Rowed (now given) ⌝ }
     requires { ⌜ length (now monitor) ≡ SIZE ⌝ }
@@ -197,6 +199,7 @@ fn store_parts(
     );
 }
 
+// Loading, over a memory whose length is not part of its type.
 fn load_into(words: &[u64], monitor: &mut [u64]) -> u64
     requires { ⌜ length (now monitor) ≡ SIZE ⌝ }
     ensures { λ r. ⌜ Loads (now (words .entry)) (now (monitor .exit)) r ⌝ }

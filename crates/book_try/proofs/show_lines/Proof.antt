@@ -3,10 +3,6 @@ use lib.ListN.{length}
 use borrow.Author.Needs.{needs}
 use Rattle.book_try.proofs.show_lines.Statement.{statement}
 use Rattle.book_try.proofs.show_lines.Tie as tie
-use Rattle.book_try.proofs.show_lines.Reads as reads
-use Rattle.book_try.proofs.show_lines.Lts as lts
-use Rattle.book_try.proofs.line_end.Reads as line-end-reads
-use Rattle.book_try.proofs.show_line.Reads as show-line-reads
 
 abbrev Inv-loop : tie.InvT-loop
 Inv-loop input at₀ at = at ≤ length input + 1
@@ -14,43 +10,33 @@ Inv-loop input at₀ at = at ≤ length input + 1
 abbrev μ-loop : tie.MeasureT-loop
 μ-loop input at₀ at = length input + 1 - at
 
--- src/main.rt:69:5
 loop-holds : tie.Need-loop-holds Inv-loop μ-loop
 loop-holds c = search needs
 
--- src/main.rt:70:13
 line-end-requires : tie.Need-line-end-requires Inv-loop μ-loop
 line-end-requires c κs = search needs
 
--- src/main.rt:71:19
 sub-show-line : tie.Need-sub-show-line Inv-loop μ-loop
 sub-show-line c = search needs
 
--- src/main.rt:71:19
 part-show-line-start : tie.Need-part-show-line-start Inv-loop μ-loop
 part-show-line-start c = search needs
 
--- src/main.rt:71:19
 part-show-line-end : tie.Need-part-show-line-end Inv-loop μ-loop
 part-show-line-end c = search needs
 
--- src/main.rt:71:9
 show-line-requires : tie.Need-show-line-requires Inv-loop μ-loop
 show-line-requires c κs = search needs
 
--- src/main.rt:72:14
 add-at : tie.Need-add-at Inv-loop μ-loop
 add-at c = search needs
 
--- src/main.rt:69:5
 loop-less : tie.Need-loop-less Inv-loop μ-loop
 loop-less c = search needs
 
--- src/main.rt:69:5
 loop-again : tie.Need-loop-again Inv-loop μ-loop
 loop-again c = search needs
 
--- src/main.rt:67:1
 returns : tie.Need-returns Inv-loop μ-loop
 returns c = search needs
 

@@ -3,39 +3,35 @@ use lib.ListN.{length}
 use borrow.Author.Needs.{needs}
 use Rattle.store.proofs.load_into.Statement.{statement}
 use Rattle.store.proofs.load_into.Tie as tie
-use Rattle.store.proofs.load_into.Reads as reads
-use Rattle.store.proofs.load_into.Lts as lts
-use Rattle.book.proofs.check.place.Reads as place-reads
-use Rattle.store.proofs.store_parts.Reads as store-parts-reads
-use Rattle.store.proofs.wipe.Reads as wipe-reads
 
--- src/lib.rt:204:9
 place-requires : tie.Need-place-requires
 place-requires c κs = search needs
 
--- src/lib.rt:207:9
 wipe-requires : tie.Need-wipe-requires
 wipe-requires c κs = search needs
 
--- src/lib.rt:208:9
 same-length : tie.Need-same-length
 same-length c = search needs
 
--- src/lib.rt:208:9
 returns : tie.Need-returns
-returns c = let s = c .before .before .before .before .before .before .before .before in loads-refused (s .args .words .now) _ _ _ _ _ (c .before .before .before .before .before .place .ensures) _ (c .before .before .before .before .if1 .taken) (length (s .args .monitor .now)) (s .pre) (c .before .before .wipe .ensures)
+returns c =
+    let s = c .before .before .before .before .before .before .before .before in
+    loads-refused (s .args .words .now) _ _ _ _ _ (c .before .before .before .before .before .place .ensures) _ (c .before .before .before .before .if1 .taken) (length (s .args .monitor .now)) (s .pre) (c .before .before .wipe .ensures)
 
--- src/lib.rt:210:5
 store-parts-requires : tie.Need-store-parts-requires
-store-parts-requires c κs = let s = c .before .before .before .before .before in let p = c .before .before .place .ensures in let e = c .before .if1 .left in (p .counted e, (placed-accepted (s .args .words .now) _ _ _ _ _ p e, s .pre))
+store-parts-requires c κs =
+    let s = c .before .before .before .before .before in
+    let p = c .before .before .place .ensures in
+    let e = c .before .if1 .left in
+    (p .counted e, (placed-accepted (s .args .words .now) _ _ _ _ _ p e, s .pre))
 
--- src/lib.rt:200:1
 same-length-2 : tie.Need-same-length-2
 same-length-2 c = search needs
 
--- src/lib.rt:200:1
 returns-2 : tie.Need-returns-2
-returns-2 c = let s = c .before .before .before .before .before .before .before .before in loads-accepted (s .args .words .now) _ _ _ _ _ (c .before .before .before .before .before .place .ensures) _ (c .before .before .before .before .if1 .left) (c .before .before .store-parts .ensures)
+returns-2 c =
+    let s = c .before .before .before .before .before .before .before .before in
+    loads-accepted (s .args .words .now) _ _ _ _ _ (c .before .before .before .before .before .place .ensures) _ (c .before .before .before .before .if1 .left) (c .before .before .store-parts .ensures)
 
 pub load-into-spec : {M : Type 1} → statement M
 load-into-spec =

@@ -5,26 +5,22 @@ use native.Mathlib.Omega.{arith}
 use borrow.Author.Needs.{needs}
 use Rattle.store.proofs.put_row.Statement.{statement}
 use Rattle.store.proofs.put_row.Tie as tie
-use Rattle.store.proofs.put_row.Reads as reads
-use Rattle.store.proofs.put_row.Lts as lts
-use Rattle.book.proofs.check.kind_in.Reads as kind-in-reads
-use Rattle.store.proofs.put_words.Reads as put-words-reads
 
--- src/lib.rt:103:8
 kind-in-requires : tie.Need-kind-in-requires
 kind-in-requires c κs = search needs
 
--- src/lib.rt:104:9
 put-words-requires : tie.Need-put-words-requires
 put-words-requires c κs = search needs
 
--- src/lib.rt:105:9
 same-length : tie.Need-same-length
 same-length c = search needs
 
--- src/lib.rt:105:9
 returns : tie.Need-returns
-returns c = let s = c .before .before .before .before .before .before .before .before in let ws = s .args .given .now in let q = rw (c .before .before .before .before .before .kind-in .ensures) at (c .before .before .before .before .if1 .taken) in (s .pre .1 .1 .1 ∙ sym (temporals-same ws (s .args .row) q), row-plain ws (s .args .monitor .now) _ (s .args .row) (s .args .start) (s .pre .1 .1 .0) q (c .before .before .put-words .ensures))
+returns c =
+    let s = c .before .before .before .before .before .before .before .before in
+    let ws = s .args .given .now in
+    let q = rw (c .before .before .before .before .before .kind-in .ensures) at (c .before .before .before .before .if1 .taken) in
+    (s .pre .1 .1 .1 ∙ sym (temporals-same ws (s .args .row) q), row-plain ws (s .args .monitor .now) _ (s .args .row) (s .args .start) (s .pre .1 .1 .0) q (c .before .before .put-words .ensures))
 
 -- where the row is temporal, there is a set for it
 slot-small : (c : tie.After-slice-known3) → c .before .before .before .before .before .before .before .before .args .slot < 32
@@ -36,33 +32,40 @@ slot-small c =
     let e = s .pre .1 .1 .1 in
     omega arith
 
--- src/lib.rt:107:5
 put-words-requires-2 : tie.Need-put-words-requires-2
 put-words-requires-2 c κs = search needs
 
--- src/lib.rt:108:13
 add-monitor : tie.Need-add-monitor
-add-monitor c = let s = slot-small c in omega arith
+add-monitor c =
+    let s = slot-small c in
+    omega arith
 
--- src/lib.rt:108:5
 mul-monitor : tie.Need-mul-monitor
-mul-monitor c = let s = slot-small c in omega arith
+mul-monitor c =
+    let s = slot-small c in
+    omega arith
 
--- src/lib.rt:108:5
 slice-write-monitor : tie.Need-slice-write-monitor
-slice-write-monitor c = let s = slot-small c in let k = c .before .before .put-words2 .kept in let e = c .before .before .before .before .before .before .before .before .pre .1 .0 .1 in omega arith
+slice-write-monitor c =
+    let s = slot-small c in
+    let k = c .before .before .put-words2 .kept in
+    let e = c .before .before .before .before .before .before .before .before .pre .1 .0 .1 in
+    omega arith
 
--- src/lib.rt:109:5
 add-result : tie.Need-add-result
-add-result c = let s = slot-small c in omega arith
+add-result c =
+    let s = slot-small c in
+    omega arith
 
--- src/lib.rt:97:1
 same-length-2 : tie.Need-same-length-2
 same-length-2 c = search needs
 
--- src/lib.rt:97:1
 returns-2 : tie.Need-returns-2
-returns-2 c = let s = c .before .before .before .before .before .before .before .before in let ws = s .args .given .now in let q = rw (c .before .before .before .before .before .kind-in .ensures) at (c .before .before .before .before .if1 .left) in (ap (λ (x : ℕ). x + 1) (s .pre .1 .1 .1) ∙ sym (temporals-more ws (s .args .row) q), row-temporal ws (s .args .monitor .now) _ (s .args .row) (s .args .start) (s .pre .1 .1 .0) (s .args .slot) (s .pre .1 .1 .1) q (c .before .before .put-words2 .ensures))
+returns-2 c =
+    let s = c .before .before .before .before .before .before .before .before in
+    let ws = s .args .given .now in
+    let q = rw (c .before .before .before .before .before .kind-in .ensures) at (c .before .before .before .before .if1 .left) in
+    (ap (λ (x : ℕ). x + 1) (s .pre .1 .1 .1) ∙ sym (temporals-more ws (s .args .row) q), row-temporal ws (s .args .monitor .now) _ (s .args .row) (s .args .start) (s .pre .1 .1 .0) (s .args .slot) (s .pre .1 .1 .1) q (c .before .before .put-words2 .ensures))
 
 pub put-row-spec : {M : Type 1} → statement M
 put-row-spec =

@@ -3,19 +3,12 @@ use Rattle.book.specs.Reading.{GIVEN}
 use Rattle.store.proofs.Forms.{reach-small}
 use Rattle.rows.specs.Memory.{SIZE}
 use lib.ListN.{length}
-use mathlib.Core.Path.{_≡_, refl, ap, _∙_, sym}
+use mathlib.Core.Path.{_≡_, refl, _∙_}
 use Prim.Native.Nat.{_≤_, _/_, _-_}
 use native.Mathlib.Omega.{arith}
 use borrow.Author.Needs.{needs}
 use Rattle.store.proofs.put_rows.Statement.{statement}
 use Rattle.store.proofs.put_rows.Tie as tie
-use Rattle.store.proofs.put_rows.Reads as reads
-use Rattle.store.proofs.put_rows.Lts as lts
-use Rattle.book.proofs.check.arg_in.Reads as arg-in-reads
-use Rattle.book.proofs.check.kind_in.Reads as kind-in-reads
-use Rattle.book.proofs.check.taken_by.Reads as taken-by-reads
-use Rattle.store.proofs.put_row.Reads as put-row-reads
-use Rattle.store.proofs.wider.Reads as wider-reads
 
 abbrev Inv-loop : tie.InvT-loop
 Inv-loop given monitor₀ rows row₀ start₀ slot₀ width₀ monitor row start slot width = ((row ≤ rows) × (rows ≡ length given / GIVEN)) × (length monitor ≡ SIZE) × Put given monitor₀ monitor row start slot width
@@ -23,53 +16,63 @@ Inv-loop given monitor₀ rows row₀ start₀ slot₀ width₀ monitor row star
 abbrev μ-loop : tie.MeasureT-loop
 μ-loop given monitor₀ rows row₀ start₀ slot₀ width₀ monitor row start slot width = rows - row
 
--- src/lib.rt:123:5
 loop-holds : tie.Need-loop-holds Inv-loop μ-loop
-loop-holds c = let s = c .before .before in ((omega arith, refl), s .pre .1, put-none (s .args .given .now) (s .args .monitor .now))
+loop-holds c =
+    let s = c .before .before in
+    ((omega arith, refl), s .pre .1, put-none (s .args .given .now) (s .args .monitor .now))
 
--- src/lib.rt:124:13
 kind-in-requires : tie.Need-kind-in-requires Inv-loop μ-loop
 kind-in-requires c κs = search needs
 
--- src/lib.rt:125:13
 arg-in-requires : tie.Need-arg-in-requires Inv-loop μ-loop
 arg-in-requires c κs = search needs
 
--- src/lib.rt:126:9
 put-row-requires : tie.Need-put-row-requires Inv-loop μ-loop
-put-row-requires c κs = let s = c .before .before .before .before .before .before .before in let l = c .before .before .before .before .loop in (s .pre .0, ((omega arith, l .inv .1), (l .inv .2 .start-is, l .inv .2 .slot-is)))
+put-row-requires c κs =
+    let s = c .before .before .before .before .before .before .before in
+    let l = c .before .before .before .before .loop in
+    (s .pre .0, ((omega arith, l .inv .1), (l .inv .2 .start-is, l .inv .2 .slot-is)))
 
--- src/lib.rt:127:18
 taken-by-requires : tie.Need-taken-by-requires Inv-loop μ-loop
-taken-by-requires c κs = let l = c .before .before .before .before .before .before .before .loop in arg-good _ _ (c .before .before .before .before .before .before .before .before .before .before .pre .0) (l .inv .2) (c .before .before .before .before .before .before .loop-test .taken) (c .before .before .before .before .before .kind-in .ensures) (c .before .before .before .before .arg-in .ensures)
+taken-by-requires c κs =
+    let l = c .before .before .before .before .before .before .before .loop in
+    arg-good _ _ (c .before .before .before .before .before .before .before .before .before .before .pre .0) (l .inv .2) (c .before .before .before .before .before .before .loop-test .taken) (c .before .before .before .before .before .kind-in .ensures) (c .before .before .before .before .arg-in .ensures)
 
--- src/lib.rt:127:9
 add-start : tie.Need-add-start Inv-loop μ-loop
-add-start c = let l = c .before .before .before .before .before .before .before .before .loop in let f = start-fits _ _ (c .before .before .before .before .before .before .before .before .before .before .before .pre .0) (l .inv .2) (c .before .before .before .before .before .before .before .loop-test .taken) (c .before .before .before .before .before .before .kind-in .ensures) (c .before .before .before .before .before .arg-in .ensures) _ (c .taken-by .ensures) in omega arith
+add-start c =
+    let l = c .before .before .before .before .before .before .before .before .loop in
+    let f = start-fits _ _ (c .before .before .before .before .before .before .before .before .before .before .before .pre .0) (l .inv .2) (c .before .before .before .before .before .before .before .loop-test .taken) (c .before .before .before .before .before .before .kind-in .ensures) (c .before .before .before .before .before .arg-in .ensures) _ (c .taken-by .ensures) in
+    omega arith
 
--- src/lib.rt:128:9
 wider-requires : tie.Need-wider-requires Inv-loop μ-loop
-wider-requires c κs = let l = c .before .before .before .before .before .before .before .before .loop in reach-small _ _ (arg-good _ _ (c .before .before .before .before .before .before .before .before .before .before .before .pre .0) (l .inv .2) (c .before .before .before .before .before .before .before .loop-test .taken) (c .before .before .before .before .before .before .kind-in .ensures) (c .before .before .before .before .before .arg-in .ensures))
+wider-requires c κs =
+    let l = c .before .before .before .before .before .before .before .before .loop in
+    reach-small _ _ (arg-good _ _ (c .before .before .before .before .before .before .before .before .before .before .before .pre .0) (l .inv .2) (c .before .before .before .before .before .before .before .loop-test .taken) (c .before .before .before .before .before .before .kind-in .ensures) (c .before .before .before .before .before .arg-in .ensures))
 
--- src/lib.rt:129:9
 add-row : tie.Need-add-row Inv-loop μ-loop
 add-row c = search needs
 
--- src/lib.rt:123:5
 loop-less : tie.Need-loop-less Inv-loop μ-loop
 loop-less c = search needs
 
--- src/lib.rt:123:5
 loop-again : tie.Need-loop-again Inv-loop μ-loop
-loop-again c = let l = c .before .before .before .before .before .before .before .before .before .loop in let t = c .before .before .before .before .before .before .before .before .loop-test .taken in let n = c .before .before .before .before .put-row in ((omega arith, refl), (n .kept .1 .1 .1 .1 .0 ∙ l .inv .1), put-more _ _ _ _ (l .inv .2) (c .before .before .before .before .before .before .before .kind-in .ensures) (c .before .before .before .before .before .before .arg-in .ensures) (n .ensures .0) (n .ensures .1) (c .before .taken-by .ensures) (c .wider .ensures))
+loop-again c =
+    let l = c .before .before .before .before .before .before .before .before .before .loop in
+    let t = c .before .before .before .before .before .before .before .before .loop-test .taken in
+    let n = c .before .before .before .before .put-row in
+    ((omega arith, refl), (n .kept .1 .1 .1 .1 .0 ∙ l .inv .1), put-more _ _ _ _ (l .inv .2) (c .before .before .before .before .before .before .before .kind-in .ensures) (c .before .before .before .before .before .before .arg-in .ensures) (n .ensures .0) (n .ensures .1) (c .before .taken-by .ensures) (c .wider .ensures))
 
--- src/lib.rt:113:1
 same-length : tie.Need-same-length Inv-loop μ-loop
 same-length c = search needs
 
--- src/lib.rt:113:1
 returns : tie.Need-returns Inv-loop μ-loop
-returns c = let s = c .before .before .before .before in let l = c .before .loop in let t = c .loop-test .left in let e : l .row ≡ length (s .args .given .now) / GIVEN = let q = l .inv .0 in omega arith in (rw e at (l .inv .2 .width-is), rw e at (l .inv .2 .slot-is), rw e at (l .inv .2 .memory))
+returns c =
+    let s = c .before .before .before .before in
+    let l = c .before .loop in
+    let t = c .loop-test .left in
+    let q = l .inv .0 in
+    let e : l .row ≡ length (s .args .given .now) / GIVEN = omega arith in
+    (rw e at (l .inv .2 .width-is), rw e at (l .inv .2 .slot-is), rw e at (l .inv .2 .memory))
 
 pub put-rows-spec : {M : Type 1} → statement M
 put-rows-spec =

@@ -4,48 +4,43 @@ use native.Mathlib.Omega.{arith}
 use borrow.Author.Needs.{needs}
 use Rattle.store.proofs.store.Statement.{statement}
 use Rattle.store.proofs.store.Tie as tie
-use Rattle.store.proofs.store.Reads as reads
-use Rattle.store.proofs.store.Lts as lts
-use Rattle.store.proofs.copy.Reads as copy-reads
-use Rattle.store.proofs.put_head.Reads as put-head-reads
-use Rattle.store.proofs.put_rows.Reads as put-rows-reads
-use Rattle.store.proofs.wipe.Reads as wipe-reads
 
--- src/lib.rt:177:5
 wipe-requires : tie.Need-wipe-requires
 wipe-requires c κs = search needs
 
--- src/lib.rt:178:5
 copy-requires : tie.Need-copy-requires
 copy-requires c κs = search needs
 
--- src/lib.rt:179:5
 copy-requires-2 : tie.Need-copy-requires-2
 copy-requires-2 c κs = search needs
 
--- src/lib.rt:180:31
 add-copy : tie.Need-add-copy
 add-copy c = search needs
 
--- src/lib.rt:180:5
 copy-requires-3 : tie.Need-copy-requires-3
 copy-requires-3 c κs = search needs
 
--- src/lib.rt:181:9
 put-rows-requires : tie.Need-put-rows-requires
-put-rows-requires c κs = let s = c .before .before .before .before .before .before .before .before .before .before .before .before .before .before .before .before .before .before .before .before .before .before in let l = s .pre .1 in let k₁ = c .before .before .before .before .before .before .before .before .before .before .before .before .before .before .before .wipe .kept in let k₂ = c .before .before .before .before .before .before .before .before .before .before .before .copy .kept in let k₃ = c .before .before .before .before .before .before .before .copy2 .kept in let k₄ = c .before .before .before .copy3 .kept in (rowed (sectionsOf (s .args .given .now) (s .args .operands .now) (s .args .assumes .now) (s .args .guarantees .now)) (s .pre .0), omega arith)
+put-rows-requires c κs =
+    let s = c .before .before .before .before .before .before .before .before .before .before .before .before .before .before .before .before .before .before .before .before .before .before in
+    let l = s .pre .1 in
+    let k₁ = c .before .before .before .before .before .before .before .before .before .before .before .before .before .before .before .wipe .kept in
+    let k₂ = c .before .before .before .before .before .before .before .before .before .before .before .copy .kept in
+    let k₃ = c .before .before .before .before .before .before .before .copy2 .kept in
+    let k₄ = c .before .before .before .copy3 .kept in
+    (rowed (sectionsOf (s .args .given .now) (s .args .operands .now) (s .args .assumes .now) (s .args .guarantees .now)) (s .pre .0), omega arith)
 
--- src/lib.rt:182:5
 put-head-requires : tie.Need-put-head-requires
 put-head-requires c κs = search needs
 
--- src/lib.rt:166:1
 same-length : tie.Need-same-length
 same-length c = search needs
 
--- src/lib.rt:166:1
 returns : tie.Need-returns
-returns c = let s = c .before .before .before .before .before .before .before .before .before .before .before .before .before .before .before .before .before .before .before .before .before .before .before .before .before .before .before .before .before in let n = c .before .before .before .before .before .before .put-rows .ensures in store-holds (sectionsOf (s .args .given .now) (s .args .operands .now) (s .args .assumes .now) (s .args .guarantees .now)) (s .pre .0) (s .args .monitor .now) (s .pre .1) (c .before .before .before .before .before .before .before .before .before .before .before .before .before .before .before .before .before .before .before .before .before .before .wipe .ensures) (c .before .before .before .before .before .before .before .before .before .before .before .before .before .before .before .before .before .before .copy .ensures) (c .before .before .before .before .before .before .before .before .before .before .before .before .before .before .copy2 .ensures) (c .before .before .before .before .before .before .before .before .before .before .copy3 .ensures) (n .2) (n .0) (n .1) (c .before .before .put-head .ensures)
+returns c =
+    let s = c .before .before .before .before .before .before .before .before .before .before .before .before .before .before .before .before .before .before .before .before .before .before .before .before .before .before .before .before .before in
+    let n = c .before .before .before .before .before .before .put-rows .ensures in
+    store-holds (sectionsOf (s .args .given .now) (s .args .operands .now) (s .args .assumes .now) (s .args .guarantees .now)) (s .pre .0) (s .args .monitor .now) (s .pre .1) (c .before .before .before .before .before .before .before .before .before .before .before .before .before .before .before .before .before .before .before .before .before .before .wipe .ensures) (c .before .before .before .before .before .before .before .before .before .before .before .before .before .before .before .before .before .before .copy .ensures) (c .before .before .before .before .before .before .before .before .before .before .before .before .before .before .copy2 .ensures) (c .before .before .before .before .before .before .before .before .before .before .copy3 .ensures) (n .2) (n .0) (n .1) (c .before .before .put-head .ensures)
 
 pub store-spec : {M : Type 1} → statement M
 store-spec =

@@ -1,64 +1,46 @@
 use Rattle.store.specs.Stored.{Accepted, Holds}
-use Rattle.book.specs.Placing.{partsOf}
 use Rattle.book.specs.Reading.{Sections}
 use Rattle.book.proofs.Sections.{in-place}
-use mathlib.Core.List.{List}
-use mathlib.Core.Path.{_≡_, sym, subst}
-use Prim.Native.Nat.{ℕ, _+_, _*_}
+use mathlib.Core.Path.{sym, subst}
+use Prim.Native.Nat.{_+_, _*_}
 use native.Mathlib.Omega.{arith}
 use borrow.Author.Needs.{needs}
 use Rattle.store.proofs.store_parts.Statement.{statement}
 use Rattle.store.proofs.store_parts.Tie as tie
-use Rattle.store.proofs.store_parts.Reads as reads
-use Rattle.store.proofs.store_parts.Lts as lts
-use Rattle.book.proofs.check.part_of.Reads as part-of-reads
-use Rattle.store.proofs.store.Reads as store-reads
 
--- src/lib.rt:189:21
 mul-row-words : tie.Need-mul-row-words
 mul-row-words c = search needs
 
--- src/lib.rt:190:23
 add-operands-at : tie.Need-add-operands-at
 add-operands-at c = search needs
 
--- src/lib.rt:190:23
 add-operands-at-2 : tie.Need-add-operands-at-2
 add-operands-at-2 c = search needs
 
--- src/lib.rt:191:22
 add-assumes-at : tie.Need-add-assumes-at
 add-assumes-at c = search needs
 
--- src/lib.rt:191:22
 add-assumes-at-2 : tie.Need-add-assumes-at-2
 add-assumes-at-2 c = search needs
 
--- src/lib.rt:192:25
 add-guarantees-at : tie.Need-add-guarantees-at
 add-guarantees-at c = search needs
 
--- src/lib.rt:192:25
 add-guarantees-at-2 : tie.Need-add-guarantees-at-2
 add-guarantees-at-2 c = search needs
 
--- src/lib.rt:194:9
 part-of-requires : tie.Need-part-of-requires
 part-of-requires c κs = search needs
 
--- src/lib.rt:195:9
 part-of-requires-2 : tie.Need-part-of-requires-2
 part-of-requires-2 c κs = search needs
 
--- src/lib.rt:196:9
 part-of-requires-3 : tie.Need-part-of-requires-3
 part-of-requires-3 c κs = search needs
 
--- src/lib.rt:197:9
 part-of-requires-4 : tie.Need-part-of-requires-4
 part-of-requires-4 c κs = search needs
 
--- src/lib.rt:193:5
 store-requires : tie.Need-store-requires
 store-requires c κs =
     let s = c .before .before .before .before .before .before .before in
@@ -71,11 +53,9 @@ store-requires c κs =
       s .pre .1 .1,
     )
 
--- src/lib.rt:177:1
 same-length : tie.Need-same-length
 same-length c = search needs
 
--- src/lib.rt:177:1
 returns : tie.Need-returns
 returns c =
     let s = c .before .before .before .before .before .before .before .before .before .before in

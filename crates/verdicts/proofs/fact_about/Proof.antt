@@ -18,7 +18,7 @@ bit-requires-2 : tie.Need-bit-requires-2
 bit-requires-2 c κs = search needs
 
 mul-result : tie.Need-mul-result
-mul-result c = let h = bit-small (c .before .covers .result) in let e = c .bit2 .ensures in record { fits = omega arith }
+mul-result c = let h = bit-small (c .before .covers .result) in let e = c .bit2 .ensures in let h′ = bit-small (c .before .before .before .contains .result) in let e′ = c .before .before .bit .ensures in record { fits = omega arith }
 
 add-result : tie.Need-add-result
 add-result c = let h = bit-small (c .before .covers .result) in let e = c .bit2 .ensures in let h′ = bit-small (c .before .before .before .contains .result) in let e′ = c .before .before .bit .ensures in record { fits = omega arith }

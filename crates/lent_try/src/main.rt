@@ -1,0 +1,116 @@
+// Additions to a set that is lent, printed and compared with a stored output: P1 to P5, and a full set.
+use libc::STDOUT_FILENO;
+use numset::Added;
+use numset::NumSet;
+ghost use Prim.Native.Nat.{_<_, _≤_};
+ghost use Rattle.numset.specs.Runs.{Good};
+
+// As many runs as a set by value has room for.
+const FULL: u64 = 64;
+
+fn text(bytes: &[u8]) {
+    io::write_all(STDOUT_FILENO, bytes);
+}
+
+fn interval(lower: u64, upper: u64) {
+    text(b"[");
+    io::print_decimal(STDOUT_FILENO, lower);
+    text(b",");
+    io::print_decimal(STDOUT_FILENO, upper);
+    text(b"]");
+}
+
+// The runs of a set, the oldest first.
+fn runs(words: &[u64])
+    requires { ⌜ Good (now words) ⌝ }
+{
+    let n = words[0] as usize;
+    let mut j = 0;
+    text(b"{");
+    while j < n {
+        if 0 < j {
+            text(b",");
+        }
+        interval(words[2 * j + 1], words[2 * j + 2]);
+        j += 1;
+    }
+    text(b"}\n");
+}
+
+// The addition itself, of which only this is needed here: it gives a set again.
+fn added(set: NumSet, lower: u64, upper: u64) -> Added
+    requires { ⌜ Good (set .words) ⌝ }
+    ensures { λ r. ⌜ Good (r .set .words) ⌝ }
+{
+    lent::added(set, lower, upper)
+}
+
+// Adds, and prints the number and the set that came back.
+fn add(set: NumSet, lower: u64, upper: u64) -> NumSet
+    requires { ⌜ Good (set .words) ⌝ }
+    ensures { λ r. ⌜ Good (r .words) ⌝ }
+{
+    let sum = added(set, lower, upper);
+    let after = sum.set;
+    let words = after.words;
+    text(b"  add ");
+    interval(lower, upper);
+    text(b": ");
+    io::print_decimal(STDOUT_FILENO, sum.number);
+    text(b" ");
+    runs(&words);
+    after
+}
+
+// What each example starts from.
+fn start() -> NumSet
+    ensures { λ r. ⌜ Good (r .words) ⌝ }
+{
+    NumSet::from_interval(0, 1)
+}
+
+fn first_examples() {
+    text(b"P1\n");
+    add(start(), 2, 3);
+    text(b"P2\n");
+    let apart = add(start(), 4, 5);
+    add(apart, 2, 3);
+    text(b"P3\n");
+    add(start(), 3, 2);
+}
+
+fn last_examples() {
+    text(b"P4\n");
+    let two = add(start(), 10, 20);
+    add(two, 5, 9);
+    text(b"P5\n");
+    let three = add(two, 30, 40);
+    add(three, 15, 29);
+}
+
+// Every other instant from 0 on.
+fn full() -> NumSet
+    ensures { λ r. ⌜ Good (r .words) ⌝ }
+{
+    let mut set = NumSet::empty();
+    let mut i = 0;
+    while i < FULL {
+        let sum = added(set, 2 * i, 2 * i);
+        set = sum.set;
+        i += 1;
+    }
+    set
+}
+
+// A full set refuses one more run and stays as it is; what touches a run is joined to it.
+fn limit() {
+    text(b"full\n");
+    let set = add(full(), 128, 129);
+    add(set, 127, 129);
+}
+
+fn main() {
+    first_examples();
+    last_examples();
+    limit();
+}
