@@ -11,7 +11,7 @@ ghost use Rattle.rows.specs.Memory.{bookOf, stateOf};
 ghost use Rattle.book.specs.Kept.{Kept};
 ghost use Rattle.writer.specs.Buffer.{handed};
 ghost use Rattle.writer.specs.Finish.{finish, Wrote};
-ghost use Rattle.report.specs.Report.{bookLine, stopLine, endLine, verdictWord, verdictWords, callLine, lastLine};
+ghost use Rattle.report.specs.Report.{ended as Report·ended, bookLine, stopLine, endLine, verdictWord, verdictWords, callLine, lastLine};
 use pmtl::Answer;
 use text::Read;
 use verdicts::Verdict;
@@ -23,20 +23,25 @@ const LEFT_OVER: u64 = 1;
 
 const BAD_WORD: u64 = 13;
 
+// A line of a word and a number.
+fn put_numbered(out: &mut [u8], at: usize, word: &[u8], number: u64) -> usize
+    ensures { λ r. ⌜ Wrote (now (out .entry)) at (now (word .entry) ++ decimal number ++ Report·ended) (now (out .exit)) r ⌝ }
+{
+    let a = writer::put_bytes(out, at, word);
+    let b = writer::put_number(out, a, number);
+    writer::put_bytes(out, b, b"\n")
+}
+
 pub fn put_book(out: &mut [u8], at: usize, number: u64) -> usize
     ensures { λ r. ⌜ Wrote (now (out .entry)) at (bookLine number) (now (out .exit)) r ⌝ }
 {
-    let a = writer::put_bytes(out, at, b"book ");
-    let b = writer::put_number(out, a, number);
-    writer::put_bytes(out, b, b"\n")
+    put_numbered(out, at, b"book ", number)
 }
 
 fn put_stop(out: &mut [u8], at: usize, number: u64) -> usize
     ensures { λ r. ⌜ Wrote (now (out .entry)) at (stopLine number) (now (out .exit)) r ⌝ }
 {
-    let a = writer::put_bytes(out, at, b"stop ");
-    let b = writer::put_number(out, a, number);
-    writer::put_bytes(out, b, b"\n")
+    put_numbered(out, at, b"stop ", number)
 }
 
 // A report that ends with `stop `.
