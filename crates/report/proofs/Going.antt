@@ -31,7 +31,6 @@ outcome-is e f = rw (e, f)
 -- ---- the lines of the calls: so many are done, and what is still owed comes to what was owed at first
 pub record Going (input : List ℕ) (from count : ℕ) (m₀ out₀ : List ℕ) (start : ℕ) (m out : List ℕ) (at cursor done : ℕ) : Type 0 where
   pub low : done ≤ count
-  pub held : length m ≡ length m₀
   pub size : length out ≡ length out₀
   pub kept : Kept m
   pub book : bookOf m ≡ bookOf m₀
@@ -41,7 +40,7 @@ pub record Going (input : List ℕ) (from count : ℕ) (m₀ out₀ : List ℕ) 
 pub go-start : (input : List ℕ) (from count : ℕ) (m out : List ℕ) (start : ℕ) → Kept m → Going input from count m out start m out start from 0
 go-start input from count m out start k =
     let e : count - 0 ≡ count = omega arith in
-    record { low = omega arith; held = refl; size = refl; kept = k; book = refl; on = refl; owed = rw e }
+    record { low = omega arith; size = refl; kept = k; book = refl; on = refl; owed = rw e }
 
 module _ {input : List ℕ} {from count : ℕ} {m₀ out₀ : List ℕ} {start : ℕ} {m out : List ℕ} {at cursor done : ℕ} (g : Going input from count m₀ out₀ start m out at cursor done) where
   abbrev Next : List ℕ → Turn → Type 0
@@ -62,13 +61,12 @@ module _ {input : List ℕ} {from count : ℕ} {m₀ out₀ : List ℕ} {start :
     unfolding linesFrom orStop
     step k e = rw (e, asked, made, add-one)
 
-    pub go-more : {out′ : List ℕ} {at′ : ℕ} → done < count → Wrote out at (callLine (bookOf m′) (done + 1) (record { number = r; state = stateOf m′ })) out′ at′ → length out′ ≡ length out → length m′ ≡ length m → Going input from count m₀ out₀ start m′ out′ at′ next (done + 1)
-    go-more h w z y =
+    pub go-more : {out′ : List ℕ} {at′ : ℕ} → done < count → Wrote out at (callLine (bookOf m′) (done + 1) (record { number = r; state = stateOf m′ })) out′ at′ → length out′ ≡ length out → Going input from count m₀ out₀ start m′ out′ at′ next (done + 1)
+    go-more h w z =
         let b : bookOf m′ ≡ bookOf m₀ = c .called .book ∙ g .book in
         let w′ = rw b at w in
         record {
           low = omega arith;
-          held = y ∙ g .held;
           size = z ∙ g .size;
           kept = c .called .kept;
           book = b;

@@ -2,3 +2,4 @@ pub mod Alike
 pub mod Lasting
 pub mod Turns
 pub mod Going
+pub mod Examples

@@ -8,6 +8,7 @@ ghost use Rattle.book.specs.Kept.{Kept};
 ghost use Rattle.oracle.specs.Oracle.{Called};
 ghost use Rattle.report.specs.Report.{timeFrom, stateFrom, callFrom};
 ghost use Rattle.report.specs.Steps.{partNumber, turnNumber, Turned};
+use oracle::SIZE;
 use reader::Part;
 use text::Read;
 
@@ -46,7 +47,7 @@ pub fn turn_number(t: Turn) -> u64
     }
 }
 
-fn time_call(input: &[u8], at: usize, monitor: &mut [u64]) -> Turn
+fn time_call(input: &[u8], at: usize, monitor: &mut [u64; SIZE]) -> Turn
     requires { ⌜ Kept (now monitor) ⌝ }
     ensures { λ t. ⌜ Turned (now (input .entry)) (supplyFrom (now (input .entry)) at .ending) (timeFrom (supplyFrom (now (input .entry)) at .ending) (supplyFrom (now (input .entry)) at .words)) (now (monitor .entry)) (now (monitor .exit)) t ⌝ }
 {
@@ -58,14 +59,14 @@ fn time_call(input: &[u8], at: usize, monitor: &mut [u64]) -> Turn
 }
 
 // A state call of the first `width` bytes.
-fn state_made(monitor: &mut [u64], bytes: &[u8], width: usize) -> u64
+fn state_made(monitor: &mut [u64; SIZE], bytes: &[u8], width: usize) -> u64
     requires { ⌜ Kept (now monitor) × (width ≤ length (now bytes)) ⌝ }
     ensures { λ r. ⌜ Called (Call.state (take width (now (bytes .entry)))) (now (monitor .entry)) (now (monitor .exit)) r ⌝ }
 {
     oracle::update_state(monitor, &bytes[..width])
 }
 
-fn state_call(input: &[u8], at: usize, bytes: &mut [u8; WIDEST], monitor: &mut [u64]) -> Turn
+fn state_call(input: &[u8], at: usize, bytes: &mut [u8; WIDEST], monitor: &mut [u64; SIZE]) -> Turn
     requires { ⌜ Kept (now monitor) ⌝ }
     ensures { λ t. ⌜ Turned (now (input .entry)) (supplyFrom (now (input .entry)) at .ending) (stateFrom (supplyFrom (now (input .entry)) at .ending) (supplyFrom (now (input .entry)) at .words)) (now (monitor .entry)) (now (monitor .exit)) t ⌝ }
 {
@@ -77,7 +78,7 @@ fn state_call(input: &[u8], at: usize, bytes: &mut [u8; WIDEST], monitor: &mut [
 }
 
 // The next call. `bytes` is room for a state, whatever stands there.
-pub fn call(input: &[u8], at: usize, bytes: &mut [u8; WIDEST], monitor: &mut [u64]) -> Turn
+pub fn call(input: &[u8], at: usize, bytes: &mut [u8; WIDEST], monitor: &mut [u64; SIZE]) -> Turn
     requires { ⌜ Kept (now monitor) ⌝ }
     ensures { λ t. ⌜ Turned (now (input .entry)) (supplyFrom (now (input .entry)) at .ending) (callFrom (supplyFrom (now (input .entry)) at .ending) (supplyFrom (now (input .entry)) at .words)) (now (monitor .entry)) (now (monitor .exit)) t ⌝ }
 {

@@ -12,6 +12,7 @@ ghost use Rattle.writer.specs.Buffer.{handed, inBuffer};
 ghost use Rattle.writer.specs.Finish.{finish};
 ghost use Rattle.report.specs.Report.{bookLine, linesFrom, callLines, bookThen, report};
 use calls::Turn;
+use oracle::SIZE;
 use reader::Part;
 use text::Read;
 
@@ -27,7 +28,7 @@ fn call_lines(
     input: &[u8],
     from: usize,
     count: u64,
-    monitor: &mut [u64],
+    monitor: &mut [u64; SIZE],
     out: &mut [u8],
     start: usize,
 ) -> u64
@@ -51,7 +52,13 @@ fn call_lines(
 }
 
 // The calls, after their count, on a fresh monitor.
-fn counted_calls(input: &[u8], cursor: usize, monitor: &mut [u64], out: &mut [u8], at: usize) -> u64
+fn counted_calls(
+    input: &[u8],
+    cursor: usize,
+    monitor: &mut [u64; SIZE],
+    out: &mut [u8],
+    at: usize,
+) -> u64
     requires { ⌜ Kept (now monitor) × (stateOf (now monitor) ≡ initial (bookOf (now monitor) .rows)) ⌝ }
     ensures { λ r. ⌜ handed r (now (out .exit)) ≡ finish (now (out .entry)) at (callLines (bookOf (now (monitor .entry))) (supplyFrom (now (input .entry)) cursor .ending) (supplyFrom (now (input .entry)) cursor .words)) ⌝ }
 {
@@ -74,7 +81,7 @@ fn refused_book(out: &mut [u8], number: u64) -> u64
 fn loaded_book(input: &[u8], cursor: usize, words: &[u64], out: &mut [u8]) -> u64
     ensures { λ r. ⌜ handed r (now (out .exit)) ≡ finish (now (out .entry)) 0 (bookThen (loaded (now (words .entry))) (supplyFrom (now (input .entry)) cursor .ending) (supplyFrom (now (input .entry)) cursor .words)) ⌝ }
 {
-    let mut monitor = [0u64; rows::SIZE];
+    let mut monitor = [0u64; SIZE];
     let number = store::load(words, &mut monitor);
     if number == ACCEPTED {
         let at = lines::put_book(out, 0, number);

@@ -7,9 +7,6 @@ use Prim.Native.Nat.{_-_, _≤_}
 use borrow.Author.Needs.{needs}
 use Rattle.monitor.proofs.fill.Statement.{statement}
 use Rattle.monitor.proofs.fill.Tie as tie
-use Rattle.monitor.proofs.fill.Reads as reads
-use Rattle.monitor.proofs.fill.Lts as lts
-use Rattle.monitor.proofs.read_some.Reads as read-some-reads
 
 abbrev Inv-loop : tie.InvT-loop
 Inv-loop input₀ n₀ input n = (length input ≡ length input₀) × (n ≤ length input₀)
@@ -17,70 +14,54 @@ Inv-loop input₀ n₀ input n = (length input ≡ length input₀) × (n ≤ le
 abbrev μ-loop : tie.MeasureT-loop
 μ-loop input₀ n₀ input n = length input₀ - n
 
--- src/main.rt:34:5
 loop-holds : tie.Need-loop-holds Inv-loop μ-loop
 loop-holds c = search needs
 
--- src/main.rt:35:30
 sub-read-some : tie.Need-sub-read-some Inv-loop μ-loop
 sub-read-some c = search needs
 
--- src/main.rt:35:30
 part-read-some-start : tie.Need-part-read-some-start Inv-loop μ-loop
 part-read-some-start c = search needs
 
--- src/main.rt:35:30
 part-read-some-end : tie.Need-part-read-some-end Inv-loop μ-loop
 part-read-some-end c = search needs
 
--- src/main.rt:35:13
 read-some-requires : tie.Need-read-some-requires Inv-loop μ-loop
 read-some-requires c κs = search needs
 
--- src/main.rt:36:25
 enum-known-came : tie.Need-enum-known-came Inv-loop μ-loop
 enum-known-came c = search needs
 
--- src/main.rt:37:13
 enum-told : tie.Need-enum-told Inv-loop μ-loop
 enum-told c = search needs
 
--- src/main.rt:37:13
 same-length : tie.Need-same-length Inv-loop μ-loop
 same-length c = search needs
 
--- src/main.rt:37:13
 returns : tie.Need-returns Inv-loop μ-loop
 returns c = search needs
 
--- src/main.rt:40:13
 same-length-2 : tie.Need-same-length-2 Inv-loop μ-loop
 same-length-2 c = search needs
 
--- src/main.rt:40:13
 returns-2 : tie.Need-returns-2 Inv-loop μ-loop
 returns-2 c = search needs
 
--- src/main.rt:42:9
 add-n : tie.Need-add-n Inv-loop μ-loop
 add-n c = let l = c .before .before .before .before .before .before .before .before .before .loop in omega (arith, further (l .input) (l .n) (c .before .before .before .before .before .before .read-some .ensures) (c .before .before .came .given .1) (c .before .before .before .before .before .before .before .before .loop-test .taken))
 
--- src/main.rt:34:5
 loop-less : tie.Need-loop-less Inv-loop μ-loop
 loop-less c = search needs
 
--- src/main.rt:34:5
 loop-again : tie.Need-loop-again Inv-loop μ-loop
 loop-again c = let l = c .before .before .before .before .before .before .before .before .before .loop in (
   same-len-mid (l .n) (length (l .input) - l .n) (l .input) (c .before .before .before .before .before .before .read-some .last .0) (c .before .before .before .before .before .before .read-some .kept .0) ∙ l .inv .0,
   omega (arith, l .inv .0, further (l .input) (l .n) (c .before .before .before .before .before .before .read-some .ensures) (c .before .before .came .given .1) (c .before .before .before .before .before .before .before .before .loop-test .taken)),
 )
 
--- src/main.rt:30:1
 same-length-3 : tie.Need-same-length-3 Inv-loop μ-loop
 same-length-3 c = search needs
 
--- src/main.rt:30:1
 returns-3 : tie.Need-returns-3 Inv-loop μ-loop
 returns-3 c = search needs
 

@@ -7,53 +7,37 @@ use Rattle.monitor.proofs.Bounds.{within}
 use borrow.Author.Needs.{needs}
 use Rattle.monitor.proofs.main.Statement.{statement}
 use Rattle.monitor.proofs.main.Tie as tie
-use Rattle.monitor.proofs.main.Reads as reads
-use Rattle.monitor.proofs.main.Lts as lts
-use Rattle.monitor.proofs.drain.Reads as drain-reads
-use Rattle.monitor.proofs.fill.Reads as fill-reads
-use Rattle.monitor.proofs.show.Reads as show-reads
 
--- src/main.rt:76:21
 slice-aggregate-fill : tie.Need-slice-aggregate-fill
 slice-aggregate-fill c = search needs
 
--- src/main.rt:76:9
 fill-requires : tie.Need-fill-requires
 fill-requires c κs = search needs
 
--- src/main.rt:77:21
 enum-known-came : tie.Need-enum-known-came
 enum-known-came c = search needs
 
--- src/main.rt:78:9
 enum-told : tie.Need-enum-told
 enum-told c = search needs
 
--- src/main.rt:78:9
 returns : tie.Need-returns
 returns c = search needs
 
--- src/main.rt:81:9
 drain-requires : tie.Need-drain-requires
 drain-requires c κs = search needs
 
--- src/main.rt:84:10
 array-share-prefix-input : tie.Need-array-share-prefix-input
 array-share-prefix-input c = omega (arith, within (c .before .before .before .before .before .fill .ensures) (c .before .before .came .given .1))
 
--- src/main.rt:84:10
 slice-aggregate-show : tie.Need-slice-aggregate-show
 slice-aggregate-show c = sym (length-take-le _ _ (omega (arith, within (c .before .before .before .before .before .before .fill .ensures) (c .before .before .before .came .given .1), c .before .before .before .before .before .before .fill .kept .0)))
 
--- src/main.rt:84:23
 slice-aggregate-show-2 : tie.Need-slice-aggregate-show-2
 slice-aggregate-show-2 c = sym (length-replicate {0} {A = ℕ} 2300000 0)
 
--- src/main.rt:84:5
 show-requires : tie.Need-show-requires
 show-requires c κs = search needs
 
--- src/main.rt:74:1
 returns-2 : tie.Need-returns-2
 returns-2 c = search needs
 

@@ -8,71 +8,49 @@ use Rattle.report.proofs.Going.{too-long, no-book, book-there, of-book}
 use borrow.Author.Needs.{needs}
 use Rattle.report.proofs.binefdar_report.Statement.{statement}
 use Rattle.report.proofs.binefdar_report.Tie as tie
-use Rattle.report.proofs.binefdar_report.Reads as reads
-use Rattle.report.proofs.binefdar_report.Lts as lts
-use Rattle.reader.proofs.book.Reads as book-reads
-use Rattle.report.proofs.calls.part_number.Reads as part-number-reads
-use Rattle.report.proofs.lines.stopped.Reads as stopped-reads
-use Rattle.report.proofs.loaded_book.Reads as loaded-book-reads
-use Rattle.report.proofs.refused_book.Reads as refused-book-reads
 
--- src/lib.rt:96:9
 stopped-requires : tie.Need-stopped-requires
 stopped-requires c κs = search needs
 
--- src/lib.rt:96:9
 same-length : tie.Need-same-length
 same-length c = search needs
 
--- src/lib.rt:96:9
 returns : tie.Need-returns
 returns c = ending _ _ (c .before .before .stopped .ensures) (too-long _ (c .before .before .before .before .if1 .taken)) ∙ whole _ _
 
--- src/lib.rt:99:9
 book-requires : tie.Need-book-requires
 book-requires c κs = search needs
 
--- src/lib.rt:100:21
 enum-known-read : tie.Need-enum-known-read
 enum-known-read c = search needs
 
--- src/lib.rt:101:29
 enum-told : tie.Need-enum-told
 enum-told c = search needs
 
--- src/lib.rt:101:34
 part-number-requires : tie.Need-part-number-requires
 part-number-requires c κs = search needs
 
--- src/lib.rt:101:9
 refused-book-requires : tie.Need-refused-book-requires
 refused-book-requires c κs = search needs
 
--- src/lib.rt:101:9
 same-length-2 : tie.Need-same-length-2
 same-length-2 c = search needs
 
--- src/lib.rt:101:9
 returns-2 : tie.Need-returns-2
 returns-2 c = let e = c .before .before .before .before .before .enum-told .given .1 in ending _ _ (c .before .before .refused-book .ensures) (no-book _ (c .before .before .before .before .before .before .before .before .before .if1 .left) _ (c .before .before .before .before .before .before .before .book .ensures) e (c .before .before .before .part-number .ensures ∙ sym (part-refused e))) ∙ whole _ _
 
--- src/lib.rt:103:30
 array-share-prefix-words : tie.Need-array-share-prefix-words
 array-share-prefix-words c = omega (arith, book-there _ _ (c .before .before .before .book .ensures) (c .before .read .given .1) .place)
 
--- src/lib.rt:103:30
 slice-aggregate-loaded-book : tie.Need-slice-aggregate-loaded-book
 slice-aggregate-loaded-book c = sym (length-take-le _ _ (book-there _ _ (c .before .before .before .before .book .ensures) (c .before .before .read .given .1) .place))
 
--- src/lib.rt:103:5
 loaded-book-requires : tie.Need-loaded-book-requires
 loaded-book-requires c κs = search needs
 
--- src/lib.rt:91:1
 same-length-3 : tie.Need-same-length-3
 same-length-3 c = search needs
 
--- src/lib.rt:91:1
 returns-3 : tie.Need-returns-3
 returns-3 c = ending _ _ (c .before .before .loaded-book .ensures) (of-book _ (c .before .before .before .before .before .before .before .before .before .before .if1 .left) (book-there _ _ (c .before .before .before .before .before .before .before .before .book .ensures) (c .before .before .before .before .before .before .read .given .1))) ∙ whole _ _
 

@@ -5,13 +5,6 @@ use Rattle.report.proofs.Going.{Going, go-start, go-called, go-more, go
 use borrow.Author.Needs.{needs}
 use Rattle.report.proofs.call_lines.Statement.{statement}
 use Rattle.report.proofs.call_lines.Tie as tie
-use Rattle.report.proofs.call_lines.Reads as reads
-use Rattle.report.proofs.call_lines.Lts as lts
-use Rattle.report.proofs.calls.call.Reads as call-reads
-use Rattle.report.proofs.calls.turn_number.Reads as turn-number-reads
-use Rattle.report.proofs.lines.last.Reads as last-reads
-use Rattle.report.proofs.lines.put_call.Reads as put-call-reads
-use Rattle.report.proofs.lines.stopped.Reads as stopped-reads
 
 abbrev Inv-loop : tie.InvT-loop
 Inv-loop input from count monitor₀ out₀ start bytes₀ at₀ cursor₀ done₀ monitor out bytes at cursor done = Going input from count monitor₀ out₀ start monitor out at cursor done
@@ -19,75 +12,51 @@ Inv-loop input from count monitor₀ out₀ start bytes₀ at₀ cursor₀ done�
 abbrev μ-loop : tie.MeasureT-loop
 μ-loop input from count monitor₀ out₀ start bytes₀ at₀ cursor₀ done₀ monitor out bytes at cursor done = count - done
 
--- src/lib.rt:39:5
 loop-holds : tie.Need-loop-holds Inv-loop μ-loop
-loop-holds c = go-start _ _ _ _ _ _ (c .before .before .before .pre)
+loop-holds c = go-start _ _ _ _ _ _ (c .before .before .pre)
 
--- src/lib.rt:40:13
 call-requires : tie.Need-call-requires Inv-loop μ-loop
 call-requires c κs = search needs
 
--- src/lib.rt:41:24
 enum-known-t : tie.Need-enum-known-t Inv-loop μ-loop
 enum-known-t c = search needs
 
--- src/lib.rt:42:35
 enum-told : tie.Need-enum-told Inv-loop μ-loop
 enum-told c = search needs
 
--- src/lib.rt:42:44
 turn-number-requires : tie.Need-turn-number-requires Inv-loop μ-loop
 turn-number-requires c κs = search needs
 
--- src/lib.rt:42:13
 stopped-requires : tie.Need-stopped-requires Inv-loop μ-loop
 stopped-requires c κs = search needs
 
--- src/lib.rt:42:13
 same-length : tie.Need-same-length Inv-loop μ-loop
 same-length c = search needs
 
--- src/lib.rt:42:13
-same-length-2 : tie.Need-same-length-2 Inv-loop μ-loop
-same-length-2 c = search needs
-
--- src/lib.rt:42:13
 returns : tie.Need-returns Inv-loop μ-loop
-returns c = let e = c .before .before .before .before .before .enum-told .given .1 in go-stop (c .before .before .before .before .before .before .before .before .before .before .before .before .before .loop .inv) _ (c .before .before .before .before .before .before .before .before .before .call .ensures) e (c .before .before .before .before .before .before .before .before .before .before .before .before .loop-test .taken) (c .before .before .stopped .ensures) (c .before .before .before .turn-number .ensures ∙ sym (turn-stopped e))
+returns c = let e = c .before .before .before .before .before .enum-told .given .1 in go-stop (c .before .before .before .before .before .before .before .before .before .before .before .loop .inv) _ (c .before .before .before .before .before .before .before .call .ensures) e (c .before .before .before .before .before .before .before .before .before .before .loop-test .taken) (c .before .before .stopped .ensures) (c .before .before .before .turn-number .ensures ∙ sym (turn-stopped e))
 
--- src/lib.rt:44:39
 add-put-call : tie.Need-add-put-call Inv-loop μ-loop
 add-put-call c = search needs
 
--- src/lib.rt:44:9
 put-call-requires : tie.Need-put-call-requires Inv-loop μ-loop
-put-call-requires c κs = go-called (c .before .before .before .before .before .before .before .before .before .before .before .loop .inv) _ (c .before .before .before .before .before .before .before .call .ensures) (c .before .before .before .t .given .1) .called .kept
+put-call-requires c κs = go-called (c .before .before .before .before .before .before .before .before .before .before .loop .inv) _ (c .before .before .before .before .before .before .call .ensures) (c .before .before .before .before .t .given .1) .called .kept
 
--- src/lib.rt:46:9
 add-done : tie.Need-add-done Inv-loop μ-loop
 add-done c = search needs
 
--- src/lib.rt:39:5
 loop-less : tie.Need-loop-less Inv-loop μ-loop
 loop-less c = search needs
 
--- src/lib.rt:39:5
 loop-again : tie.Need-loop-again Inv-loop μ-loop
-loop-again c = let g = c .before .before .before .before .before .before .before .before .before .before .before .before .before .before .loop .inv in go-more g (go-called g _ (c .before .before .before .before .before .before .before .before .before .before .call .ensures) (c .before .before .before .before .before .before .t .given .1)) (c .before .before .before .before .before .before .before .before .before .before .before .before .before .loop-test .taken) (c .before .before .put-call .ensures) (c .before .before .put-call .kept .0) (c .before .before .before .before .before .before .before .before .before .before .call .kept .1 .1 .1 .0)
+loop-again c = let g = c .before .before .before .before .before .before .before .before .before .before .before .before .before .loop .inv in go-more g (go-called g _ (c .before .before .before .before .before .before .before .before .before .call .ensures) (c .before .before .before .before .before .before .before .t .given .1)) (c .before .before .before .before .before .before .before .before .before .before .before .before .loop-test .taken) (c .before .before .put-call .ensures) (c .before .before .put-call .kept .0)
 
--- src/lib.rt:48:5
 last-requires : tie.Need-last-requires Inv-loop μ-loop
 last-requires c κs = search needs
 
--- src/lib.rt:24:1
-same-length-3 : tie.Need-same-length-3 Inv-loop μ-loop
-same-length-3 c = search needs
+same-length-2 : tie.Need-same-length-2 Inv-loop μ-loop
+same-length-2 c = search needs
 
--- src/lib.rt:24:1
-same-length-4 : tie.Need-same-length-4 Inv-loop μ-loop
-same-length-4 c = search needs
-
--- src/lib.rt:24:1
 returns-2 : tie.Need-returns-2 Inv-loop μ-loop
 returns-2 c = go-end (c .before .before .before .before .before .loop .inv) (c .before .before .before .before .loop-test .left) (c .before .before .last .ensures)
 
@@ -104,7 +73,6 @@ call-lines-spec =
     turn-number-requires
     stopped-requires
     same-length
-    same-length-2
     returns
     add-put-call
     put-call-requires
@@ -112,6 +80,5 @@ call-lines-spec =
     loop-less
     loop-again
     last-requires
-    same-length-3
-    same-length-4
+    same-length-2
     returns-2)

@@ -5,59 +5,35 @@ use Rattle.report.proofs.Turns.{no-kind, other-kind, turned-time, turne
 use borrow.Author.Needs.{needs}
 use Rattle.report.proofs.calls.call.Statement.{statement}
 use Rattle.report.proofs.calls.call.Tie as tie
-use Rattle.report.proofs.calls.call.Reads as reads
-use Rattle.report.proofs.calls.call.Lts as lts
-use Rattle.reader.proofs.number_of.Reads as number-of-reads
-use Rattle.report.proofs.calls.state_call.Reads as state-call-reads
-use Rattle.report.proofs.calls.time_call.Reads as time-call-reads
-use Rattle.text.proofs.next_word.Reads as next-word-reads
 
--- src/calls.rt:84:9
 next-word-requires : tie.Need-next-word-requires
 next-word-requires c κs = search needs
 
--- src/calls.rt:85:20
 enum-known-r : tie.Need-enum-known-r
 enum-known-r c = search needs
 
--- src/calls.rt:86:30
 enum-told : tie.Need-enum-told
 enum-told c = search needs
 
--- src/calls.rt:86:30
 number-of-requires : tie.Need-number-of-requires
 number-of-requires c κs = search needs
 
--- src/calls.rt:86:9
 returns : tie.Need-returns
 unfolding Turned
 returns c = let e = c .before .enum-told .given .1 in no-kind _ _ (sym (c .before .before .before .next-word .ensures) ∙ e) (c .number-of .ensures ∙ sym (number e))
 
--- src/calls.rt:89:9
 time-call-requires : tie.Need-time-call-requires
 time-call-requires c κs = search needs
 
--- src/calls.rt:89:9
-same-length : tie.Need-same-length
-same-length c = search needs
-
--- src/calls.rt:89:9
 returns-2 : tie.Need-returns-2
-returns-2 c = turned-time _ _ (sym (c .before .before .before .before .before .before .before .before .next-word .ensures) ∙ c .before .before .before .before .before .before .r .given .1) _ _ _ (c .before .before .before .before .if1 .taken) (c .before .before .time-call .ensures)
+returns-2 c = turned-time _ _ (sym (c .before .before .before .before .before .before .next-word .ensures) ∙ c .before .before .before .before .r .given .1) _ _ _ (c .before .before .if1 .taken) (c .time-call .ensures)
 
--- src/calls.rt:92:9
 state-call-requires : tie.Need-state-call-requires
 state-call-requires c κs = search needs
 
--- src/calls.rt:92:9
-same-length-2 : tie.Need-same-length-2
-same-length-2 c = search needs
-
--- src/calls.rt:92:9
 returns-3 : tie.Need-returns-3
-returns-3 c = turned-state _ _ (sym (c .before .before .before .before .before .before .before .before .before .before .next-word .ensures) ∙ c .before .before .before .before .before .before .before .before .r .given .1) _ _ _ (c .before .before .before .before .before .if2 .taken) (c .before .before .state-call .ensures)
+returns-3 c = turned-state _ _ (sym (c .before .before .before .before .before .before .before .before .next-word .ensures) ∙ c .before .before .before .before .before .before .r .given .1) _ _ _ (c .before .before .before .if2 .taken) (c .state-call .ensures)
 
--- src/calls.rt:80:1
 returns-4 : tie.Need-returns-4
 unfolding Turned
 returns-4 c = other-kind _ _ (sym (c .before .before .before .before .before .next-word .ensures) ∙ c .before .before .before .r .given .1) (c .before .if1 .left) (c .if2 .left)
@@ -72,9 +48,7 @@ call-spec =
     number-of-requires
     returns
     time-call-requires
-    same-length
     returns-2
     state-call-requires
-    same-length-2
     returns-3
     returns-4)

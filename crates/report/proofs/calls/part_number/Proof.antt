@@ -2,22 +2,16 @@ use Rattle.report.proofs.Turns.{part-refused, part-read}
 use borrow.Author.Needs.{needs}
 use Rattle.report.proofs.calls.part_number.Statement.{statement}
 use Rattle.report.proofs.calls.part_number.Tie as tie
-use Rattle.report.proofs.calls.part_number.Reads as reads
-use Rattle.report.proofs.calls.part_number.Lts as lts
 
--- src/calls.rt:35:30
 enum-told : tie.Need-enum-told
 enum-told c = search needs
 
--- src/calls.rt:36:23
 enum-known-p : tie.Need-enum-known-p
 enum-known-p c = search needs
 
--- src/calls.rt:31:1
 returns : tie.Need-returns
 returns c = part-read (c .enum-told .given .1)
 
--- src/calls.rt:31:1
 returns-2 : tie.Need-returns-2
 returns-2 c = part-refused (c .before .p .given .1)
 

@@ -5,45 +5,29 @@ use Rattle.report.proofs.Turns.{no-time, timed}
 use borrow.Author.Needs.{needs}
 use Rattle.report.proofs.calls.time_call.Statement.{statement}
 use Rattle.report.proofs.calls.time_call.Tie as tie
-use Rattle.report.proofs.calls.time_call.Reads as reads
-use Rattle.report.proofs.calls.time_call.Lts as lts
-use Rattle.oracle.proofs.update_time.Reads as update-time-reads
-use Rattle.reader.proofs.number_of.Reads as number-of-reads
-use Rattle.text.proofs.next_word.Reads as next-word-reads
 
--- src/calls.rt:53:9
 next-word-requires : tie.Need-next-word-requires
 next-word-requires c κs = search needs
 
--- src/calls.rt:54:20
 enum-known-r : tie.Need-enum-known-r
 enum-known-r c = search needs
 
--- src/calls.rt:55:30
 enum-told : tie.Need-enum-told
 enum-told c = search needs
 
--- src/calls.rt:55:30
 number-of-requires : tie.Need-number-of-requires
 number-of-requires c κs = search needs
 
--- src/calls.rt:55:9
 returns : tie.Need-returns
 unfolding Turned
 returns c = let e = c .before .enum-told .given .1 in no-time _ _ (sym (c .before .before .before .next-word .ensures) ∙ e) (c .number-of .ensures ∙ sym (number e))
 
--- src/calls.rt:57:16
 update-time-requires : tie.Need-update-time-requires
 update-time-requires c κs = search needs
 
--- src/calls.rt:49:1
-same-length : tie.Need-same-length
-same-length c = search needs
-
--- src/calls.rt:49:1
 returns-2 : tie.Need-returns-2
 unfolding Turned
-returns-2 c = timed _ _ (sym (c .before .before .before .before .before .before .before .next-word .ensures) ∙ c .before .before .before .before .before .r .given .1) (c .before .before .update-time .ensures)
+returns-2 c = timed _ _ (sym (c .before .before .before .before .before .next-word .ensures) ∙ c .before .before .before .r .given .1) (c .update-time .ensures)
 
 pub time-call-spec : {M : Type 1} → statement M
 time-call-spec =
@@ -55,5 +39,4 @@ time-call-spec =
     number-of-requires
     returns
     update-time-requires
-    same-length
     returns-2)

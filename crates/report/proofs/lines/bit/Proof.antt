@@ -1,14 +1,10 @@
 use borrow.Author.Needs.{needs}
 use Rattle.report.proofs.lines.bit.Statement.{statement}
 use Rattle.report.proofs.lines.bit.Tie as tie
-use Rattle.report.proofs.lines.bit.Reads as reads
-use Rattle.report.proofs.lines.bit.Lts as lts
 
--- src/lines.rt:73:1
 returns : tie.Need-returns
 returns c = rw (c .if1 .taken)
 
--- src/lines.rt:73:1
 returns-2 : tie.Need-returns-2
 returns-2 c = rw (c .if1 .left)
 

@@ -1,30 +1,22 @@
 use borrow.Author.Needs.{needs}
 use Rattle.report.proofs.lines.digit.Statement.{statement}
 use Rattle.report.proofs.lines.digit.Tie as tie
-use Rattle.report.proofs.lines.digit.Reads as reads
-use Rattle.report.proofs.lines.digit.Lts as lts
 
--- src/lines.rt:83:26
 enum-told : tie.Need-enum-told
 enum-told c = search needs
 
--- src/lines.rt:84:25
 enum-told-2 : tie.Need-enum-told-2
 enum-told-2 c = search needs
 
--- src/lines.rt:85:25
 enum-told-3 : tie.Need-enum-told-3
 enum-told-3 c = search needs
 
--- src/lines.rt:79:1
 returns : tie.Need-returns
 returns c = rw (c .enum-told .given .1)
 
--- src/lines.rt:79:1
 returns-2 : tie.Need-returns-2
 returns-2 c = rw (c .enum-told2 .given .1)
 
--- src/lines.rt:79:1
 returns-3 : tie.Need-returns-3
 returns-3 c = rw (c .enum-told3 .given .1)
 

@@ -3,57 +3,40 @@ use Rattle.report.proofs.Lasting.{ending, last-word, last-bad, last-end
 use borrow.Author.Needs.{needs}
 use Rattle.report.proofs.lines.last.Statement.{statement}
 use Rattle.report.proofs.lines.last.Tie as tie
-use Rattle.report.proofs.lines.last.Reads as reads
-use Rattle.report.proofs.lines.last.Lts as lts
-use Rattle.report.proofs.lines.ended.Reads as ended-reads
-use Rattle.report.proofs.lines.stopped.Reads as stopped-reads
-use Rattle.text.proofs.next_word.Reads as next-word-reads
 
--- src/lines.rt:62:9
 next-word-requires : tie.Need-next-word-requires
 next-word-requires c κs = search needs
 
--- src/lines.rt:63:23
 enum-known-r : tie.Need-enum-known-r
 enum-known-r c = search needs
 
--- src/lines.rt:64:24
 enum-told : tie.Need-enum-told
 enum-told c = search needs
 
--- src/lines.rt:64:9
 stopped-requires : tie.Need-stopped-requires
 stopped-requires c κs = search needs
 
--- src/lines.rt:64:9
 same-length : tie.Need-same-length
 same-length c = search needs
 
--- src/lines.rt:64:9
 returns : tie.Need-returns
 returns c = ending _ _ (c .before .before .stopped .ensures) (last-word _ _ (sym (c .before .before .before .before .before .before .next-word .ensures) ∙ c .before .before .before .before .enum-told .given .1))
 
--- src/lines.rt:67:9
 stopped-requires-2 : tie.Need-stopped-requires-2
 stopped-requires-2 c κs = search needs
 
--- src/lines.rt:67:9
 same-length-2 : tie.Need-same-length-2
 same-length-2 c = search needs
 
--- src/lines.rt:67:9
 returns-2 : tie.Need-returns-2
 returns-2 c = ending _ _ (c .before .before .stopped2 .ensures) (last-bad _ _ (sym (c .before .before .before .before .before .before .before .before .next-word .ensures) ∙ c .before .before .before .before .before .before .r .given .1) (c .before .before .before .before .if1 .taken))
 
--- src/lines.rt:69:5
 ended-requires : tie.Need-ended-requires
 ended-requires c κs = search needs
 
--- src/lines.rt:59:1
 same-length-3 : tie.Need-same-length-3
 same-length-3 c = search needs
 
--- src/lines.rt:59:1
 returns-3 : tie.Need-returns-3
 returns-3 c = ending _ _ (c .before .before .ended .ensures) (last-end _ _ (sym (c .before .before .before .before .before .before .before .before .next-word .ensures) ∙ c .before .before .before .before .before .before .r .given .1) (c .before .before .before .before .if1 .left))
 

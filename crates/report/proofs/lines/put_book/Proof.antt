@@ -3,36 +3,25 @@ use Rattle.writer.proofs.Writes.{and-then}
 use borrow.Author.Needs.{needs}
 use Rattle.report.proofs.lines.put_book.Statement.{statement}
 use Rattle.report.proofs.lines.put_book.Tie as tie
-use Rattle.report.proofs.lines.put_book.Reads as reads
-use Rattle.report.proofs.lines.put_book.Lts as lts
-use Rattle.writer.proofs.put_bytes.Reads as put-bytes-reads
-use Rattle.writer.proofs.put_number.Reads as put-number-reads
 
--- src/lines.rt:29:40
 slice-aggregate-put-bytes : tie.Need-slice-aggregate-put-bytes
 slice-aggregate-put-bytes c = search needs
 
--- src/lines.rt:29:9
 put-bytes-requires : tie.Need-put-bytes-requires
 put-bytes-requires c κs = search needs
 
--- src/lines.rt:30:9
 put-number-requires : tie.Need-put-number-requires
 put-number-requires c κs = search needs
 
--- src/lines.rt:31:31
 slice-aggregate-put-bytes-2 : tie.Need-slice-aggregate-put-bytes-2
 slice-aggregate-put-bytes-2 c = search needs
 
--- src/lines.rt:31:5
 put-bytes-requires-2 : tie.Need-put-bytes-requires-2
 put-bytes-requires-2 c κs = search needs
 
--- src/lines.rt:26:1
 same-length : tie.Need-same-length
 same-length c = search needs
 
--- src/lines.rt:26:1
 returns : tie.Need-returns
 unfolding bookLine
 returns c = and-then (and-then (c .before .before .before .before .before .before .before .before .before .before .before .put-bytes .ensures) (c .before .before .before .before .before .before .before .put-number .ensures)) (c .before .before .put-bytes2 .ensures)

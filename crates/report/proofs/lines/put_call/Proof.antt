@@ -2,49 +2,34 @@ use Rattle.report.proofs.Lasting.{line-accepted, line-refused}
 use borrow.Author.Needs.{needs}
 use Rattle.report.proofs.lines.put_call.Statement.{statement}
 use Rattle.report.proofs.lines.put_call.Tie as tie
-use Rattle.report.proofs.lines.put_call.Reads as reads
-use Rattle.report.proofs.lines.put_call.Lts as lts
-use Rattle.report.proofs.lines.put_numbers.Reads as put-numbers-reads
-use Rattle.report.proofs.lines.put_verdicts.Reads as put-verdicts-reads
-use Rattle.writer.proofs.put_bytes.Reads as put-bytes-reads
 
--- src/lines.rt:131:9
 put-numbers-requires : tie.Need-put-numbers-requires
 put-numbers-requires c κs = search needs
 
--- src/lines.rt:133:13
 put-verdicts-requires : tie.Need-put-verdicts-requires
 put-verdicts-requires c κs = search needs
 
--- src/lines.rt:134:42
 slice-aggregate-put-bytes : tie.Need-slice-aggregate-put-bytes
 slice-aggregate-put-bytes c = search needs
 
--- src/lines.rt:134:9
 put-bytes-requires : tie.Need-put-bytes-requires
 put-bytes-requires c κs = search needs
 
--- src/lines.rt:134:9
 same-length : tie.Need-same-length
 same-length c = search needs
 
--- src/lines.rt:134:9
 returns : tie.Need-returns
 returns c = line-accepted _ _ _ _ (c .before .before .before .before .before .before .before .before .before .before .before .before .put-numbers .ensures) (c .before .before .before .before .before .before .before .before .before .if1 .taken) (c .before .before .before .before .before .before .before .put-verdicts .ensures) (c .before .before .put-bytes .ensures)
 
--- src/lines.rt:136:31
 slice-aggregate-put-bytes-2 : tie.Need-slice-aggregate-put-bytes-2
 slice-aggregate-put-bytes-2 c = search needs
 
--- src/lines.rt:136:5
 put-bytes-requires-2 : tie.Need-put-bytes-requires-2
 put-bytes-requires-2 c κs = search needs
 
--- src/lines.rt:127:1
 same-length-2 : tie.Need-same-length-2
 same-length-2 c = search needs
 
--- src/lines.rt:127:1
 returns-2 : tie.Need-returns-2
 returns-2 c = line-refused _ _ _ _ (c .before .before .before .before .before .before .before .before .put-numbers .ensures) (c .before .before .before .before .before .if1 .left) (c .before .before .put-bytes2 .ensures)
 

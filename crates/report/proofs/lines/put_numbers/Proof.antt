@@ -2,32 +2,22 @@ use Rattle.writer.proofs.Writes.{and-then}
 use borrow.Author.Needs.{needs}
 use Rattle.report.proofs.lines.put_numbers.Statement.{statement}
 use Rattle.report.proofs.lines.put_numbers.Tie as tie
-use Rattle.report.proofs.lines.put_numbers.Reads as reads
-use Rattle.report.proofs.lines.put_numbers.Lts as lts
-use Rattle.writer.proofs.put_bytes.Reads as put-bytes-reads
-use Rattle.writer.proofs.put_number.Reads as put-number-reads
 
--- src/lines.rt:121:9
 put-number-requires : tie.Need-put-number-requires
 put-number-requires c κs = search needs
 
--- src/lines.rt:122:39
 slice-aggregate-put-bytes : tie.Need-slice-aggregate-put-bytes
 slice-aggregate-put-bytes c = search needs
 
--- src/lines.rt:122:9
 put-bytes-requires : tie.Need-put-bytes-requires
 put-bytes-requires c κs = search needs
 
--- src/lines.rt:123:5
 put-number-requires-2 : tie.Need-put-number-requires-2
 put-number-requires-2 c κs = search needs
 
--- src/lines.rt:118:1
 same-length : tie.Need-same-length
 same-length c = search needs
 
--- src/lines.rt:118:1
 returns : tie.Need-returns
 returns c = and-then (c .before .before .before .before .before .before .before .before .before .before .before .put-number .ensures) (and-then (c .before .before .before .before .before .before .put-bytes .ensures) (c .before .before .put-number2 .ensures))
 

@@ -3,37 +3,25 @@ use Rattle.report.specs.Report.{verdictWord}
 use borrow.Author.Needs.{needs}
 use Rattle.report.proofs.lines.put_verdict.Statement.{statement}
 use Rattle.report.proofs.lines.put_verdict.Tie as tie
-use Rattle.report.proofs.lines.put_verdict.Reads as reads
-use Rattle.report.proofs.lines.put_verdict.Lts as lts
-use Rattle.report.proofs.lines.bit.Reads as bit-reads
-use Rattle.report.proofs.lines.digit.Reads as digit-reads
-use Rattle.writer.proofs.put_bytes.Reads as put-bytes-reads
 
--- src/lines.rt:96:23
 bit-requires : tie.Need-bit-requires
 bit-requires c κs = search needs
 
--- src/lines.rt:96:35
 digit-requires : tie.Need-digit-requires
 digit-requires c κs = search needs
 
--- src/lines.rt:96:49
 digit-requires-2 : tie.Need-digit-requires-2
 digit-requires-2 c κs = search needs
 
--- src/lines.rt:97:32
 slice-aggregate-put-bytes : tie.Need-slice-aggregate-put-bytes
 slice-aggregate-put-bytes c = search needs
 
--- src/lines.rt:97:5
 put-bytes-requires : tie.Need-put-bytes-requires
 put-bytes-requires c κs = search needs
 
--- src/lines.rt:90:1
 same-length : tie.Need-same-length
 same-length c = search needs
 
--- src/lines.rt:90:1
 returns : tie.Need-returns
 unfolding verdictWord
 returns c = same-bytes (c .before .before .put-bytes .ensures) (rw (c .before .before .before .before .before .before .before .bit .ensures, c .before .before .before .before .before .before .digit .ensures, c .before .before .before .before .before .digit2 .ensures))

@@ -8,10 +8,6 @@ use Rattle.report.proofs.Lasting.{few-properties, Wording, word-start, 
 use borrow.Author.Needs.{needs}
 use Rattle.report.proofs.lines.put_verdicts.Statement.{statement}
 use Rattle.report.proofs.lines.put_verdicts.Tie as tie
-use Rattle.report.proofs.lines.put_verdicts.Reads as reads
-use Rattle.report.proofs.lines.put_verdicts.Lts as lts
-use Rattle.report.proofs.lines.put_verdict.Reads as put-verdict-reads
-use Rattle.verdicts.proofs.all.Reads as all-reads
 
 abbrev Inv-loop : tie.InvT-loop
 Inv-loop out₀ at monitor count list p₀ i₀ out p i = Wording (bookOf monitor) (stateOf monitor) count out₀ at out p i
@@ -19,43 +15,33 @@ Inv-loop out₀ at monitor count list p₀ i₀ out p i = Wording (bookOf monito
 abbrev μ-loop : tie.MeasureT-loop
 μ-loop out₀ at monitor count list p₀ i₀ out p i = count - i
 
--- src/lines.rt:105:9
 all-requires : tie.Need-all-requires Inv-loop μ-loop
 all-requires c κs = search needs
 
--- src/lines.rt:110:5
 loop-holds : tie.Need-loop-holds Inv-loop μ-loop
 loop-holds c = word-start _ _ _ _ _
 
--- src/lines.rt:111:33
 mul-put-verdict : tie.Need-mul-put-verdict Inv-loop μ-loop
 mul-put-verdict c = omega (arith, c .before .before .before .before .all .ensures .0, few-properties (c .before .before .before .before .before .before .before .pre))
 
--- src/lines.rt:111:33
 array-copy-out-put-verdict : tie.Need-array-copy-out-put-verdict Inv-loop μ-loop
 array-copy-out-put-verdict c = omega (arith, c .before .before .before .before .all .ensures .0, few-properties (c .before .before .before .before .before .before .before .pre))
 
--- src/lines.rt:111:9
 put-verdict-requires : tie.Need-put-verdict-requires Inv-loop μ-loop
 put-verdict-requires c κs = search needs
 
--- src/lines.rt:112:9
 add-i : tie.Need-add-i Inv-loop μ-loop
 add-i c = search needs
 
--- src/lines.rt:110:5
 loop-less : tie.Need-loop-less Inv-loop μ-loop
 loop-less c = search needs
 
--- src/lines.rt:110:5
 loop-again : tie.Need-loop-again Inv-loop μ-loop
 loop-again c = word-more (c .before .before .before .before .before .before .loop .inv) (c .before .before .before .before .before .loop-test .taken) (same-bytes (c .before .before .put-verdict .ensures) (listed-word _ _ _ _ (c .before .before .before .before .before .before .before .before .all .ensures .1) (omega (arith, c .before .before .before .before .before .before .before .before .all .ensures .0, few-properties (c .before .before .before .before .before .before .before .before .before .before .before .pre))))) (c .before .before .put-verdict .kept .0)
 
--- src/lines.rt:101:1
 same-length : tie.Need-same-length Inv-loop μ-loop
 same-length c = search needs
 
--- src/lines.rt:101:1
 returns : tie.Need-returns Inv-loop μ-loop
 returns c = word-done (c .before .loop .inv) (c .loop-test .left) (c .before .before .before .all .ensures .0)
 

@@ -3,24 +3,16 @@ use Rattle.writer.proofs.Writes.{at-end}
 use borrow.Author.Needs.{needs}
 use Rattle.report.proofs.lines.stopped.Statement.{statement}
 use Rattle.report.proofs.lines.stopped.Tie as tie
-use Rattle.report.proofs.lines.stopped.Reads as reads
-use Rattle.report.proofs.lines.stopped.Lts as lts
-use Rattle.report.proofs.lines.put_stop.Reads as put-stop-reads
-use Rattle.writer.proofs.finished.Reads as finished-reads
 
--- src/lines.rt:46:9
 put-stop-requires : tie.Need-put-stop-requires
 put-stop-requires c κs = search needs
 
--- src/lines.rt:47:5
 finished-requires : tie.Need-finished-requires
 finished-requires c κs = search needs
 
--- src/lines.rt:43:1
 same-length : tie.Need-same-length
 same-length c = search needs
 
--- src/lines.rt:43:1
 returns : tie.Need-returns
 returns c = c .before .before .finished .ensures ∙ at-end (c .before .before .before .before .before .before .put-stop .ensures)
 
