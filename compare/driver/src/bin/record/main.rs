@@ -1,8 +1,9 @@
 //! Writes the recorded answers: inputs with the reports expected of them, chosen so that every kind, every early rule and
 //! every kind of range is decided both ways.
 //!
-//! record FOLDER            NAME.in and NAME.out for each input, and decided.txt: what they decide
-//! record --joined IN OUT   all inputs in one file, each after its length and a line feed; all reports in another
+//! record IN OUT DECIDED   all inputs in one file, each after its length and a line feed; all reports in another; what they
+//!                         decide in a third
+//! record FOLDER           NAME.in and NAME.out for each input
 
 mod examples;
 mod required;
@@ -110,14 +111,17 @@ fn all() -> Result<(Vec<Recorded>, Sentences), String> {
     }
 }
 
-fn write_folder(folder: &Path, all: &[Recorded], decides: &Sentences) -> io::Result<()> {
+fn write_folder(folder: &Path, all: &[Recorded]) -> io::Result<()> {
     fs::create_dir_all(folder)?;
     for r in all {
         fs::write(folder.join(format!("{}.in", r.name)), &r.input)?;
         fs::write(folder.join(format!("{}.out", r.name)), &r.output)?;
     }
-    let lines: String = decides.iter().map(|s| format!("{s}\n")).collect();
-    fs::write(folder.join("decided.txt"), lines)
+    Ok(())
+}
+
+fn write_decided(path: &str, decides: &Sentences) -> io::Result<()> {
+    fs::write(path, decides.iter().map(|s| format!("{s}\n")).collect::<String>())
 }
 
 fn write_joined(input: &str, output: &str, all: &[Recorded]) -> io::Result<()> {
@@ -135,9 +139,9 @@ fn run() -> Result<(), String> {
     let words: Vec<&str> = words.iter().map(String::as_str).collect();
     let (all, decides) = all()?;
     match words[..] {
-        ["--joined", input, output] => write_joined(input, output, &all),
-        [folder] => write_folder(Path::new(folder), &all, &decides),
-        _ => return Err("record FOLDER, or record --joined IN OUT".to_string()),
+        [input, output, path] => write_joined(input, output, &all).and_then(|()| write_decided(path, &decides)),
+        [folder] => write_folder(Path::new(folder), &all),
+        _ => return Err("record IN OUT DECIDED, or record FOLDER".to_string()),
     }
     .map_err(|e| e.to_string())?;
     let (inputs, outputs) = all.iter().fold((0, 0), |(i, o), r| (i + r.input.len(), o + r.output.len()));

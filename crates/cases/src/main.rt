@@ -1,0 +1,258 @@
+// Document 01's examples that are run and not proved, each refusal of a call, and early answers where the lower bound is above 0.
+// Each call has a line with the number that it handed back and, for each property, value, early and settled: 2 is open.
+mod play;
+mod words;
+
+ghost use Rattle.cases.specs.Held.{Held};
+ghost use Rattle.book.specs.Kept.{Kept};
+use play::load;
+use play::state;
+use play::text;
+use play::time;
+use rows::ATOM;
+use rows::FALSE;
+use rows::HISTORICALLY;
+use rows::NOT;
+use rows::ONCE;
+use rows::SINCE;
+use rows::SIZE;
+use rows::TRUE;
+use words::Words;
+
+// Unbounded.
+const MAX: u64 = 0xffff_ffff_ffff_ffff;
+
+// The last time that a call may set.
+const H: u64 = 0x7fff_ffff_ffff_ffff;
+
+// A run at every second instant from 0 up to this one makes a full set.
+const FULL: u64 = 126;
+
+fn whole_case() {
+    text(b"The whole case: Historically[0,MAX] Once[0,MAX] a0\n");
+    let book = Words::of(3)
+        .row(ATOM, 0, 0, 0)
+        .row(ONCE, 1, 0, MAX)
+        .row(HISTORICALLY, 1, 0, MAX)
+        .section(&[0, 1])
+        .section(&[])
+        .section(&[2]);
+    let mut monitor = [0u64; SIZE];
+    load(&mut monitor, book);
+    state(&mut monitor, &[0]);
+    time(&mut monitor, 1);
+    state(&mut monitor, &[1]);
+    time(&mut monitor, 5);
+}
+
+// The argument is settled false, but the set is not empty: settled stays open, even when the range is left.
+fn lapsed() {
+    text(b"Once[0,5] Historically[0,MAX] a0\n");
+    let book = Words::of(3)
+        .row(ATOM, 0, 0, 0)
+        .row(HISTORICALLY, 1, 0, MAX)
+        .row(ONCE, 1, 0, 5)
+        .section(&[0, 1])
+        .section(&[])
+        .section(&[2]);
+    let mut monitor = [0u64; SIZE];
+    load(&mut monitor, book);
+    state(&mut monitor, &[1]);
+    state(&mut monitor, &[0]);
+    time(&mut monitor, 6);
+}
+
+// Once[0,0] a0: a run for each instant at which a0 held.
+fn now_or_never() -> Words
+    ensures { λ r. ⌜ Held r ⌝ }
+{
+    Words::of(2)
+        .row(ATOM, 0, 0, 0)
+        .row(ONCE, 1, 0, 0)
+        .section(&[0])
+        .section(&[])
+        .section(&[1])
+}
+
+// A time call at every second instant.
+fn fill(monitor: &mut [u64; SIZE])
+    requires { ⌜ Kept (now monitor) ⌝ }
+    ensures { λ _. ⌜ Kept (now (monitor .exit)) ⌝ }
+{
+    let mut t = 0;
+    while t < FULL {
+        t += 2;
+        time(monitor, t);
+    }
+}
+
+// A full set refuses one more run, and joins what touches a run.
+fn full() {
+    text(b"Once[0,0] a0, up to 64 runs\n");
+    let mut monitor = [0u64; SIZE];
+    load(&mut monitor, now_or_never());
+    state(&mut monitor, &[1]);
+    fill(&mut monitor);
+    time(&mut monitor, 128);
+    time(&mut monitor, 127);
+    time(&mut monitor, 128);
+}
+
+fn last_time() {
+    text(b"Once[0,0] a0, at the last time\n");
+    let mut monitor = [0u64; SIZE];
+    load(&mut monitor, now_or_never());
+    state(&mut monitor, &[1]);
+    time(&mut monitor, H);
+    time(&mut monitor, H + 1);
+    state(&mut monitor, &[0]);
+}
+
+// Calls that are refused, between answers that must stay as they were.
+fn refused_calls() {
+    text(b"Since(a0,a1)[0,MAX] and Once[5,5] a1, with calls that are refused\n");
+    let book = Words::of(5)
+        .row(ATOM, 0, 0, 0)
+        .row(ATOM, 1, 0, 0)
+        .row(SINCE, 2, 0, MAX)
+        .row(ATOM, 1, 0, 0)
+        .row(ONCE, 1, 5, 5)
+        .section(&[0, 1, 3])
+        .section(&[2])
+        .section(&[4]);
+    let mut monitor = [0u64; SIZE];
+    load(&mut monitor, book);
+    state(&mut monitor, &[0, 1]);
+    state(&mut monitor, &[1, 0]);
+    time(&mut monitor, 5);
+    refusals(&mut monitor);
+    time(&mut monitor, 5);
+    state(&mut monitor, &[0, 0]);
+}
+
+fn refusals(monitor: &mut [u64; SIZE])
+    requires { ⌜ Kept (now monitor) ⌝ }
+    ensures { λ _. ⌜ Kept (now (monitor .exit)) ⌝ }
+{
+    time(monitor, 4);
+    time(monitor, H + 1);
+    play::wide_state(monitor);
+    state(monitor, &[0]);
+    state(monitor, &[0, 2]);
+    state(monitor, &[0, 0, 2]);
+}
+
+// A refused book gives an empty one, which takes calls.
+fn refused_book() {
+    text(b"A book of one row that is not there\n");
+    let mut monitor = [0u64; SIZE];
+    load(&mut monitor, Words::of(1));
+    time(&mut monitor, 3);
+    state(&mut monitor, &[1]);
+    time(&mut monitor, 2);
+}
+
+// Early answers of Once and Historically where the argument decides only with lower 0.
+fn early_of_one() {
+    text(b"Once[1,5] True, Once[1,MAX] True, Historically[1,5] False, Historically[1,MAX] False\n");
+    let book = Words::of(8)
+        .row(TRUE, 0, 0, 0)
+        .row(ONCE, 1, 1, 5)
+        .row(TRUE, 0, 0, 0)
+        .row(ONCE, 1, 1, MAX)
+        .row(FALSE, 0, 0, 0)
+        .row(HISTORICALLY, 1, 1, 5)
+        .row(FALSE, 0, 0, 0)
+        .row(HISTORICALLY, 1, 1, MAX)
+        .section(&[0, 2, 4, 6])
+        .section(&[])
+        .section(&[1, 3, 5, 7]);
+    let mut monitor = [0u64; SIZE];
+    load(&mut monitor, book);
+    time(&mut monitor, 0);
+    time(&mut monitor, 1);
+    time(&mut monitor, 7);
+}
+
+// The same where it decides with any lower.
+fn early_at_once() {
+    text(b"Once[1,5] False, Historically[1,5] True, Since(True,False)[1,MAX]\n");
+    let book = Words::of(7)
+        .row(FALSE, 0, 0, 0)
+        .row(ONCE, 1, 1, 5)
+        .row(TRUE, 0, 0, 0)
+        .row(HISTORICALLY, 1, 1, 5)
+        .row(TRUE, 0, 0, 0)
+        .row(FALSE, 0, 0, 0)
+        .row(SINCE, 2, 1, MAX)
+        .section(&[0, 2, 4, 5])
+        .section(&[])
+        .section(&[1, 3, 6]);
+    let mut monitor = [0u64; SIZE];
+    load(&mut monitor, book);
+    time(&mut monitor, 0);
+    time(&mut monitor, 1);
+    time(&mut monitor, 7);
+}
+
+// Since whose left is a constant. Where it is false, each call empties the set of what was there before.
+fn early_of_two() {
+    text(b"Since(False,True)[1,MAX], Since(True,True)[1,MAX]\n");
+    let book = Words::of(6)
+        .row(FALSE, 0, 0, 0)
+        .row(TRUE, 0, 0, 0)
+        .row(SINCE, 2, 1, MAX)
+        .row(TRUE, 0, 0, 0)
+        .row(TRUE, 0, 0, 0)
+        .row(SINCE, 2, 1, MAX)
+        .section(&[0, 1, 3, 4])
+        .section(&[])
+        .section(&[2, 5]);
+    let mut monitor = [0u64; SIZE];
+    load(&mut monitor, book);
+    time(&mut monitor, 0);
+    time(&mut monitor, 1);
+    time(&mut monitor, 7);
+}
+
+// Since whose left is early false while it holds, so that the set can cover: false with lower 0, open with lower over 0.
+fn early_turned() {
+    text(
+        b"Since(left,True)[1,MAX] and Since(left,True)[0,MAX], left = Not Historically[0,MAX] Once[0,MAX] a0\n",
+    );
+    let book = Words::of(12)
+        .row(ATOM, 0, 0, 0)
+        .row(ONCE, 1, 0, MAX)
+        .row(HISTORICALLY, 1, 0, MAX)
+        .row(NOT, 1, 0, 0)
+        .row(TRUE, 0, 0, 0)
+        .row(SINCE, 2, 1, MAX)
+        .row(ATOM, 0, 0, 0)
+        .row(ONCE, 1, 0, MAX)
+        .row(HISTORICALLY, 1, 0, MAX)
+        .row(NOT, 1, 0, 0)
+        .row(TRUE, 0, 0, 0)
+        .row(SINCE, 2, 0, MAX)
+        .section(&[0, 1, 2, 3, 4, 6, 7, 8, 9, 10])
+        .section(&[])
+        .section(&[5, 11]);
+    let mut monitor = [0u64; SIZE];
+    load(&mut monitor, book);
+    time(&mut monitor, 0);
+    state(&mut monitor, &[1]);
+    time(&mut monitor, 1);
+    time(&mut monitor, 2);
+}
+
+fn main() {
+    whole_case();
+    lapsed();
+    full();
+    last_time();
+    refused_calls();
+    refused_book();
+    early_of_one();
+    early_at_once();
+    early_of_two();
+    early_turned();
+}

@@ -1,0 +1,113 @@
+// A call, the number that it handed back and the answers of every property, on one line.
+use crate::words::Words;
+use libc::STDOUT_FILENO;
+use pmtl::Answer;
+use rows::SIZE;
+use verdicts::Verdict;
+ghost use Rattle.cases.specs.Held.{Held};
+ghost use Rattle.book.specs.Kept.{Kept};
+
+// The widest state, with one byte more.
+const TOO_WIDE: usize = 257;
+
+pub fn text(bytes: &[u8]) {
+    io::write_all(STDOUT_FILENO, bytes);
+}
+
+fn number(n: u64) {
+    io::print_decimal(STDOUT_FILENO, n);
+}
+
+fn bit(b: bool) -> u64 {
+    if b { 1 } else { 0 }
+}
+
+fn digit(a: Answer) -> u64 {
+    match a {
+        Answer::False => 0,
+        Answer::True => 1,
+        Answer::Open => 2,
+    }
+}
+
+// Value, early and settled.
+fn verdict(v: Verdict) {
+    let value = v.value;
+    let early = v.early;
+    let settled = v.settled;
+    text(b" ");
+    number(bit(value));
+    number(digit(early));
+    number(digit(settled));
+}
+
+fn outcome(refusal: u64, monitor: &[u64])
+    requires { ⌜ Kept (now monitor) ⌝ }
+{
+    text(b": ");
+    number(refusal);
+    let all = verdicts::all(monitor);
+    let count = all.count;
+    let mut i = 0;
+    while i < count {
+        verdict(verdicts::of_property(monitor, i));
+        i += 1;
+    }
+    text(b"\n");
+}
+
+// Loads a book, over whatever stood in the memory.
+pub fn load(monitor: &mut [u64; SIZE], book: Words)
+    requires { ⌜ Held book ⌝ }
+    ensures { λ _. ⌜ Kept (now (monitor .exit)) ⌝ }
+{
+    let words = book.list;
+    let count = book.count;
+    let refusal = store::load(&words[..count], monitor);
+    text(b"  load");
+    outcome(refusal, monitor);
+}
+
+pub fn time(monitor: &mut [u64; SIZE], t: u64)
+    requires { ⌜ Kept (now monitor) ⌝ }
+    ensures { λ _. ⌜ Kept (now (monitor .exit)) ⌝ }
+{
+    let refusal = oracle::update_time(monitor, t);
+    text(b"  t ");
+    number(t);
+    outcome(refusal, monitor);
+}
+
+// A function, so that a caller need not show that the byte fits.
+fn wide(b: u8) -> u64 {
+    b as u64
+}
+
+fn bytes(state: &[u8]) {
+    let mut i = 0;
+    while i < state.len() {
+        number(wide(state[i]));
+        i += 1;
+    }
+}
+
+pub fn state(monitor: &mut [u64; SIZE], state: &[u8])
+    requires { ⌜ Kept (now monitor) ⌝ }
+    ensures { λ _. ⌜ Kept (now (monitor .exit)) ⌝ }
+{
+    let refusal = oracle::update_state(monitor, state);
+    text(b"  s ");
+    bytes(state);
+    outcome(refusal, monitor);
+}
+
+// A state that is too wide, and otherwise good.
+pub fn wide_state(monitor: &mut [u64; SIZE])
+    requires { ⌜ Kept (now monitor) ⌝ }
+    ensures { λ _. ⌜ Kept (now (monitor .exit)) ⌝ }
+{
+    let state = [0u8; TOO_WIDE];
+    let refusal = oracle::update_state(monitor, &state);
+    text(b"  s of 257 bytes");
+    outcome(refusal, monitor);
+}
