@@ -152,6 +152,17 @@ fn refused_book() {
     time(&mut monitor, 2);
 }
 
+// Time before the lower bound of 1, at it, and past an upper bound of 5.
+fn before_and_after(book: Words)
+    requires { ⌜ Held book ⌝ }
+{
+    let mut monitor = [0u64; SIZE];
+    load(&mut monitor, book);
+    time(&mut monitor, 0);
+    time(&mut monitor, 1);
+    time(&mut monitor, 7);
+}
+
 // Early answers of Once and Historically where the argument decides only with lower 0.
 fn early_of_one() {
     text(b"Once[1,5] True, Once[1,MAX] True, Historically[1,5] False, Historically[1,MAX] False\n");
@@ -167,11 +178,7 @@ fn early_of_one() {
         .section(&[0, 2, 4, 6])
         .section(&[])
         .section(&[1, 3, 5, 7]);
-    let mut monitor = [0u64; SIZE];
-    load(&mut monitor, book);
-    time(&mut monitor, 0);
-    time(&mut monitor, 1);
-    time(&mut monitor, 7);
+    before_and_after(book);
 }
 
 // The same where it decides with any lower.
@@ -188,11 +195,7 @@ fn early_at_once() {
         .section(&[0, 2, 4, 5])
         .section(&[])
         .section(&[1, 3, 6]);
-    let mut monitor = [0u64; SIZE];
-    load(&mut monitor, book);
-    time(&mut monitor, 0);
-    time(&mut monitor, 1);
-    time(&mut monitor, 7);
+    before_and_after(book);
 }
 
 // Since whose left is a constant. Where it is false, each call empties the set of what was there before.
@@ -208,11 +211,7 @@ fn early_of_two() {
         .section(&[0, 1, 3, 4])
         .section(&[])
         .section(&[2, 5]);
-    let mut monitor = [0u64; SIZE];
-    load(&mut monitor, book);
-    time(&mut monitor, 0);
-    time(&mut monitor, 1);
-    time(&mut monitor, 7);
+    before_and_after(book);
 }
 
 // Since whose left is early false while it holds, so that the set can cover: false with lower 0, open with lower over 0.
