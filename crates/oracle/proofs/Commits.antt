@@ -49,10 +49,7 @@ module _ (b k : ℕ) (xs ys : List ℕ) (hb : b + k ≤ length xs) (hk : length 
   put-over : (a n : ℕ) → b + k ≤ a → a + n ≤ length xs → part a n (putMid b k xs ys) ≡ part a n xs
   put-over a n h l = part-same a n xs (putMid b k xs ys) l put-length (λ i lt. put-above (a + i) (omega arith))
 
--- the part from a to e, where e is 129 words on
-pub cut : (a e : ℕ) (m : List ℕ) → e ≡ a + SET → take (e - a) (drop a m) ≡ part a SET m
-cut a e m h = let q : e - a ≡ SET = omega arith in ap (λ (k : ℕ). part a k m) q
-
+-- from a up to e, which is a set's words on
 pub put-as : (a e : ℕ) (m : List ℕ) {ys zs : List ℕ} → e ≡ a + SET → ys ≡ zs → putMid a (e - a) m ys ≡ putMid a SET m zs
 put-as a e m h q = let d : e - a ≡ SET = omega arith in ap₂ (λ (k : ℕ) (x : List ℕ). putMid a k m x) d q
 

@@ -1,5 +1,5 @@
 -- The public calls, arm by arm: refused for themselves, or played. Assumes nothing.
-use Prim.Native.Nat.{ℕ, _+_, _≤_, _<_}
+use Prim.Native.Nat.{ℕ, _≤_, _<_}
 use mathlib.Core.Path.{_≡_, refl, sym, ap, ap₂, _∙_}
 use mathlib.Core.Bool.{Bool, true, false, true≢false}
 use mathlib.Core.List.{List, [], _∷_, map}
@@ -13,10 +13,10 @@ use Rattle.pmtl.specs.Monitor.{Snap}
 use Rattle.pmtl.specs.Calls.{Call, WIDEST, turns, refusal, play, call}
 use Rattle.pmtl.specs.Calls.Call.{time, state}
 use Rattle.pmtl.proofs.Bools.{fails-by}
-use Rattle.rows.specs.Memory.{ATOMS, part, clockOf, widthWord, listed, rowsOf, bookOf, stateOf, isOne}
+use Rattle.rows.specs.Memory.{clockOf, widthWord, listed, rowsOf, bookOf, stateOf, isOne}
 use Rattle.rows.proofs.Listed.{listed-length, listed-at}
 use Rattle.book.specs.Kept.{Kept}
-use Rattle.store.proofs.Parts.{part-length, part-at}
+use Rattle.verdicts.specs.Steps.{atomAt, atomsOf}
 use Rattle.oracle.specs.Steps.{firstBytes, Bytes, snapOf, Timely, Advanced}
 use Rattle.oracle.specs.Oracle.{Called}
 use Rattle.oracle.proofs.Plans.{some-hit}
@@ -45,25 +45,23 @@ module _ {m : List ℕ} (kept : Kept m) where
   narrow = kept .book .narrow
 
   -- ---- a time call
-  old-long : length (part ATOMS 256 m) ≡ 256
-  old-long = part-length ATOMS 256 m (let l = kept .book .long in omega arith)
+  pub old-bytes : Bytes (atomsOf m) (widthWord m)
+  old-bytes = record {
+    long = listed-length (atomAt m) 256;
+    bits = λ i h. rw (listed-at (atomAt m) 0 256 i (omega (arith, narrow))) (kept .atoms i h);
+  }
 
-  pub old-bytes : Bytes (firstBytes (part ATOMS 256 m) (widthWord m)) (widthWord m)
-  old-bytes =
-      first-bytes (widthWord m) (part ATOMS 256 m) (omega (arith, old-long, narrow)) narrow
-      (λ i h. rw (part-at ATOMS 256 m i (omega (arith, narrow))) (kept .atoms i h))
-
-  old-atoms : map isOne (take (widthWord m) (firstBytes (part ATOMS 256 m) (widthWord m))) ≡ listed (λ i. isOne (getD m (ATOMS + i) 0)) (widthWord m)
+  old-atoms : map isOne (take (widthWord m) (atomsOf m)) ≡ listed (λ i. isOne (atomAt m i)) (widthWord m)
   old-atoms =
       let w : ℕ = widthWord m in
-      let f : ℕ → Bool = λ i. isOne (getD m (ATOMS + i) 0) in
-      let long : length (map isOne (take w (part ATOMS 256 m))) ≡ w = length-map (take w (part ATOMS 256 m)) isOne ∙ length-take-le w (part ATOMS 256 m) (omega (arith, old-long, narrow)) in
-      ap (map isOne) (first-take w (part ATOMS 256 m) (omega (arith, old-long, narrow)) narrow)
-      ∙ ext-getD false (map isOne (take w (part ATOMS 256 m))) (listed f w) (long ∙ sym (listed-length f w))
+      let f : ℕ → Bool = λ i. isOne (atomAt m i) in
+      let bytes : List ℕ = take w (atomsOf m) in
+      let long : length (map isOne bytes) ≡ w = length-map bytes isOne ∙ length-take-le w (atomsOf m) (omega (arith, listed-length (atomAt m) 256, narrow)) in
+      ext-getD false (map isOne bytes) (listed f w) (long ∙ sym (listed-length f w))
       (λ i lt.
       let h : i < w = omega arith in
-      List·getD-map isOne (take w (part ATOMS 256 m)) i 0
-      ∙ ap isOne (getD-take w (part ATOMS 256 m) i 0 h ∙ part-at ATOMS 256 m i (omega (arith, narrow)))
+      List·getD-map isOne bytes i 0
+      ∙ ap isOne (getD-take w (atomsOf m) i 0 h ∙ listed-at (atomAt m) 0 256 i (omega (arith, narrow)))
       ∙ sym (listed-at f false w i h))
 
   module _ {t clock : ℕ} (ec : clock ≡ clockOf m) where
@@ -79,7 +77,7 @@ module _ {m : List ℕ} (kept : Kept m) where
       pub time-timely : Timely m t
       time-timely = record { kept = kept; clock = k }
 
-      pub time-played : {atoms m′ : List ℕ} {r : ℕ} → atoms ≡ firstBytes (part ATOMS 256 m) (widthWord m) → Advanced m (snapOf t atoms (widthWord m) ∷ []) m′ r → Called (time t) m m′ r
+      pub time-played : {atoms m′ : List ℕ} {r : ℕ} → atoms ≡ atomsOf m → Advanced m (snapOf t atoms (widthWord m) ∷ []) m′ r → Called (time t) m m′ r
       unfolding refusal stateOf
       time-played {atoms} ea a =
           called-played (let e = le-ltb t (clockOf m) (omega arith) in rw (e, le-ltb H t k))

@@ -8,15 +8,15 @@ ghost use lib.Dec.{ltb};
 ghost use borrow.Rule.Slice.PartMut.{putMid};
 ghost use Rattle.numset.specs.Runs.{pack};
 ghost use Rattle.pmtl.specs.Book.{start, stop, some};
-ghost use Rattle.pmtl.specs.Answer.{bitOf};
 ghost use Rattle.pmtl.specs.Calls.{Call};
-ghost use Rattle.rows.specs.Memory.{ATOMS, SET, SIZE, part, rowCount, widthWord, temporals, kindAt, setStart, setWords, BookKept};
+ghost use Rattle.rows.specs.Memory.{SET, SIZE, rowCount, widthWord, temporals, kindAt, setStart, BookKept};
 ghost use Rattle.book.specs.Kept.{Kept};
 ghost use Rattle.oracle.specs.Steps.{firstBytes, Bytes, snapOf, rangeAt, modeAt, setAfter, rowPlan, Bounded, Slot, Planned, Timely, Fit, Fitting, Written, Headed, Advanced};
 ghost use Rattle.oracle.specs.Oracle.{Called};
-use rows::HERE;
 use rows::MOST_ATOMS;
 use rows::MOST_ROWS;
+use rows::bit;
+use rows::set_at;
 
 // The numbers that a call hands back.
 const ACCEPTED: u64 = 0;
@@ -96,22 +96,6 @@ fn stop_of(monitor: &[u64], clock: u64, row: usize) -> u64
         return UNBOUNDED;
     }
     clock + upper
-}
-
-// The set of a slot.
-fn set_at(monitor: &[u64], slot: usize) -> &[u64]
-    requires { ⌜ (length (now monitor) ≡ SIZE) × (slot < 32) ⌝ }
-    ensures { λ r. ⌜ now r ≡ setWords (now (monitor .entry)) slot ⌝ }
-{
-    let from = rows::SETS + rows::SET * slot;
-    let to = from + rows::SET;
-    &monitor[from..to]
-}
-
-fn bit(b: bool) -> u8
-    ensures { λ r. ⌜ r ≡ bitOf b ⌝ }
-{
-    if b { HERE } else { 0 }
 }
 
 // The plan of one temporal row, by what is known of the rows below it.
@@ -230,21 +214,6 @@ fn advance(monitor: &mut [u64], clock: u64, atoms: &[u8; MOST_ATOMS]) -> u64
     NO_ROOM
 }
 
-// The atoms as they are.
-fn old_atoms(monitor: &[u64]) -> [u8; MOST_ATOMS]
-    requires { ⌜ Kept (now monitor) ⌝ }
-    ensures { λ r. ⌜ r ≡ firstBytes (part ATOMS 256 (now (monitor .entry))) (widthWord (now (monitor .entry))) ⌝ }
-{
-    let count = rows::width(monitor);
-    let mut atoms = [0u8; MOST_ATOMS];
-    let mut i = 0;
-    while i < count {
-        atoms[i] = rows::word(monitor, rows::ATOMS + i) as u8;
-        i += 1;
-    }
-    atoms
-}
-
 // The atoms of a state: its first bytes.
 fn new_atoms(state: &[u8], count: usize) -> [u8; MOST_ATOMS]
     requires { ⌜ (count ≤ length (now state)) × (count ≤ 256) ⌝ }
@@ -284,7 +253,7 @@ pub fn time_call(monitor: &mut [u64], time: u64) -> u64
     if LAST_TIME < time {
         return TOO_LATE;
     }
-    let atoms = old_atoms(monitor);
+    let atoms = verdicts::read_atoms(monitor);
     advance(monitor, time, &atoms)
 }
 

@@ -1,4 +1,5 @@
 pub mod Listed
+pub mod Parts
 pub mod Kept
 pub mod Values
 pub mod Earlies

@@ -3,10 +3,11 @@ ghost use mathlib.Core.Path.{_≡_};
 ghost use mathlib.Core.List.{map};
 ghost use Prim.Native.Nat.{_+_, _<_};
 ghost use lib.ListN.{length, getD};
-ghost use Rattle.rows.specs.Memory.{SIZE, OPERANDS, BookKept, rowCount, begunWord, clockOf, widthWord, temporals, assumeCount, guaranteeCount, kindAt, argAt, lowerAt, upperAt, startAt, slotAt, ownerAt};
+ghost use Rattle.rows.specs.Memory.{SIZE, OPERANDS, BookKept, rowCount, begunWord, clockOf, widthWord, temporals, assumeCount, guaranteeCount, kindAt, argAt, lowerAt, upperAt, startAt, slotAt, ownerAt, setWords};
 ghost use Rattle.rows.specs.Facts.{hereIn, coversIn, goneIn, outputOf, valuationOf, settledOf};
 ghost use Rattle.rows.specs.Walk.{Span, operandAt, operandsFrom, rangeAt, joined, earlySoFar, settledSoFar, coversAlone};
 ghost use Rattle.pmtl.specs.Book.Row.{since};
+ghost use Rattle.pmtl.specs.Answer.{bitOf};
 ghost use Rattle.pmtl.specs.Settled.{settledRule};
 ghost use lib.Dec.{eqb};
 
@@ -233,6 +234,23 @@ pub fn owner_at(monitor: &[u64], slot: usize) -> usize
     ensures { λ r. ⌜ r ≡ ownerAt (now (monitor .entry)) slot ⌝ }
 {
     monitor[OWNERS + slot] as usize
+}
+
+// The set of a slot.
+pub fn set_at(monitor: &[u64], slot: usize) -> &[u64]
+    requires { ⌜ (length (now monitor) ≡ SIZE) × (slot < 32) ⌝ }
+    ensures { λ r. ⌜ now r ≡ setWords (now (monitor .entry)) slot ⌝ }
+{
+    let from = SETS + SET * slot;
+    let to = from + SET;
+    &monitor[from..to]
+}
+
+// 1 for true, 0 for false.
+pub fn bit(b: bool) -> u8
+    ensures { λ r. ⌜ r ≡ bitOf b ⌝ }
+{
+    if b { 1 } else { 0 }
 }
 
 // Whether a row's set contains the clock.

@@ -1,13 +1,13 @@
 -- The atoms and facts of a kept memory, as the loops that read them leave them. Assumes nothing.
-use Prim.Native.Nat.{ℕ, zero, suc, _+_, _*_, _-_, _≤_, _<_}
+use Prim.Native.Nat.{ℕ, zero, suc, _+_, _*_, _≤_, _<_}
 use native.Mathlib.Omega.{arith}
 use native.Mathlib.Decide.{decLt, decLe, ℕ-discrete}
 use mathlib.Core.Path.{_≡_, refl, sym, ap, subst, _∙_}
 use mathlib.Core.Bool.{Bool, true, false, cond}
 use mathlib.Core.Logic.{_↔_}
 use mathlib.Core.List.{List, []}
-use lib.ListN.{length, getD, set, take, drop, replicate, length-set, length-take, length-drop, length-replicate, getD-replicate}
-use lib.Seq.{ext-getD, getD-take, getD-drop, getD-set-same, getD-set-other}
+use lib.ListN.{length, getD, set, replicate, length-set, length-replicate, getD-replicate}
+use lib.Seq.{ext-getD, getD-set-same, getD-set-other}
 use lib.Dec.{eqb, lit≤}
 use borrow.Author.Tests.{le-leb, lt-leb, ne-eqb}
 use Rattle.numset.specs.Runs.{MAX, runs, runsTo, has, covers, Covers, Good}
@@ -16,10 +16,10 @@ use Rattle.numset.proofs.Covering.{covers-test}
 use Rattle.pmtl.specs.Answer.{bitOf}
 use Rattle.pmtl.specs.Monitor.{setAt}
 use Rattle.pmtl.specs.Sets.{gone}
-use Rattle.rows.specs.Memory.{ATOMS, SIZE, rowCount, clockOf, widthWord, temporals, kindAt, slotAt, ownerAt, setWords, setOf, stateOf}
+use Rattle.rows.specs.Memory.{rowCount, clockOf, temporals, kindAt, slotAt, ownerAt, setWords, setOf, stateOf}
 use Rattle.rows.proofs.Listed.{listed-length, listed-at, listed-out}
 use Rattle.book.specs.Kept.{Kept}
-use Rattle.verdicts.specs.Steps.{factAbout, factAt, factsOf, atomsOf}
+use Rattle.verdicts.specs.Steps.{factAbout, factAt, factsOf}
 
 -- ---- the sets of the state that a memory holds
 module _ (m : List ℕ) (kept : Kept m) where
@@ -126,7 +126,3 @@ pub fact-is :
     → h + 2 * c + 4 * g ≡ factAbout clock (runs words)
 fact-is {words} {clock} {h} {c} {g} {here} {covered} {none} good small eh here-is ec covered-is eg none-is =
     rw (eh, ec, eg, here-is, covers-test clock (runs words) covered (good-canonical good) small covered-is, none-is)
-
--- a set's words, as a part of the memory
-pub part-to : (a e n : ℕ) (m : List ℕ) → e ≡ a + n → take (e - a) (drop a m) ≡ take n (drop a m)
-part-to a e n m h = let k : e - a ≡ n = omega arith in rw k

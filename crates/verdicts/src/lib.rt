@@ -1,22 +1,22 @@
 // What a loaded monitor answers of its properties.
 ghost use mathlib.Core.Path.{_≡_};
-ghost use Prim.Native.Nat.{ℕ, _+_, _≤_, _<_};
+ghost use Prim.Native.Nat.{ℕ, _+_, _<_};
 ghost use mathlib.Core.Bool.{cond};
 ghost use lib.ListN.{length, getD};
 ghost use Rattle.numset.specs.Runs.{Good, runs};
-ghost use Rattle.pmtl.specs.Answer.{bitOf};
 ghost use Rattle.pmtl.specs.Sets.{gone};
-ghost use Rattle.rows.specs.Memory.{SIZE, rowCount, begunWord, assumeCount, guaranteeCount, setWords, isOne, listed, BookKept};
+ghost use Rattle.rows.specs.Memory.{rowCount, begunWord, assumeCount, guaranteeCount, isOne, listed, BookKept};
 ghost use Rattle.rows.specs.Facts.{settledOf};
 ghost use Rattle.book.specs.Kept.{Kept};
 ghost use Rattle.verdicts.specs.Verdict.{verdictOf, propertiesIn, answersNumber, answersList};
 ghost use Rattle.verdicts.specs.Steps.{absent, blank, Answered, factAbout, factsOf, atomsOf, Seen};
 use pmtl::Answer;
+use rows::MOST_ATOMS;
+use rows::bit;
+use rows::set_at;
 
-// The most rows, the widest state and the most properties.
+// The most rows and the most properties.
 const MOST_ROWS: usize = 128;
-
-const WIDEST: usize = 256;
 
 const MOST_PROPERTIES: usize = 32;
 
@@ -41,12 +41,6 @@ pub struct Verdicts {
     pub list: [Verdict; MOST_PROPERTIES],
 }
 
-fn bit(b: bool) -> u8
-    ensures { λ r. ⌜ r ≡ bitOf b ⌝ }
-{
-    if b { 1 } else { 0 }
-}
-
 // Whether nothing is left in a set that could matter from the clock on: it is empty.
 fn gone(set: &[u64]) -> bool
     requires { ⌜ 0 < length (now set) ⌝ }
@@ -63,16 +57,6 @@ fn fact_about(set: &[u64], clock: u64) -> u8
     let here = bit(numset::contains(set, clock));
     let covers = bit(numset::covers(set, clock));
     here + 2 * covers + GONE * bit(gone(set))
-}
-
-// The set of a slot.
-fn set_at(monitor: &[u64], slot: usize) -> &[u64]
-    requires { ⌜ (length (now monitor) ≡ SIZE) × (slot < 32) ⌝ }
-    ensures { λ r. ⌜ now r ≡ setWords (now (monitor .entry)) slot ⌝ }
-{
-    let from = rows::SETS + rows::SET * slot;
-    let to = from + rows::SET;
-    &monitor[from..to]
 }
 
 // What the rows are told of their sets. A row that is not temporal has the empty set.
@@ -93,12 +77,12 @@ fn read_facts(monitor: &[u64]) -> [u8; MOST_ROWS]
 }
 
 // The atoms, a byte for each.
-fn read_atoms(monitor: &[u64]) -> [u8; WIDEST]
+pub fn read_atoms(monitor: &[u64]) -> [u8; MOST_ATOMS]
     requires { ⌜ Kept (now monitor) ⌝ }
     ensures { λ r. ⌜ r ≡ atomsOf (now (monitor .entry)) ⌝ }
 {
     let count = rows::width(monitor);
-    let mut atoms = [0u8; WIDEST];
+    let mut atoms = [0u8; MOST_ATOMS];
     let mut i = 0;
     while i < count {
         atoms[i] = rows::word(monitor, rows::ATOMS + i) as u8;
@@ -141,7 +125,7 @@ fn settled_at<'a>(monitor: &'a [u64], facts: &'a [u8; MOST_ROWS], row: usize) ->
 // The answers of property `i`, from the monitor's atoms and facts.
 fn verdict_at<'a>(
     monitor: &'a [u64],
-    atoms: &'a [u8; WIDEST],
+    atoms: &'a [u8; MOST_ATOMS],
     facts: &'a [u8; MOST_ROWS],
     i: usize,
 ) -> Verdict

@@ -1,3 +1,4 @@
+-- `oracle::calls::advance` meets its contract: the sets have room and are changed, or nothing is. Assumes nothing.
 use Rattle.oracle.proofs.Advances.{fitting, advanced, unmoved}
 use Rattle.oracle.specs.Steps.{Planned}
 use mathlib.Core.Bool.{Bool}
@@ -7,31 +8,24 @@ use borrow.Author.Needs.{needs}
 use Rattle.oracle.proofs.calls.advance.Statement.{statement}
 use Rattle.oracle.proofs.calls.advance.Tie as tie
 
--- src/calls.rt:222:9
 plan-call-requires : tie.Need-plan-call-requires
 plan-call-requires c κs = search needs
 
--- src/calls.rt:226:9
 commit-requires : tie.Need-commit-requires
 commit-requires c κs = let s = c .before .before .before .before .before .before .before in let f = c .before .before .before .before .plan-call in let p = subst (λ (b : Bool). Planned (s .args .monitor .now) (s .args .clock) (s .args .atoms .now) b (f .result .modes)) (c .before .before .before .if1 .taken) (f .ensures) in fitting (s .pre .0) p
 
--- src/calls.rt:227:9
 put-head-requires : tie.Need-put-head-requires
 put-head-requires c κs = let s = c .before .before .before .before .before .before .before .before .before .before .before in let w = c .before .before .before .commit .ensures in (w .long, s .pre .1 .long, (let e = w .below 3 (omega arith) in let n = s .pre .0 .kept .book .narrow in omega arith))
 
--- src/calls.rt:228:9
 same-length : tie.Need-same-length
 same-length c = search needs
 
--- src/calls.rt:228:9
 returns : tie.Need-returns
 returns c = let s = c .before .before .before .before .before .before .before .before .before .before .before .before .before .before in let f = c .before .before .before .before .before .before .before .before .before .before .before .plan-call in let p = subst (λ (b : Bool). Planned (s .args .monitor .now) (s .args .clock) (s .args .atoms .now) b (f .result .modes)) (c .before .before .before .before .before .before .before .before .before .before .if1 .taken) (f .ensures) in advanced (s .pre .0) p (s .pre .1) (c .before .before .before .before .before .before .commit .ensures) (c .before .before .put-head .ensures)
 
--- src/calls.rt:217:1
 same-length-2 : tie.Need-same-length-2
 same-length-2 c = search needs
 
--- src/calls.rt:217:1
 returns-2 : tie.Need-returns-2
 returns-2 c = let s = c .before .before .before .before in let f = c .before .plan-call in let p = subst (λ (b : Bool). Planned (s .args .monitor .now) (s .args .clock) (s .args .atoms .now) b (f .result .modes)) (c .if1 .left) (f .ensures) in unmoved (s .pre .0) p
 

@@ -1,3 +1,4 @@
+-- `oracle::calls::commit` meets its contract. The invariant: the sets of the slots passed are changed, the others as they were. Assumes nothing.
 use Rattle.oracle.proofs.Commits.{written-start, commit-fit, commit-more}
 use Rattle.oracle.specs.Steps.{setAfter, Written}
 use Rattle.rows.specs.Memory.{temporals}
@@ -15,39 +16,30 @@ Inv-loop monitor₀ clock modes count slot₀ monitor slot = (slot ≤ count) ×
 abbrev μ-loop : tie.MeasureT-loop
 μ-loop monitor₀ clock modes count slot₀ monitor slot = count - slot
 
--- src/calls.rt:187:9
 temporal-count-requires : tie.Need-temporal-count-requires Inv-loop μ-loop
 temporal-count-requires c κs = c .before .before .pre .timely .kept .book .long
 
--- src/calls.rt:189:5
 loop-holds : tie.Need-loop-holds Inv-loop μ-loop
 loop-holds c = let s = c .before .before .before in (omega arith, c .temporal-count .ensures, written-start (s .args .monitor .now) _ (s .pre .timely .kept .book .long))
 
--- src/calls.rt:190:43
 element-copy-out-commit-slot : tie.Need-element-copy-out-commit-slot Inv-loop μ-loop
 element-copy-out-commit-slot c = let s = c .before .before .before .before .before .before in let l = c .before .before .loop in let e = l .inv .1 in let f = s .pre .timely .kept .book .temporal-few in omega arith
 
--- src/calls.rt:190:9
 commit-slot-requires : tie.Need-commit-slot-requires Inv-loop μ-loop
 commit-slot-requires c κs = let s = c .before .before .before .before .before .before .before in let l = c .before .before .before .loop in commit-fit (s .pre) (let e = l .inv .1 in omega arith) (l .inv .2)
 
--- src/calls.rt:191:9
 add-slot : tie.Need-add-slot Inv-loop μ-loop
 add-slot c = search needs
 
--- src/calls.rt:189:5
 loop-less : tie.Need-loop-less Inv-loop μ-loop
 loop-less c = search needs
 
--- src/calls.rt:189:5
 loop-again : tie.Need-loop-again Inv-loop μ-loop
 loop-again c = let s = c .before .before .before .before .before .before .before .before .before .before in let l = c .before .before .before .before .before .before .loop in (omega arith, l .inv .1, commit-more (s .pre) (let e = l .inv .1 in omega arith) (l .inv .2) (c .before .before .commit-slot .ensures))
 
--- src/calls.rt:183:1
 same-length : tie.Need-same-length Inv-loop μ-loop
 same-length c = let s = c .before .before .before .before .before in c .before .loop .inv .2 .long ∙ sym (s .pre .timely .kept .book .long)
 
--- src/calls.rt:183:1
 returns : tie.Need-returns Inv-loop μ-loop
 returns c = let s = c .before .before .before .before .before in let l = c .before .loop in let e : l .slot ≡ temporals (s .args .monitor .now) = let q = l .inv .1 in omega arith in rw e at (l .inv .2)
 

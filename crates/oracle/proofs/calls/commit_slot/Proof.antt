@@ -1,66 +1,54 @@
-use Rattle.oracle.proofs.Commits.{cut, put-as, commit-none, fit-good, fit-room, fit-done}
+-- `oracle::calls::commit_slot` meets its contract: the set stays, or its part of the memory is changed. Assumes nothing.
+use Rattle.oracle.proofs.Commits.{put-as, commit-none, fit-good, fit-room, fit-done}
 use Rattle.rows.specs.Memory.{SETS, SET}
+use Rattle.rows.proofs.Parts.{part-to}
 use mathlib.Core.Path.{refl}
 use Prim.Native.Nat.{ℕ, _+_, _*_}
 use borrow.Author.Needs.{needs}
 use Rattle.oracle.proofs.calls.commit_slot.Statement.{statement}
 use Rattle.oracle.proofs.calls.commit_slot.Tie as tie
 
--- src/calls.rt:172:9
 returns : tie.Need-returns
 returns c = commit-none (c .before .before .pre) (c .if1 .taken)
 
--- src/calls.rt:174:9
 owner-at-requires : tie.Need-owner-at-requires
 owner-at-requires c κs = search needs
 
--- src/calls.rt:175:9
 start-of-requires : tie.Need-start-of-requires
 start-of-requires c κs = rw (c .before .owner-at .ensures) (c .before .before .before .before .before .pre .bounded)
 
--- src/calls.rt:176:9
 stop-of-requires : tie.Need-stop-of-requires
 stop-of-requires c κs = rw (c .before .before .before .owner-at .ensures) (c .before .before .before .before .before .before .before .pre .bounded)
 
--- src/calls.rt:177:29
 mul-from : tie.Need-mul-from
 mul-from c = search needs
 
--- src/calls.rt:177:16
 add-from : tie.Need-add-from
 add-from c = search needs
 
--- src/calls.rt:178:14
 add-to : tie.Need-add-to
 add-to c = search needs
 
--- src/calls.rt:179:20
 mul-change : tie.Need-mul-change
 mul-change c = search needs
 
--- src/calls.rt:179:20
 sub-change : tie.Need-sub-change
 sub-change c = search needs
 
--- src/calls.rt:179:20
 part-change-start : tie.Need-part-change-start
 part-change-start c = search needs
 
--- src/calls.rt:179:20
 part-change-end : tie.Need-part-change-end
 part-change-end c = search needs
 
--- src/calls.rt:179:5
 change-requires : tie.Need-change-requires
-change-requires c κs = let s = c .before .before .before .before .before .before .before .before .before in let a : ℕ = SETS + SET * s .args .slot in let q = cut a (a + SET) (s .args .monitor .now) refl in (fit-good (s .pre) q, fit-room (s .pre) q (rw (c .before .before .before .before .before .owner-at .ensures) at (c .before .before .before .start-of .ensures)) (rw (c .before .before .before .before .before .owner-at .ensures) at (c .before .stop-of .ensures)))
+change-requires c κs = let s = c .before .before .before .before .before .before .before .before .before in let a : ℕ = SETS + SET * s .args .slot in let q = part-to a (a + SET) SET (s .args .monitor .now) refl in (fit-good (s .pre) q, fit-room (s .pre) q (rw (c .before .before .before .before .before .owner-at .ensures) at (c .before .before .before .start-of .ensures)) (rw (c .before .before .before .before .before .owner-at .ensures) at (c .before .stop-of .ensures)))
 
--- src/calls.rt:167:1
 same-length : tie.Need-same-length
 same-length c = search needs
 
--- src/calls.rt:167:1
 returns-2 : tie.Need-returns-2
-returns-2 c = let s = c .before .before .before .before .before .before .before .before .before .before .before .before in let a : ℕ = SETS + SET * s .args .slot in let q = cut a (a + SET) (s .args .monitor .now) refl in put-as a (a + SET) (s .args .monitor .now) refl (fit-done (s .pre) q (rw (c .before .before .before .before .before .before .before .before .owner-at .ensures) at (c .before .before .before .before .before .before .start-of .ensures)) (rw (c .before .before .before .before .before .before .before .before .owner-at .ensures) at (c .before .before .before .before .stop-of .ensures)) (c .before .before .change .ensures))
+returns-2 c = let s = c .before .before .before .before .before .before .before .before .before .before .before .before in let a : ℕ = SETS + SET * s .args .slot in let q = part-to a (a + SET) SET (s .args .monitor .now) refl in put-as a (a + SET) (s .args .monitor .now) refl (fit-done (s .pre) q (rw (c .before .before .before .before .before .before .before .before .owner-at .ensures) at (c .before .before .before .before .before .before .start-of .ensures)) (rw (c .before .before .before .before .before .before .before .before .owner-at .ensures) at (c .before .before .before .before .stop-of .ensures)) (c .before .before .change .ensures))
 
 pub commit-slot-spec : {M : Type 1} → statement M
 commit-slot-spec =

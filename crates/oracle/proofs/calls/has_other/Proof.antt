@@ -1,3 +1,4 @@
+-- `oracle::calls::has_other` meets its contract. The invariant: the bytes passed are 0 or 1. Assumes nothing.
 use Rattle.oracle.proofs.Plans.{some-none, some-hit}
 use borrow.Author.Tests.{lt-ltb, le-ltb}
 use borrow.Author.Count.{below-more}
@@ -17,31 +18,24 @@ Inv-loop state i₀ i = (i ≤ length state) × ((k : ℕ) → k < i → ltb 1 (
 abbrev μ-loop : tie.MeasureT-loop
 μ-loop state i₀ i = length state - i
 
--- src/calls.rt:267:5
 loop-holds : tie.Need-loop-holds Inv-loop μ-loop
 loop-holds c = (omega arith, λ k h. absurd (omega arith))
 
--- src/calls.rt:268:16
 shared-slice-read-if1 : tie.Need-shared-slice-read-if1 Inv-loop μ-loop
 shared-slice-read-if1 c = search needs
 
--- src/calls.rt:269:13
 returns : tie.Need-returns Inv-loop μ-loop
 returns c = let s = c .before .before .before .before in let l = c .before .before .before .loop in sym (some-hit (ltb 1) 0 (s .args .state .now) (l .i) (omega arith) (lt-ltb 1 _ (c .if1 .taken)))
 
--- src/calls.rt:271:9
 add-i : tie.Need-add-i Inv-loop μ-loop
 add-i c = search needs
 
--- src/calls.rt:267:5
 loop-less : tie.Need-loop-less Inv-loop μ-loop
 loop-less c = search needs
 
--- src/calls.rt:267:5
 loop-again : tie.Need-loop-again Inv-loop μ-loop
 loop-again c = let s = c .before .before .before .before in let l = c .before .before .before .loop in (omega arith, below-more (λ (k : ℕ). ltb 1 (getD (s .args .state .now) k 0) ≡ false) (l .i) (l .inv .1) (le-ltb 1 _ (c .if1 .left)))
 
--- src/calls.rt:263:1
 returns-2 : tie.Need-returns-2 Inv-loop μ-loop
 returns-2 c = let s = c .before .before in let l = c .before .loop in sym (some-none (ltb 1) 0 (s .args .state .now) (λ k h. l .inv .1 k (omega arith)))
 

@@ -1,3 +1,4 @@
+-- `oracle::calls::new_atoms` meets its contract. The invariant: the bytes passed are copied, the others 0. Assumes nothing.
 use Rattle.oracle.proofs.Heads.{copy-more}
 use lib.Seq.{paste-zero}
 use Rattle.oracle.specs.Steps.{firstBytes}
@@ -15,31 +16,24 @@ Inv-loop state count atoms₀ i₀ atoms i = (i ≤ count) × (atoms ≡ firstBy
 abbrev μ-loop : tie.MeasureT-loop
 μ-loop state count atoms₀ i₀ atoms i = count - i
 
--- src/calls.rt:255:5
 loop-holds : tie.Need-loop-holds Inv-loop μ-loop
 loop-holds c = (omega arith, paste-zero (replicate 256 0) 0 (c .args .state .now))
 
--- src/calls.rt:256:20
 shared-slice-read-atoms : tie.Need-shared-slice-read-atoms Inv-loop μ-loop
 shared-slice-read-atoms c = let s = c .before .before .before in let l = c .before .before .loop in let k = s .pre in omega arith
 
--- src/calls.rt:256:9
 array-write-atoms : tie.Need-array-write-atoms Inv-loop μ-loop
 array-write-atoms c = let s = c .before .before .before in let l = c .before .before .loop in let k = s .pre in omega arith
 
--- src/calls.rt:257:9
 add-i : tie.Need-add-i Inv-loop μ-loop
 add-i c = let s = c .before .before .before in let l = c .before .before .loop in let k = s .pre in omega arith
 
--- src/calls.rt:255:5
 loop-less : tie.Need-loop-less Inv-loop μ-loop
 loop-less c = search needs
 
--- src/calls.rt:255:5
 loop-again : tie.Need-loop-again Inv-loop μ-loop
 loop-again c = let s = c .before .before .before in let l = c .before .before .loop in let k = s .pre in (omega arith, copy-more (s .args .state .now) (l .atoms) (l .i) _ (l .inv .1) refl (omega arith) (omega arith))
 
--- src/calls.rt:249:1
 returns : tie.Need-returns Inv-loop μ-loop
 returns c = let s = c .before .before in let l = c .before .loop in let k = s .pre in let e : l .i ≡ s .args .count = let q = l .inv .0 in omega arith in l .inv .1 ∙ ap (firstBytes (s .args .state .now)) e
 

@@ -1,37 +1,30 @@
+-- `oracle::calls::plan_row` meets its contract. Assumes nothing.
 use Rattle.oracle.proofs.Plans.{slot-small, slot-row, slot-kind, slot-bounded, slot-good, slot-long, plan-made}
 use borrow.Author.Needs.{needs}
 use Rattle.oracle.proofs.calls.plan_row.Statement.{statement}
 use Rattle.oracle.proofs.calls.plan_row.Tie as tie
 
--- src/calls.rt:122:9
 mode-of-requires : tie.Need-mode-of-requires
 mode-of-requires c κs = let p = c .before .pre in (p .timely .kept .book, (slot-row p, slot-kind p))
 
--- src/calls.rt:123:9
 start-of-requires : tie.Need-start-of-requires
 start-of-requires c κs = slot-bounded (c .before .before .pre)
 
--- src/calls.rt:124:9
 stop-of-requires : tie.Need-stop-of-requires
 stop-of-requires c κs = slot-bounded (c .before .before .before .pre)
 
--- src/calls.rt:125:9
 set-at-requires : tie.Need-set-at-requires
 set-at-requires c κs = let p = c .before .before .before .before .pre in (p .timely .kept .book .long, slot-small p)
 
--- src/calls.rt:126:9
 room-for-requires : tie.Need-room-for-requires
 room-for-requires c κs = let p = c .before .before .before .before .before .pre in (slot-good p (c .set-at .ensures), slot-long p (c .set-at .ensures))
 
--- src/calls.rt:127:9
 will-have-requires : tie.Need-will-have-requires
 will-have-requires c κs = slot-good (c .before .before .before .before .before .before .pre) (c .before .set-at .ensures)
 
--- src/calls.rt:130:15
 bit-requires : tie.Need-bit-requires
 bit-requires c κs = search needs
 
--- src/calls.rt:111:1
 returns : tie.Need-returns
 returns c = plan-made (c .before .before .before .before .before .before .before .before .pre) (c .before .before .before .set-at .ensures) (c .before .before .before .before .before .start-of .ensures) (c .before .before .before .before .stop-of .ensures) (c .before .before .room-for .ensures) (c .before .will-have .ensures) (c .bit .ensures) (c .before .before .before .before .before .before .mode-of .ensures)
 

@@ -1,3 +1,4 @@
+-- `oracle::calls::put_head` meets its contract. The invariant: the atoms passed are written. Assumes nothing.
 use Rattle.oracle.proofs.Heads.{atoms-start, atoms-more, headed}
 use Rattle.oracle.specs.Steps.{Atoms}
 use Rattle.rows.specs.Memory.{widthWord}
@@ -15,59 +16,45 @@ Inv-loop monitor₀ clock atoms count i₀ monitor i = (i ≤ count) × (count �
 abbrev μ-loop : tie.MeasureT-loop
 μ-loop monitor₀ clock atoms count i₀ monitor i = count - i
 
--- src/calls.rt:206:9
 width-requires : tie.Need-width-requires Inv-loop μ-loop
 width-requires c κs = search needs
 
--- src/calls.rt:208:5
 loop-holds : tie.Need-loop-holds Inv-loop μ-loop
 loop-holds c = let s = c .before .before .before in (omega arith, c .width .ensures, atoms-start (s .args .monitor .now) (s .args .atoms .now) (s .pre .0))
 
--- src/calls.rt:209:41
 element-copy-out-wide : tie.Need-element-copy-out-wide Inv-loop μ-loop
 element-copy-out-wide c = let s = c .before .before .before .before .before in let l = c .before .loop in let e = l .inv .1 in let k = s .pre in omega arith
 
--- src/calls.rt:209:36
 wide-requires : tie.Need-wide-requires Inv-loop μ-loop
 wide-requires c κs = search needs
 
--- src/calls.rt:209:17
 add-monitor : tie.Need-add-monitor Inv-loop μ-loop
 add-monitor c = let s = c .before .before .before .before .before .before .before in let l = c .before .before .before .loop in let e = l .inv .1 in let k = s .pre in omega arith
 
--- src/calls.rt:209:9
 mul-monitor : tie.Need-mul-monitor Inv-loop μ-loop
 mul-monitor c = let s = c .before .before .before .before .before .before .before in let l = c .before .before .before .loop in let e = l .inv .1 in let k = s .pre in omega arith
 
--- src/calls.rt:209:9
 slice-write-monitor : tie.Need-slice-write-monitor Inv-loop μ-loop
 slice-write-monitor c = let s = c .before .before .before .before .before .before .before in let l = c .before .before .before .loop in let e = l .inv .1 in let k = s .pre in let g = l .inv .2 .long in omega arith
 
--- src/calls.rt:210:9
 add-i : tie.Need-add-i Inv-loop μ-loop
 add-i c = let s = c .before .before .before .before .before .before .before in let l = c .before .before .before .loop in let e = l .inv .1 in let k = s .pre in omega arith
 
--- src/calls.rt:208:5
 loop-less : tie.Need-loop-less Inv-loop μ-loop
 loop-less c = search needs
 
--- src/calls.rt:208:5
 loop-again : tie.Need-loop-again Inv-loop μ-loop
 loop-again c = let s = c .before .before .before .before .before .before .before in let l = c .before .before .before .loop in let e = l .inv .1 in let k = s .pre in (omega arith, e, atoms-more (l .inv .2) (omega arith) (c .wide .ensures))
 
--- src/calls.rt:212:5
 slice-write-monitor-2 : tie.Need-slice-write-monitor-2 Inv-loop μ-loop
 slice-write-monitor-2 c = let g = c .before .loop .inv .2 .long in omega arith
 
--- src/calls.rt:213:5
 slice-write-monitor-3 : tie.Need-slice-write-monitor-3 Inv-loop μ-loop
 slice-write-monitor-3 c = let g = c .before .loop .inv .2 .long in simp length-set (omega arith)
 
--- src/calls.rt:202:1
 same-length : tie.Need-same-length Inv-loop μ-loop
 same-length c = let s = c .before .before .before .before .before in let g = c .before .loop .inv .2 .long in simp length-set (g ∙ sym (s .pre .0))
 
--- src/calls.rt:202:1
 returns : tie.Need-returns Inv-loop μ-loop
 returns c = let s = c .before .before .before .before .before in let l = c .before .loop in headed (l .inv .2) (let e = l .inv .1 in let q = l .inv .0 in omega arith)
 

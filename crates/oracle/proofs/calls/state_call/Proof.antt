@@ -1,53 +1,42 @@
+-- `oracle::calls::state_call` meets its contract: refused for itself, or played. Assumes nothing.
 use Rattle.oracle.proofs.Public.{state-wide, state-short, state-other, new-narrow, new-bytes, state-timely, state-played}
 use borrow.Author.Needs.{needs}
 use Rattle.oracle.proofs.calls.state_call.Statement.{statement}
 use Rattle.oracle.proofs.calls.state_call.Tie as tie
 
--- src/calls.rt:297:9
 returns : tie.Need-returns
 returns c = let s = c .before .before .before in state-wide (s .pre) (s .args .state .now) (c .if1 .taken)
 
--- src/calls.rt:299:9
 width-requires : tie.Need-width-requires
 width-requires c κs = search needs
 
--- src/calls.rt:301:9
 same-length : tie.Need-same-length
 same-length c = search needs
 
--- src/calls.rt:301:9
 returns-2 : tie.Need-returns-2
 returns-2 c = let s = c .before .before .before .before .before .before in state-short (s .pre) (s .args .state .now) (c .before .before .before .if1 .left) (c .before .width .ensures) (c .if2 .taken)
 
--- src/calls.rt:303:8
 has-other-requires : tie.Need-has-other-requires
 has-other-requires c κs = search needs
 
--- src/calls.rt:304:9
 same-length-2 : tie.Need-same-length-2
 same-length-2 c = search needs
 
--- src/calls.rt:304:9
 returns-3 : tie.Need-returns-3
 returns-3 c = let s = c .before .before .before .before .before .before .before .before in state-other (s .pre) (s .args .state .now) (c .before .before .before .before .before .if1 .left) (c .before .before .before .width .ensures) (c .before .before .if2 .left) (c .before .has-other .ensures) (c .if3 .taken)
 
--- src/calls.rt:306:17
 new-atoms-requires : tie.Need-new-atoms-requires
 new-atoms-requires c κs = let s = c .before .before .before .before .before .before .before .before in (c .before .before .if2 .left, new-narrow (s .pre) (s .args .state .now) (c .before .before .before .before .before .if1 .left) (c .before .before .before .width .ensures) (c .before .before .if2 .left) (c .before .has-other .ensures))
 
--- src/calls.rt:307:9
 clock-requires : tie.Need-clock-requires
 clock-requires c κs = search needs
 
--- src/calls.rt:308:5
 advance-requires : tie.Need-advance-requires
 advance-requires c κs = let s = c .before .before .before .before .before .before .before .before .before .before .before .before .before in (state-timely (s .pre) (s .args .state .now) (c .before .before .before .before .before .before .before .before .before .before .if1 .left) (c .before .before .before .before .before .before .before .before .width .ensures) (c .before .before .before .before .before .before .before .if2 .left) (c .before .before .before .before .before .before .has-other .ensures) (c .before .before .clock .ensures), new-bytes (s .pre) (s .args .state .now) (c .before .before .before .before .before .before .before .before .before .before .if1 .left) (c .before .before .before .before .before .before .before .before .width .ensures) (c .before .before .before .before .before .before .before .if2 .left) (c .before .before .before .before .before .before .has-other .ensures) (c .before .before .before .before .before .if3 .left) (c .before .before .before .before .new-atoms .ensures))
 
--- src/calls.rt:292:1
 same-length-3 : tie.Need-same-length-3
 same-length-3 c = search needs
 
--- src/calls.rt:292:1
 returns-4 : tie.Need-returns-4
 returns-4 c = let s = c .before .before .before .before .before .before .before .before .before .before .before .before .before .before .before .before in state-played (s .pre) (s .args .state .now) (c .before .before .before .before .before .before .before .before .before .before .before .before .before .if1 .left) (c .before .before .before .before .before .before .before .before .before .before .before .width .ensures) (c .before .before .before .before .before .before .before .before .before .before .if2 .left) (c .before .before .before .before .before .before .before .before .before .has-other .ensures) (c .before .before .before .before .before .before .before .before .if3 .left) (c .before .before .before .before .before .clock .ensures) (c .before .before .before .before .before .before .before .new-atoms .ensures) (c .before .before .advance .ensures)
 

@@ -1,3 +1,4 @@
+-- `oracle::calls::stop_of` meets its contract: no end, or a sum that does not wrap. Assumes nothing.
 use Rattle.oracle.proofs.Modes.{stop-last, stop-sum}
 use Rattle.oracle.specs.Steps.{rangeAt}
 use mathlib.Core.Path.{_∙_}
@@ -6,19 +7,15 @@ use borrow.Author.Needs.{needs}
 use Rattle.oracle.proofs.calls.stop_of.Statement.{statement}
 use Rattle.oracle.proofs.calls.stop_of.Tie as tie
 
--- src/calls.rt:87:9
 upper-at-requires : tie.Need-upper-at-requires
 upper-at-requires c κs = search needs
 
--- src/calls.rt:89:9
 returns : tie.Need-returns
 returns c = let s = c .before .before .before in stop-last (rangeAt (s .args .monitor .now) (s .args .row)) (s .args .clock) (c .before .upper-at .ensures) (c .if1 .taken)
 
--- src/calls.rt:91:5
 add-result : tie.Need-add-result
 add-result c = let s = c .before .before .before in let e = c .before .upper-at .ensures in let b = s .pre .upper (λ q. c .if1 .left (e ∙ q)) in let k = s .pre .clock in omega arith
 
--- src/calls.rt:83:1
 returns-2 : tie.Need-returns-2
 returns-2 c = let s = c .before .before .before in stop-sum (rangeAt (s .args .monitor .now) (s .args .row)) (s .args .clock) (c .before .upper-at .ensures) (c .if1 .left)
 

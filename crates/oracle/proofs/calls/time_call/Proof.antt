@@ -1,43 +1,35 @@
+-- `oracle::calls::time_call` meets its contract: refused for itself, or played. Assumes nothing.
 use Rattle.oracle.proofs.Public.{old-bytes, time-early, time-late, time-timely, time-played}
 use borrow.Author.Needs.{needs}
 use Rattle.oracle.proofs.calls.time_call.Statement.{statement}
 use Rattle.oracle.proofs.calls.time_call.Tie as tie
 
--- src/calls.rt:281:15
 clock-requires : tie.Need-clock-requires
 clock-requires c κs = search needs
 
--- src/calls.rt:282:9
 same-length : tie.Need-same-length
 same-length c = search needs
 
--- src/calls.rt:282:9
 returns : tie.Need-returns
 returns c = time-early (c .before .before .before .before .pre) (c .before .clock .ensures) (c .if1 .taken)
 
--- src/calls.rt:285:9
 same-length-2 : tie.Need-same-length-2
 same-length-2 c = search needs
 
--- src/calls.rt:285:9
 returns-2 : tie.Need-returns-2
 returns-2 c = time-late (c .before .before .before .before .before .pre) (c .before .before .clock .ensures) (c .before .if1 .left) (c .if2 .taken)
 
--- src/calls.rt:287:17
-old-atoms-requires : tie.Need-old-atoms-requires
-old-atoms-requires c κs = search needs
+read-atoms-requires : tie.Need-read-atoms-requires
+read-atoms-requires c κs = search needs
 
--- src/calls.rt:288:5
 advance-requires : tie.Need-advance-requires
-advance-requires c κs = let s = c .before .before .before .before .before .before .before .before .before in (time-timely (s .pre) (c .before .before .before .before .before .before .clock .ensures) (c .before .before .before .before .before .if1 .left) (c .before .before .before .before .if2 .left), rw (c .before .before .old-atoms .ensures) (old-bytes (s .pre)))
+advance-requires c κs = let s = c .before .before .before .before .before .before .before .before .before in (time-timely (s .pre) (c .before .before .before .before .before .before .clock .ensures) (c .before .before .before .before .before .if1 .left) (c .before .before .before .before .if2 .left), rw (c .before .before .read-atoms .ensures) (old-bytes (s .pre)))
 
--- src/calls.rt:277:1
 same-length-3 : tie.Need-same-length-3
 same-length-3 c = search needs
 
--- src/calls.rt:277:1
 returns-3 : tie.Need-returns-3
-returns-3 c = let s = c .before .before .before .before .before .before .before .before .before .before .before .before in time-played (s .pre) (c .before .before .before .before .before .before .before .before .before .clock .ensures) (c .before .before .before .before .before .before .before .before .if1 .left) (c .before .before .before .before .before .before .before .if2 .left) (c .before .before .before .before .before .old-atoms .ensures) (c .before .before .advance .ensures)
+returns-3 c = let s = c .before .before .before .before .before .before .before .before .before .before .before .before in time-played (s .pre) (c .before .before .before .before .before .before .before .before .before .clock .ensures) (c .before .before .before .before .before .before .before .before .if1 .left) (c .before .before .before .before .before .before .before .if2 .left) (c .before .before .before .before .before .read-atoms .ensures) (c .before .before .advance .ensures)
 
 pub time-call-spec : {M : Type 1} → statement M
 time-call-spec =
@@ -48,7 +40,7 @@ time-call-spec =
     returns
     same-length-2
     returns-2
-    old-atoms-requires
+    read-atoms-requires
     advance-requires
     same-length-3
     returns-3)

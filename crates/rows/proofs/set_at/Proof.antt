@@ -1,11 +1,11 @@
--- `verdicts::set_at` meets its contract. Assumes nothing.
+-- `rows::set_at` meets its contract. Assumes nothing.
 use borrow.Author.Needs.{needs}
-use Prim.Native.Nat.{ℕ, _+_, _*_}
+use Prim.Native.Nat.{_+_}
 use mathlib.Core.Path.{refl}
 use Rattle.rows.specs.Memory.{SET, setStart}
-use Rattle.verdicts.proofs.Read.{part-to}
-use Rattle.verdicts.proofs.set_at.Statement.{statement}
-use Rattle.verdicts.proofs.set_at.Tie as tie
+use Rattle.rows.proofs.Parts.{part-to}
+use Rattle.rows.proofs.set_at.Statement.{statement}
+use Rattle.rows.proofs.set_at.Tie as tie
 
 mul-from : tie.Need-mul-from
 mul-from c = search needs
