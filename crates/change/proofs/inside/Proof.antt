@@ -1,13 +1,12 @@
+-- `change::inside` meets its contract. Assumes nothing.
 use borrow.Author.Tests.{le-leb, lt-leb}
 use mathlib.Core.Path.{sym}
 use Rattle.change.proofs.inside.Statement.{statement}
 use Rattle.change.proofs.inside.Tie as tie
 
--- src/lib.rt:31:9
 returns : tie.Need-returns
 returns c = sym (rw (le-leb _ _ (c .if1 .taken)))
 
--- src/lib.rt:27:1
 returns-2 : tie.Need-returns-2
 returns-2 c = sym (rw (lt-leb _ _ (c .if1 .left)))
 

@@ -1,18 +1,16 @@
+-- `change::room_for` meets its contract. Assumes nothing.
 use Rattle.change.proofs.Changes.{changed-1, room-else}
 use mathlib.Core.Path.{_∙_, sym}
 use borrow.Author.Needs.{needs}
 use Rattle.change.proofs.room_for.Statement.{statement}
 use Rattle.change.proofs.room_for.Tie as tie
 
--- src/lib.rt:43:9
 has-room-requires : tie.Need-has-room-requires
 has-room-requires c κs = search needs
 
--- src/lib.rt:43:9
 returns : tie.Need-returns
 returns c = let s = c .before .before .before in c .has-room .ensures ∙ sym (rw (changed-1 (s .args .lower) (s .args .upper) _ (s .args .mode) (c .before .if1 .taken)))
 
--- src/lib.rt:37:1
 returns-2 : tie.Need-returns-2
 returns-2 c = let s = c .before .before in room-else (s .args .mode) _ _ (s .pre .0) (s .pre .1) (c .if1 .left)
 
