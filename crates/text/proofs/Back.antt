@@ -10,7 +10,7 @@ use borrow.Author.Tests.{le-leb, ne-eqb, eqb-true, eqb-false}
 use Rattle.text.specs.Words.{MAX, mostDigits, textEnds, pick, parts, digit, letters, allDigits, said, plain, good, ends, gives, begun, runs, supplied, supply}
 use Rattle.text.specs.Decimals.{orElse, onto, decimal}
 use Rattle.text.proofs.Digits.{at-most-20}
-use Rattle.text.proofs.Letters.{both-hold, no-part, within-digits}
+use Rattle.text.proofs.Letters.{both-hold, no-part, within-digits, one-letter}
 
 -- ---- the digits one by one
 says : (f n : ℕ) (l : List ℕ) → n ≤ f → said 0 (onto f n l) ≡ said n l
@@ -49,14 +49,6 @@ plainly (suc f) n l h p = by-zero (eqb n 0) refl (λ q r. plainly f (n / 10) ((4
     by-zero false e r = let z = eqb-false n 0 e in rw e (r (omega arith) (λ k. rw (ne-eqb (48 + n % 10) 48 (λ y. z (omega arith)))))
 
 -- ---- the digits as a word
-one-letter : (d : ℕ) → plain (d ∷ []) ≡ true
-unfolding plain pick
-one-letter d = by-zero (eqb d 48) refl
-  where
-    by-zero : (t : Bool) → eqb d 48 ≡ t → plain (d ∷ []) ≡ true
-    by-zero true e = rw e
-    by-zero false e = rw e
-
 decimal-digits : (n : ℕ) → allDigits (decimal n) ≡ true
 unfolding decimal allDigits
 decimal-digits n = digits (n / 10) (n / 10) ((48 + n % 10) ∷ []) (rw (one-digit n))

@@ -7,7 +7,7 @@ use mathlib.Core.List.{List, [], _∷_}
 use native.Mathlib.Omega.{arith}
 use native.Mathlib.Numerals.{add-one}
 use native.Mathlib.Nat.{pow-suc, pow-le-pow-right, add-zero, zero-add, add-suc, suc-add}
-use lib.Dec.{leb, ltb, lit<}
+use lib.Dec.{leb, ltb, eqb, lit<}
 use lib.ListN.{length, getD, drop, drop-of-length-le}
 use lib.Seq.{drop-cons}
 use borrow.Author.Tests.{le-leb, lt-leb, ne-eqb, leb-true, ltb-true, ltb-false}
@@ -257,3 +257,32 @@ next-more s i h p = rw (drop-cons s i 0 h, p, add-one)
 pub next-here : (s : List ℕ) (i : ℕ) → i < length s → parts (getD s i 0) ≡ false → wordHere (drop i s) i ≡ nextWord s i
 unfolding nextWord nextIn pick
 next-here s i h p = rw (drop-cons s i 0 h, p)
+
+-- ---- a word of one digit
+pub one-letter : (d : ℕ) → plain (d ∷ []) ≡ true
+unfolding plain pick
+one-letter d = by-zero (eqb d 48) refl
+  where
+    by-zero : (t : Bool) → eqb d 48 ≡ t → plain (d ∷ []) ≡ true
+    by-zero true e = rw e
+    by-zero false e = rw e
+
+short-good : (b : ℕ) → Digit b → good (b ∷ []) ≡ true
+unfolding good allDigits said
+short-good b w =
+    let k = within-digits b (w .says) in
+    rw (w .says, one-letter b, le-leb (0 * 10 + (b - 48)) MAX (omega arith))
+
+-- between two parting bytes it is told from these three
+pub next-is-short : (s : List ℕ) (at d : ℕ) → at + 2 < length s → parts (getD s at 0) ≡ true → parts (getD s (at + 2) 0) ≡ true → d ≡ kindOf (getD s (at + 1) 0) → d < 10 → Word d (at + 2) ≡ nextWord s at
+unfolding said
+next-is-short s at d h p q e f =
+    let b = getD s (at + 1) 0 in
+    let w : Digit b = is-digit b (parts b) (digit b) refl refl (omega arith) in
+    let a : at + 1 + 1 ≡ at + 2 = omega arith in
+    let o : kindAt (drop (at + 1 + 1) s) ≡ 10 = rw a (sym (kind-in s (at + 2) h) ∙ sym (kind-over (getD s (at + 2) 0) q)) in
+    let ls : letters (drop (at + 1) s) ≡ b ∷ [] = begins s (at + 1) (omega arith) (w .stays) ∙ ap (λ (l : List ℕ). b ∷ l) (over (drop (at + 1 + 1) s) o) in
+    let v : 0 * 10 + (b - 48) ≡ d = omega (arith, w .value) in
+    rw (← a) (accepted (drop (at + 1) s) (at + 1) d 1 (rw ls (short-good b w)) (rw ls v) (rw ls))
+    ∙ next-here s (at + 1) (omega arith) (w .stays)
+    ∙ sym (next-more s at (omega arith) p)

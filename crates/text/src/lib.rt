@@ -5,4 +5,5 @@ mod words;
 pub use decimals::decimal;
 pub use decimals::write_last;
 pub use words::Read;
+pub use words::next_short;
 pub use words::next_word;

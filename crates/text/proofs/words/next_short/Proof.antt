@@ -1,0 +1,63 @@
+-- Where the three bytes tell a word of one digit, that is the next word; elsewhere `next_word` reads it.
+use Rattle.text.proofs.Letters.{next-is-short}
+use mathlib.Core.Path.{sym, _∙_}
+use native.Mathlib.Omega.{arith}
+use borrow.Author.Needs.{needs}
+use Rattle.text.proofs.words.next_short.Statement.{statement}
+use Rattle.text.proofs.words.next_short.Tie as tie
+
+sub-if2 : tie.Need-sub-if2
+sub-if2 c = search needs
+
+add-end : tie.Need-add-end
+add-end c = search needs
+
+shared-slice-read-parts : tie.Need-shared-slice-read-parts
+shared-slice-read-parts c = search needs
+
+parts-requires : tie.Need-parts-requires
+parts-requires c κs = search needs
+
+shared-slice-read-parts-2 : tie.Need-shared-slice-read-parts-2
+shared-slice-read-parts-2 c = search needs
+
+parts-requires-2 : tie.Need-parts-requires-2
+parts-requires-2 c κs = search needs
+
+add-kind : tie.Need-add-kind
+add-kind c = search needs
+
+shared-slice-read-kind : tie.Need-shared-slice-read-kind
+shared-slice-read-kind c = search needs
+
+kind-requires : tie.Need-kind-requires
+kind-requires c κs = search needs
+
+returns : tie.Need-returns
+returns c =
+    let short = c .before .before .before in
+    let first = short .before .before .before in
+    next-is-short _ _ _ (omega arith) (sym (first .before .parts .ensures) ∙ first .if3 .taken) (sym (short .before .parts2 .ensures) ∙ short .if4 .taken) (c .before .kind .ensures) (c .if5 .taken)
+
+next-word-requires : tie.Need-next-word-requires
+next-word-requires c κs = search needs
+
+returns-2 : tie.Need-returns-2
+returns-2 c = search needs
+
+pub next-short-spec : {M : Type 1} → statement M
+next-short-spec =
+    tie.close
+    (tie.spec
+    sub-if2
+    add-end
+    shared-slice-read-parts
+    parts-requires
+    shared-slice-read-parts-2
+    parts-requires-2
+    add-kind
+    shared-slice-read-kind
+    kind-requires
+    returns
+    next-word-requires
+    returns-2)
