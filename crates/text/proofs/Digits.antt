@@ -183,3 +183,11 @@ plenty n size h k = sym (le-ltb size (length (decimal n)) (omega (arith, at-most
 pub all-shown : (n : ℕ) → n < 2 ^ 64 → shown n 20 ≡ decimal n
 unfolding shown pick
 all-shown n h = rw (le-leb (length (decimal n)) 20 (at-most-20 n h))
+
+-- ---- a number below ten has one digit
+pub one-place : (n : ℕ) → n < 10 → (48 + n) ∷ [] ≡ decimal n
+unfolding decimal
+one-place n h =
+    let q : n / 10 ≡ 0 = omega arith in
+    let r : n % 10 ≡ n = omega arith in
+    rw (q, r) (sym (onto-none 0 ((48 + n) ∷ [])))

@@ -16,6 +16,11 @@ const TOO_SHORT: u64 = 0xffff_ffff_ffff_ffff;
 // No number of 64 bits has more digits.
 const MOST_DIGITS: usize = 20;
 
+// The first number of two digits, and the byte of the digit 0.
+const TEN: u64 = 10;
+
+const ZERO: u8 = b'0';
+
 fn copy_to(out: &mut [u8], at: usize, bytes: &[u8])
     requires { ⌜ at + length (now bytes) ≤ length (now out) ⌝ }
     ensures { λ _. ⌜ now (out .exit) ≡ sets (now (out .entry)) at (now (bytes .entry)) ⌝ }
@@ -41,10 +46,14 @@ pub fn put_bytes(out: &mut [u8], at: usize, bytes: &[u8]) -> usize
     at + bytes.len()
 }
 
-// Writes the digits of a number.
+// Writes the digits of a number. A number of one digit needs no scratch.
 pub fn put_number(out: &mut [u8], at: usize, n: u64) -> usize
     ensures { λ r. ⌜ Wrote (now (out .entry)) at (Decimals·decimal n) (now (out .exit)) r ⌝ }
 {
+    if n < TEN {
+        let digit = [ZERO + n as u8];
+        return put_bytes(out, at, &digit);
+    }
     let mut scratch = [0u8; MOST_DIGITS];
     let digits = text::decimal(n, &mut scratch);
     put_bytes(out, at, digits)
