@@ -131,7 +131,7 @@ fn bytes_into(input: &[u8], cursor: usize, count: usize, bytes: &mut [u8]) -> Pa
     let mut from = cursor;
     let mut i = 0;
     while i < count {
-        let r = text::next_word(input, from);
+        let r = text::next_short(input, from);
         let Read::Word(w, next) = r else {
             return Part::Refused(number_of(r));
         };
@@ -147,7 +147,7 @@ pub fn state(input: &[u8], cursor: usize, bytes: &mut [u8]) -> Part
     requires { ⌜ WIDEST ≤ length (now bytes) ⌝ }
     ensures { λ r. ⌜ StateRead (now (input .entry)) cursor (now (bytes .exit)) r ⌝ }
 {
-    let r = text::next_word(input, cursor);
+    let r = text::next_short(input, cursor);
     let Read::Word(width, from) = r else {
         return Part::Refused(number_of(r));
     };

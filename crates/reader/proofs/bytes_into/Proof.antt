@@ -15,8 +15,8 @@ abbrev μ-loop : tie.MeasureT-loop
 loop-holds : tie.Need-loop-holds Inv-loop μ-loop
 loop-holds c = turn-start _ _ _ _
 
-next-word-requires : tie.Need-next-word-requires Inv-loop μ-loop
-next-word-requires c κs = search needs
+next-short-requires : tie.Need-next-short-requires Inv-loop μ-loop
+next-short-requires c κs = search needs
 
 enum-known-r : tie.Need-enum-known-r Inv-loop μ-loop
 enum-known-r c = search needs
@@ -32,7 +32,7 @@ same-length c = search needs
 
 returns : tie.Need-returns Inv-loop μ-loop
 unfolding BytesRead
-returns c = let e = c .before .enum-told .given .1 in turn-stop (c .before .before .before .before .before .loop .inv) (sym (c .before .before .before .next-word .ensures) ∙ e) (c .before .before .before .before .loop-test .taken) (c .number-of .ensures ∙ sym (number e))
+returns c = let e = c .before .enum-told .given .1 in turn-stop (c .before .before .before .before .before .loop .inv) (sym (c .before .before .before .next-short .ensures) ∙ e) (c .before .before .before .before .loop-test .taken) (c .number-of .ensures ∙ sym (number e))
 
 byte-of-requires : tie.Need-byte-of-requires Inv-loop μ-loop
 byte-of-requires c κs = search needs
@@ -47,7 +47,7 @@ loop-less : tie.Need-loop-less Inv-loop μ-loop
 loop-less c = search needs
 
 loop-again : tie.Need-loop-again Inv-loop μ-loop
-loop-again c = turn-more (c .before .before .before .before .before .before .loop .inv) (sym (c .before .before .before .before .next-word .ensures) ∙ c .before .before .r .given .1) (c .byte-of .ensures) (c .before .before .before .before .before .loop-test .taken) (c .before .before .before .before .before .before .before .before .before .pre)
+loop-again c = turn-more (c .before .before .before .before .before .before .loop .inv) (sym (c .before .before .before .before .next-short .ensures) ∙ c .before .before .r .given .1) (c .byte-of .ensures) (c .before .before .before .before .before .loop-test .taken) (c .before .before .before .before .before .before .before .before .before .pre)
 
 same-length-2 : tie.Need-same-length-2 Inv-loop μ-loop
 same-length-2 c = search needs
@@ -63,7 +63,7 @@ bytes-into-spec =
     Inv-loop
     μ-loop
     loop-holds
-    next-word-requires
+    next-short-requires
     enum-known-r
     enum-told
     number-of-requires
