@@ -73,7 +73,7 @@ pub fn call(input: &[u8], at: usize, bytes: &mut [u8; WIDEST], monitor: &mut [u6
     requires { ⌜ Kept (now monitor) ⌝ }
     ensures { λ t. ⌜ Turned (now (input .entry)) (supplyFrom (now (input .entry)) at .ending) (callFrom (supplyFrom (now (input .entry)) at .ending) (supplyFrom (now (input .entry)) at .words)) (now (monitor .entry)) (now (monitor .exit)) t ⌝ }
 {
-    let r = text::next_word(input, at);
+    let r = text::next_short(input, at);
     let Read::Word(kind, next) = r else {
         return Turn::Stopped(reader::number_of(r));
     };
