@@ -41,7 +41,7 @@ fn verdict(v: Verdict) {
     number(digit(settled));
 }
 
-fn outcome(refusal: u64, monitor: &[u64])
+fn outcome(refusal: u64, monitor: &[u64; SIZE])
     requires { ⌜ Kept (now monitor) ⌝ }
 {
     text(b": ");

@@ -17,7 +17,7 @@ use Rattle.rows.specs.Memory.{ROWS, ROW, OWNERS, SET, SIZE, part, temporals, lo
 use Rattle.store.proofs.Parts.{word-at, part-length, part-same}
 use Rattle.change.specs.Change.{changed}
 use Rattle.change.proofs.Changes.{changed-0}
-use Rattle.oracle.specs.Steps.{rangeAt, setAfter, Fit, Fitting, Written}
+use Rattle.oracle.specs.Steps.{rangeAt, setAfter, Roomy, Fit, Fitting, Written}
 
 -- ---- a part of a memory put anew
 module _ (b k : ℕ) (xs ys : List ℕ) (hb : b + k ≤ length xs) (hk : length ys ≡ k) where
@@ -60,6 +60,19 @@ set-long m j e h = part-length (setStart j) SET m (omega arith)
 pub room-is : (s : Runs) → fits SET s ≡ true → 2 * length s < SET
 room-is s e = ltb-true (2 * length s) SET e
 
+module _ {m : List ℕ} {mode s t j : ℕ} (f : Roomy m mode s t j) {p : List ℕ} (e : p ≡ setWords m j) where
+  set-size : length (setWords m j) ≡ SET
+  set-size = set-long m j (f .long) (f .inside)
+
+  pub roomy-good : Good p
+  roomy-good = rw e (f .good)
+
+  pub roomy-room : fits (length p) (changed mode s t (runs p)) ≡ true
+  roomy-room = rw (e, set-size) (f .room)
+
+  pub roomy-done : {ys : List ℕ} → ys ≡ pack (length p) (changed mode s t (runs p)) → ys ≡ pack SET (changed mode s t (runs (setWords m j)))
+  roomy-done h = h ∙ rw (e, set-size)
+
 module _ {m : List ℕ} {c mode j : ℕ} (f : Fit m c mode j) where
   long : length (setWords m j) ≡ SET
   long = set-long m j (f .bounded .long) (f .inside)
@@ -70,16 +83,12 @@ module _ {m : List ℕ} {c mode j : ℕ} (f : Fit m c mode j) where
       let p : setWords m j ≡ pack SET (runs (setWords m j)) = packed (setWords m j) (f .good) ∙ ap (λ (k : ℕ). pack k (runs (setWords m j))) long in
       sym (ap (λ (s : Runs). putMid (setStart j) SET m (pack SET s)) (changed-0 (start g c) (stop g c) (runs (setWords m j)) mode e) ∙ ap (putMid (setStart j) SET m) (sym p) ∙ put-same (setStart j) SET m)
 
-  module _ {p : List ℕ} (e : p ≡ setWords m j) where
-    pub fit-good : Good p
-    fit-good = rw e (f .good)
+  module _ {s t : ℕ} (es : s ≡ start (rangeAt m (ownerAt m j)) c) (et : t ≡ stop (rangeAt m (ownerAt m j)) c) where
+    pub fit-roomy : Roomy m mode s t j
+    fit-roomy = record { long = f .bounded .long; inside = f .inside; good = f .good; room = rw (es, et) (f .room) }
 
-    module _ {s t : ℕ} (es : s ≡ start (rangeAt m (ownerAt m j)) c) (et : t ≡ stop (rangeAt m (ownerAt m j)) c) where
-      pub fit-room : fits (length p) (changed mode s t (runs p)) ≡ true
-      fit-room = rw (e, es, et, long) (f .room)
-
-      pub fit-done : {ys : List ℕ} → ys ≡ pack (length p) (changed mode s t (runs p)) → ys ≡ pack SET (setAfter m c mode j)
-      fit-done h = h ∙ rw (e, es, et, long)
+    pub fit-done : {m′ : List ℕ} → m′ ≡ putMid (setStart j) SET m (pack SET (changed mode s t (runs (setWords m j)))) → m′ ≡ putMid (setStart j) SET m (pack SET (setAfter m c mode j))
+    fit-done h = h ∙ rw (es, et)
 
 -- ---- one after the other
 pub written-start : (m : List ℕ) (f : ℕ → Runs) → length m ≡ SIZE → Written m f 0 m

@@ -99,6 +99,13 @@ pub record Slot (m : List ℕ) (c j r : ℕ) : Type 0 where
   pub inside : j < temporals m
   pub owner : r ≡ ownerAt m j
 
+-- words whose set of slot j has room for a change by a start and a stop
+pub record Roomy (m : List ℕ) (mode s t j : ℕ) : Type 0 where
+  pub long : length m ≡ SIZE
+  pub inside : j < 32
+  pub good : Good (setWords m j)
+  pub room : fits SET (changed mode s t (runs (setWords m j))) ≡ true
+
 -- a slot whose set has room for a change, and modes that every set has room for
 pub record Fit (m : List ℕ) (c mode j : ℕ) : Type 0 where
   pub inside : j < 32

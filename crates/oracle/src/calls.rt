@@ -6,15 +6,17 @@ ghost use Prim.Native.Nat.{_+_, _*_, _≤_, _<_};
 ghost use lib.ListN.{length, getD};
 ghost use lib.Dec.{ltb};
 ghost use borrow.Rule.Slice.PartMut.{putMid};
-ghost use Rattle.numset.specs.Runs.{pack};
+ghost use Rattle.numset.specs.Runs.{pack, runs};
 ghost use Rattle.pmtl.specs.Book.{start, stop, some};
 ghost use Rattle.pmtl.specs.Calls.{Call};
-ghost use Rattle.rows.specs.Memory.{SET, SIZE, rowCount, widthWord, temporals, kindAt, setStart, BookKept};
+ghost use Rattle.rows.specs.Memory.{SET, SIZE, rowCount, widthWord, temporals, kindAt, setStart, setWords, BookKept};
 ghost use Rattle.book.specs.Kept.{Kept};
-ghost use Rattle.oracle.specs.Steps.{firstBytes, Bytes, snapOf, rangeAt, modeAt, setAfter, rowPlan, Bounded, Slot, Planned, Timely, Fit, Fitting, Written, Headed, Advanced};
+ghost use Rattle.change.specs.Change.{changed};
+ghost use Rattle.oracle.specs.Steps.{firstBytes, Bytes, snapOf, rangeAt, modeAt, setAfter, rowPlan, Bounded, Slot, Planned, Timely, Roomy, Fit, Fitting, Written, Headed, Advanced};
 ghost use Rattle.oracle.specs.Oracle.{Called};
 use rows::MOST_ATOMS;
 use rows::MOST_ROWS;
+use rows::SIZE;
 use rows::bit;
 use rows::set_at;
 
@@ -56,7 +58,7 @@ pub struct Plan {
 
 // How a temporal row's set changes, by the values of its operands.
 fn mode_of<'a>(
-    monitor: &'a [u64],
+    monitor: &'a [u64; SIZE],
     atoms: &'a [u8; MOST_ATOMS],
     facts: &'a [u8; MOST_ROWS],
     row: usize,
@@ -79,7 +81,7 @@ fn mode_of<'a>(
 }
 
 // Where a row's range begins, counted from a clock.
-fn start_of(monitor: &[u64], clock: u64, row: usize) -> u64
+fn start_of(monitor: &[u64; SIZE], clock: u64, row: usize) -> u64
     requires { ⌜ Bounded (now monitor) clock row ⌝ }
     ensures { λ r. ⌜ r ≡ start (rangeAt (now (monitor .entry)) row) clock ⌝ }
 {
@@ -87,7 +89,7 @@ fn start_of(monitor: &[u64], clock: u64, row: usize) -> u64
 }
 
 // And where it ends.
-fn stop_of(monitor: &[u64], clock: u64, row: usize) -> u64
+fn stop_of(monitor: &[u64; SIZE], clock: u64, row: usize) -> u64
     requires { ⌜ Bounded (now monitor) clock row ⌝ }
     ensures { λ r. ⌜ r ≡ stop (rangeAt (now (monitor .entry)) row) clock ⌝ }
 {
@@ -100,7 +102,7 @@ fn stop_of(monitor: &[u64], clock: u64, row: usize) -> u64
 
 // The plan of one temporal row, by what is known of the rows below it.
 fn plan_row<'a>(
-    monitor: &'a [u64],
+    monitor: &'a [u64; SIZE],
     clock: u64,
     atoms: &'a [u8; MOST_ATOMS],
     facts: &'a [u8; MOST_ROWS],
@@ -124,7 +126,7 @@ fn plan_row<'a>(
 }
 
 // The plan of a call, from the lowest temporal row upward, up to the first whose set lacks room.
-fn plan_call<'a>(monitor: &'a [u64], clock: u64, atoms: &'a [u8; MOST_ATOMS]) -> Plan
+fn plan_call<'a>(monitor: &'a [u64; SIZE], clock: u64, atoms: &'a [u8; MOST_ATOMS]) -> Plan
     requires { ⌜ Timely (now monitor) clock ⌝ }
     ensures { λ r. ⌜ Planned (now (monitor .entry)) clock (now (atoms .entry)) (r .room) (r .modes) ⌝ }
 {
@@ -147,8 +149,18 @@ fn plan_call<'a>(monitor: &'a [u64], clock: u64, atoms: &'a [u8; MOST_ATOMS]) ->
     Plan { room: true, modes }
 }
 
+// Changes the set of a slot among a monitor's words, by a range's start and stop. No part can be taken of an array.
+fn change_set(words: &mut [u64], slot: usize, mode: u8, start: u64, stop: u64)
+    requires { ⌜ Roomy (now words) mode start stop slot ⌝ }
+    ensures { λ _. ⌜ now (words .exit) ≡ putMid (setStart slot) SET (now (words .entry)) (pack SET (changed mode start stop (runs (setWords (now (words .entry)) slot)))) ⌝ }
+{
+    let from = rows::SETS + rows::SET * slot;
+    let to = from + rows::SET;
+    change::change(&mut words[from..to], mode, start, stop);
+}
+
 // Changes one set.
-fn commit_slot(monitor: &mut [u64], clock: u64, slot: usize, mode: u8)
+fn commit_slot(monitor: &mut [u64; SIZE], clock: u64, slot: usize, mode: u8)
     requires { ⌜ Fit (now monitor) clock mode slot ⌝ }
     ensures { λ _. ⌜ now (monitor .exit) ≡ putMid (setStart slot) SET (now (monitor .entry)) (pack SET (setAfter (now (monitor .entry)) clock mode slot)) ⌝ }
 {
@@ -158,13 +170,11 @@ fn commit_slot(monitor: &mut [u64], clock: u64, slot: usize, mode: u8)
     let row = rows::owner_at(monitor, slot);
     let start = start_of(monitor, clock, row);
     let stop = stop_of(monitor, clock, row);
-    let from = rows::SETS + rows::SET * slot;
-    let to = from + rows::SET;
-    change::change(&mut monitor[from..to], mode, start, stop);
+    change_set(monitor, slot, mode, start, stop);
 }
 
 // Changes the sets as planned.
-fn commit(monitor: &mut [u64], clock: u64, modes: &[u8; MOST_TEMPORALS])
+fn commit(monitor: &mut [u64; SIZE], clock: u64, modes: &[u8; MOST_TEMPORALS])
     requires { ⌜ Fitting (now monitor) clock (now modes) ⌝ }
     ensures { λ _. ⌜ Written (now (monitor .entry)) (λ j. setAfter (now (monitor .entry)) clock (getD (now (modes .entry)) j 0) j) (temporals (now (monitor .entry))) (now (monitor .exit)) ⌝ }
 {
@@ -183,7 +193,7 @@ fn wide(x: u8) -> u64
 }
 
 // Sets the atoms, the clock, and that a call was accepted.
-fn put_head(monitor: &mut [u64], clock: u64, atoms: &[u8; MOST_ATOMS])
+fn put_head(monitor: &mut [u64; SIZE], clock: u64, atoms: &[u8; MOST_ATOMS])
     requires { ⌜ (length (now monitor) ≡ SIZE) × (length (now atoms) ≡ 256) × (widthWord (now monitor) ≤ 256) ⌝ }
     ensures { λ _. ⌜ Headed (now (monitor .entry)) clock (now (atoms .entry)) (now (monitor .exit)) ⌝ }
 {
@@ -198,7 +208,7 @@ fn put_head(monitor: &mut [u64], clock: u64, atoms: &[u8; MOST_ATOMS])
 }
 
 // A call at a clock and atoms: planned, and then carried out. Where a set lacks room, nothing is.
-fn advance(monitor: &mut [u64], clock: u64, atoms: &[u8; MOST_ATOMS]) -> u64
+fn advance(monitor: &mut [u64; SIZE], clock: u64, atoms: &[u8; MOST_ATOMS]) -> u64
     requires { ⌜ Timely (now monitor) clock ⌝ }
     requires { ⌜ Bytes (now atoms) (widthWord (now monitor)) ⌝ }
     ensures { λ r. ⌜ Advanced (now (monitor .entry)) (snapOf clock (now (atoms .entry)) (widthWord (now (monitor .entry))) ∷ []) (now (monitor .exit)) r ⌝ }
@@ -243,7 +253,7 @@ fn has_other(state: &[u8]) -> bool
 }
 
 // The clock becomes `time`.
-pub fn time_call(monitor: &mut [u64], time: u64) -> u64
+pub fn time_call(monitor: &mut [u64; SIZE], time: u64) -> u64
     requires { ⌜ Kept (now monitor) ⌝ }
     ensures { λ r. ⌜ Called (Call.time time) (now (monitor .entry)) (now (monitor .exit)) r ⌝ }
 {
@@ -258,7 +268,7 @@ pub fn time_call(monitor: &mut [u64], time: u64) -> u64
 }
 
 // The atoms become the bytes of `state`.
-pub fn state_call(monitor: &mut [u64], state: &[u8]) -> u64
+pub fn state_call(monitor: &mut [u64; SIZE], state: &[u8]) -> u64
     requires { ⌜ Kept (now monitor) ⌝ }
     ensures { λ r. ⌜ Called (Call.state (now (state .entry))) (now (monitor .entry)) (now (monitor .exit)) r ⌝ }
 {

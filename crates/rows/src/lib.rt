@@ -106,15 +106,15 @@ pub const ONCE: u64 = 8;
 pub const SINCE: u64 = 9;
 
 // The word at a place.
-pub fn word(monitor: &[u64], at: usize) -> u64
-    requires { ⌜ at < length (now monitor) ⌝ }
+pub fn word(monitor: &[u64; SIZE], at: usize) -> u64
+    requires { ⌜ at < SIZE ⌝ }
     ensures { λ r. ⌜ r ≡ getD (now (monitor .entry)) at 0 ⌝ }
 {
     monitor[at]
 }
 
 // How many rows the book has.
-pub fn row_count(monitor: &[u64]) -> usize
+pub fn row_count(monitor: &[u64; SIZE]) -> usize
     requires { ⌜ length (now monitor) ≡ SIZE ⌝ }
     ensures { λ r. ⌜ r ≡ rowCount (now (monitor .entry)) ⌝ }
 {
@@ -122,7 +122,7 @@ pub fn row_count(monitor: &[u64]) -> usize
 }
 
 // 1 once a call was accepted.
-pub fn begun(monitor: &[u64]) -> u64
+pub fn begun(monitor: &[u64; SIZE]) -> u64
     requires { ⌜ length (now monitor) ≡ SIZE ⌝ }
     ensures { λ r. ⌜ r ≡ begunWord (now (monitor .entry)) ⌝ }
 {
@@ -130,7 +130,7 @@ pub fn begun(monitor: &[u64]) -> u64
 }
 
 // The time of the last accepted time call.
-pub fn clock(monitor: &[u64]) -> u64
+pub fn clock(monitor: &[u64; SIZE]) -> u64
     requires { ⌜ length (now monitor) ≡ SIZE ⌝ }
     ensures { λ r. ⌜ r ≡ clockOf (now (monitor .entry)) ⌝ }
 {
@@ -138,7 +138,7 @@ pub fn clock(monitor: &[u64]) -> u64
 }
 
 // The largest atom plus 1.
-pub fn width(monitor: &[u64]) -> usize
+pub fn width(monitor: &[u64; SIZE]) -> usize
     requires { ⌜ length (now monitor) ≡ SIZE ⌝ }
     ensures { λ r. ⌜ r ≡ widthWord (now (monitor .entry)) ⌝ }
 {
@@ -146,7 +146,7 @@ pub fn width(monitor: &[u64]) -> usize
 }
 
 // How many rows are temporal.
-pub fn temporal_count(monitor: &[u64]) -> usize
+pub fn temporal_count(monitor: &[u64; SIZE]) -> usize
     requires { ⌜ length (now monitor) ≡ SIZE ⌝ }
     ensures { λ r. ⌜ r ≡ temporals (now (monitor .entry)) ⌝ }
 {
@@ -154,7 +154,7 @@ pub fn temporal_count(monitor: &[u64]) -> usize
 }
 
 // How many properties are assumed.
-pub fn assume_count(monitor: &[u64]) -> usize
+pub fn assume_count(monitor: &[u64; SIZE]) -> usize
     requires { ⌜ length (now monitor) ≡ SIZE ⌝ }
     ensures { λ r. ⌜ r ≡ assumeCount (now (monitor .entry)) ⌝ }
 {
@@ -162,7 +162,7 @@ pub fn assume_count(monitor: &[u64]) -> usize
 }
 
 // How many properties are guaranteed.
-pub fn guarantee_count(monitor: &[u64]) -> usize
+pub fn guarantee_count(monitor: &[u64; SIZE]) -> usize
     requires { ⌜ length (now monitor) ≡ SIZE ⌝ }
     ensures { λ r. ⌜ r ≡ guaranteeCount (now (monitor .entry)) ⌝ }
 {
@@ -170,7 +170,7 @@ pub fn guarantee_count(monitor: &[u64]) -> usize
 }
 
 // The words of a row.
-pub fn kind_at(monitor: &[u64], row: usize) -> u64
+pub fn kind_at(monitor: &[u64; SIZE], row: usize) -> u64
     requires { ⌜ length (now monitor) ≡ SIZE ⌝ }
     requires { ⌜ row < 128 ⌝ }
     ensures { λ r. ⌜ r ≡ kindAt (now (monitor .entry)) row ⌝ }
@@ -178,7 +178,7 @@ pub fn kind_at(monitor: &[u64], row: usize) -> u64
     monitor[ROWS + ROW * row]
 }
 
-pub fn arg_at(monitor: &[u64], row: usize) -> usize
+pub fn arg_at(monitor: &[u64; SIZE], row: usize) -> usize
     requires { ⌜ length (now monitor) ≡ SIZE ⌝ }
     requires { ⌜ row < 128 ⌝ }
     ensures { λ r. ⌜ r ≡ argAt (now (monitor .entry)) row ⌝ }
@@ -186,7 +186,7 @@ pub fn arg_at(monitor: &[u64], row: usize) -> usize
     monitor[ROWS + ROW * row + ARG] as usize
 }
 
-pub fn lower_at(monitor: &[u64], row: usize) -> u64
+pub fn lower_at(monitor: &[u64; SIZE], row: usize) -> u64
     requires { ⌜ length (now monitor) ≡ SIZE ⌝ }
     requires { ⌜ row < 128 ⌝ }
     ensures { λ r. ⌜ r ≡ lowerAt (now (monitor .entry)) row ⌝ }
@@ -194,7 +194,7 @@ pub fn lower_at(monitor: &[u64], row: usize) -> u64
     monitor[ROWS + ROW * row + LOWER]
 }
 
-pub fn upper_at(monitor: &[u64], row: usize) -> u64
+pub fn upper_at(monitor: &[u64; SIZE], row: usize) -> u64
     requires { ⌜ length (now monitor) ≡ SIZE ⌝ }
     requires { ⌜ row < 128 ⌝ }
     ensures { λ r. ⌜ r ≡ upperAt (now (monitor .entry)) row ⌝ }
@@ -202,7 +202,7 @@ pub fn upper_at(monitor: &[u64], row: usize) -> u64
     monitor[ROWS + ROW * row + UPPER]
 }
 
-pub fn start_at(monitor: &[u64], row: usize) -> usize
+pub fn start_at(monitor: &[u64; SIZE], row: usize) -> usize
     requires { ⌜ length (now monitor) ≡ SIZE ⌝ }
     requires { ⌜ row < 128 ⌝ }
     ensures { λ r. ⌜ r ≡ startAt (now (monitor .entry)) row ⌝ }
@@ -210,7 +210,7 @@ pub fn start_at(monitor: &[u64], row: usize) -> usize
     monitor[ROWS + ROW * row + START] as usize
 }
 
-pub fn slot_at(monitor: &[u64], row: usize) -> usize
+pub fn slot_at(monitor: &[u64; SIZE], row: usize) -> usize
     requires { ⌜ length (now monitor) ≡ SIZE ⌝ }
     requires { ⌜ row < 128 ⌝ }
     ensures { λ r. ⌜ r ≡ slotAt (now (monitor .entry)) row ⌝ }
@@ -219,7 +219,7 @@ pub fn slot_at(monitor: &[u64], row: usize) -> usize
 }
 
 // The operand at a place of the operand section.
-pub fn operand_at(monitor: &[u64], place: usize) -> usize
+pub fn operand_at(monitor: &[u64; SIZE], place: usize) -> usize
     requires { ⌜ length (now monitor) ≡ SIZE ⌝ }
     requires { ⌜ place < 128 ⌝ }
     ensures { λ r. ⌜ r ≡ getD (now (monitor .entry)) (OPERANDS + place) 0 ⌝ }
@@ -228,7 +228,7 @@ pub fn operand_at(monitor: &[u64], place: usize) -> usize
 }
 
 // The row that a set belongs to.
-pub fn owner_at(monitor: &[u64], slot: usize) -> usize
+pub fn owner_at(monitor: &[u64; SIZE], slot: usize) -> usize
     requires { ⌜ length (now monitor) ≡ SIZE ⌝ }
     requires { ⌜ slot < 32 ⌝ }
     ensures { λ r. ⌜ r ≡ ownerAt (now (monitor .entry)) slot ⌝ }
@@ -237,13 +237,14 @@ pub fn owner_at(monitor: &[u64], slot: usize) -> usize
 }
 
 // The set of a slot.
-pub fn set_at(monitor: &[u64], slot: usize) -> &[u64]
+pub fn set_at(monitor: &[u64; SIZE], slot: usize) -> &[u64]
     requires { ⌜ (length (now monitor) ≡ SIZE) × (slot < 32) ⌝ }
     ensures { λ r. ⌜ now r ≡ setWords (now (monitor .entry)) slot ⌝ }
 {
     let from = SETS + SET * slot;
     let to = from + SET;
-    &monitor[from..to]
+    let words = &monitor[..];
+    &words[from..to]
 }
 
 // 1 for true, 0 for false.
@@ -263,7 +264,7 @@ fn here_at(facts: &[u8; MOST_ROWS], row: usize) -> bool
 
 // Whether a row holds.
 pub fn output<'a>(
-    monitor: &'a [u64],
+    monitor: &'a [u64; SIZE],
     atoms: &'a [u8; MOST_ATOMS],
     facts: &'a [u8; MOST_ROWS],
     row: usize,
@@ -296,7 +297,7 @@ pub fn output<'a>(
 
 // Asks `left` operands of `row` from `place` on, in turn, until one answers `stop`.
 fn output_walk<'a>(
-    monitor: &'a [u64],
+    monitor: &'a [u64; SIZE],
     atoms: &'a [u8; MOST_ATOMS],
     facts: &'a [u8; MOST_ROWS],
     row: usize,
@@ -319,7 +320,7 @@ fn output_walk<'a>(
 }
 
 // Whether a row's lower bound is 0.
-fn from_now(monitor: &[u64], row: usize) -> bool
+fn from_now(monitor: &[u64; SIZE], row: usize) -> bool
     requires { ⌜ length (now monitor) ≡ SIZE ⌝ }
     requires { ⌜ row < 128 ⌝ }
     ensures { λ r. ⌜ r ≡ eqb (lowerAt (now (monitor .entry)) row) 0 ⌝ }
@@ -336,7 +337,7 @@ fn covers_at(facts: &[u8; MOST_ROWS], row: usize) -> bool
 }
 
 // A row's early answer.
-pub fn valuation<'a>(monitor: &'a [u64], facts: &'a [u8; MOST_ROWS], row: usize) -> Answer
+pub fn valuation<'a>(monitor: &'a [u64; SIZE], facts: &'a [u8; MOST_ROWS], row: usize) -> Answer
     requires { ⌜ BookKept (now monitor) ⌝ }
     requires { ⌜ row < rowCount (now monitor) ⌝ }
     ensures { λ r. ⌜ r ≡ valuationOf (now (monitor .entry)) (now (facts .entry)) row ⌝ }
@@ -382,7 +383,7 @@ pub fn valuation<'a>(monitor: &'a [u64], facts: &'a [u8; MOST_ROWS], row: usize)
 
 // Asks `left` operands of `row` from `place` on, in turn, until one is open.
 fn valuation_walk<'a>(
-    monitor: &'a [u64],
+    monitor: &'a [u64; SIZE],
     facts: &'a [u8; MOST_ROWS],
     row: usize,
     place: usize,
@@ -434,7 +435,7 @@ fn covers_alone(facts: &[u8; MOST_ROWS], row: usize) -> bool
 }
 
 // A row's settled answer, once a call was accepted: no further call can change its value.
-pub fn settled<'a>(monitor: &'a [u64], facts: &'a [u8; MOST_ROWS], row: usize) -> Answer
+pub fn settled<'a>(monitor: &'a [u64; SIZE], facts: &'a [u8; MOST_ROWS], row: usize) -> Answer
     requires { ⌜ BookKept (now monitor) ⌝ }
     requires { ⌜ row < rowCount (now monitor) ⌝ }
     ensures { λ r. ⌜ r ≡ settledOf (now (monitor .entry)) (now (facts .entry)) row ⌝ }
@@ -481,7 +482,7 @@ pub fn settled<'a>(monitor: &'a [u64], facts: &'a [u8; MOST_ROWS], row: usize) -
 
 // The settled answer of a Since row, whose two operands stand from `start` on. Right is asked where left does not decide.
 fn settled_since<'a>(
-    monitor: &'a [u64],
+    monitor: &'a [u64; SIZE],
     facts: &'a [u8; MOST_ROWS],
     row: usize,
     start: usize,
@@ -502,7 +503,7 @@ fn settled_since<'a>(
 
 // Asks `left` operands of `row` from `place` on, in turn, until one decides.
 fn settled_walk<'a>(
-    monitor: &'a [u64],
+    monitor: &'a [u64; SIZE],
     facts: &'a [u8; MOST_ROWS],
     row: usize,
     place: usize,

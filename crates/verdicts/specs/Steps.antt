@@ -7,8 +7,8 @@ use lib.ListN.{getD}
 use Rattle.numset.specs.Runs.{Runs, has, covers}
 use Rattle.pmtl.specs.Monitor.{setAt}
 use Rattle.pmtl.specs.Sets.{gone}
-use Rattle.rows.specs.Memory.{ATOMS, clockOf, stateOf, listed}
-use Rattle.rows.specs.Facts.{factOf}
+use Rattle.rows.specs.Memory.{ATOMS, clockOf, temporals, ownerAt, stateOf, listed}
+use Rattle.rows.specs.Facts.{factOf, hereIn}
 use Rattle.book.specs.Kept.{Kept}
 use Rattle.pmtl.specs.declared.Answer.the-variants.{False, Open}
 use Rattle.verdicts.specs.declared.Verdict.{Verdict}
@@ -37,6 +37,10 @@ pub record Seen (m atoms facts : List ℕ) : Type 0 where
   pub kept : Kept m
   pub atoms-are : atoms ≡ atomsOf m
   pub facts-are : facts ≡ factsOf m
+
+-- bytes that say rightly, of each row with a set, whether it contains the clock
+pub record Here (m here : List ℕ) : Type 0 where
+  pub right : (j : ℕ) → j < temporals m → hereIn here (ownerAt m j) ≡ has (setAt (stateOf m) (ownerAt m j)) (clockOf m)
 
 -- the answers of a property that is not there
 abbrev pub absent : Verdict

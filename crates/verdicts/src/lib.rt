@@ -12,6 +12,7 @@ ghost use Rattle.verdicts.specs.Verdict.{verdictOf, propertiesIn, answer
 ghost use Rattle.verdicts.specs.Steps.{absent, blank, Answered, factAbout, factsOf, atomsOf, Seen};
 use pmtl::Answer;
 use rows::MOST_ATOMS;
+use rows::SIZE;
 use rows::bit;
 use rows::set_at;
 
@@ -60,7 +61,7 @@ fn fact_about(set: &[u64], clock: u64) -> u8
 }
 
 // What the rows are told of their sets. A row that is not temporal has the empty set.
-fn read_facts(monitor: &[u64]) -> [u8; MOST_ROWS]
+fn read_facts(monitor: &[u64; SIZE]) -> [u8; MOST_ROWS]
     requires { ⌜ Kept (now monitor) ⌝ }
     ensures { λ r. ⌜ r ≡ factsOf (now (monitor .entry)) ⌝ }
 {
@@ -77,7 +78,7 @@ fn read_facts(monitor: &[u64]) -> [u8; MOST_ROWS]
 }
 
 // The atoms, a byte for each.
-pub fn read_atoms(monitor: &[u64]) -> [u8; MOST_ATOMS]
+pub fn read_atoms(monitor: &[u64; SIZE]) -> [u8; MOST_ATOMS]
     requires { ⌜ Kept (now monitor) ⌝ }
     ensures { λ r. ⌜ r ≡ atomsOf (now (monitor .entry)) ⌝ }
 {
@@ -92,7 +93,7 @@ pub fn read_atoms(monitor: &[u64]) -> [u8; MOST_ATOMS]
 }
 
 // How many properties the book has.
-fn property_count(monitor: &[u64]) -> usize
+fn property_count(monitor: &[u64; SIZE]) -> usize
     requires { ⌜ BookKept (now monitor) ⌝ }
     ensures { λ r. ⌜ r ≡ assumeCount (now (monitor .entry)) + guaranteeCount (now (monitor .entry)) ⌝ }
 {
@@ -111,7 +112,7 @@ fn absent() -> Verdict
 }
 
 // A row's settled answer: open before the first accepted call.
-fn settled_at<'a>(monitor: &'a [u64], facts: &'a [u8; MOST_ROWS], row: usize) -> Answer
+fn settled_at<'a>(monitor: &'a [u64; SIZE], facts: &'a [u8; MOST_ROWS], row: usize) -> Answer
     requires { ⌜ BookKept (now monitor) ⌝ }
     requires { ⌜ row < rowCount (now monitor) ⌝ }
     ensures { λ r. ⌜ r ≡ cond (isOne (begunWord (now (monitor .entry)))) (settledOf (now (monitor .entry)) (now (facts .entry)) row) Answer.Open ⌝ }
@@ -124,7 +125,7 @@ fn settled_at<'a>(monitor: &'a [u64], facts: &'a [u8; MOST_ROWS], row: usize) ->
 
 // The answers of property `i`, from the monitor's atoms and facts.
 fn verdict_at<'a>(
-    monitor: &'a [u64],
+    monitor: &'a [u64; SIZE],
     atoms: &'a [u8; MOST_ATOMS],
     facts: &'a [u8; MOST_ROWS],
     i: usize,
@@ -147,7 +148,7 @@ fn verdict_at<'a>(
 }
 
 // The answers of property `i`, assumes first.
-pub fn of_property(monitor: &[u64], i: usize) -> Verdict
+pub fn of_property(monitor: &[u64; SIZE], i: usize) -> Verdict
     requires { ⌜ Kept (now monitor) ⌝ }
     ensures { λ r. ⌜ r ≡ verdictOf (now (monitor .entry)) i ⌝ }
 {
@@ -157,7 +158,7 @@ pub fn of_property(monitor: &[u64], i: usize) -> Verdict
 }
 
 // The answers of all properties, assumes first.
-pub fn all(monitor: &[u64]) -> Verdicts
+pub fn all(monitor: &[u64; SIZE]) -> Verdicts
     requires { ⌜ Kept (now monitor) ⌝ }
     ensures { λ r. ⌜ (r .count ≡ propertiesIn (now (monitor .entry))) × (r .list ≡ listed (verdictOf (now (monitor .entry))) 32) ⌝ }
 {
@@ -182,7 +183,7 @@ struct Filling {
 }
 
 // What is to be stored into a list of `room` records: nothing where that is shorter than the properties.
-fn filling_for(monitor: &[u64], room: usize) -> Filling
+fn filling_for(monitor: &[u64; SIZE], room: usize) -> Filling
     requires { ⌜ Kept (now monitor) ⌝ }
     ensures { λ r. ⌜ Answered (now (monitor .entry)) room (r .number) (r .count) (r .list) ⌝ }
 {
@@ -213,7 +214,7 @@ fn nth(filling: Filling, i: usize) -> Verdict
 
 // The answers of all properties, assumes first, into the first records of `out`. Where that is shorter than the properties, the
 // answer is 12 and nothing is changed.
-pub fn answers(monitor: &[u64], out: &mut [Verdict]) -> u64
+pub fn answers(monitor: &[u64; SIZE], out: &mut [Verdict]) -> u64
     requires { ⌜ Kept (now monitor) ⌝ }
     ensures { λ r. ⌜ (r ≡ answersNumber (now (monitor .entry)) (length (now (out .entry)))) × (now (out .exit) ≡ answersList (now (monitor .entry)) (now (out .entry))) ⌝ }
 {

@@ -39,7 +39,7 @@ fn show_list(number: u64, list: [Verdict; ROOM]) {
 }
 
 // Lends a list to be filled, and shows it. What lends a list of structs is walked by hand, so it does nothing else.
-fn show_answers(monitor: &[u64], before: [Verdict; ROOM])
+fn show_answers(monitor: &[u64; SIZE], before: [Verdict; ROOM])
     requires { ⌜ Kept (now monitor) ⌝ }
 {
     let mut list = before;
@@ -48,7 +48,7 @@ fn show_answers(monitor: &[u64], before: [Verdict; ROOM])
 }
 
 // All verdicts by value, after their count.
-fn show_all(monitor: &[u64])
+fn show_all(monitor: &[u64; SIZE])
     requires { ⌜ Kept (now monitor) ⌝ }
 {
     let verdicts = verdicts::all(monitor);

@@ -61,27 +61,27 @@ output-walk-calls t = (operand-at-reads.Asked, operand-at-reads.Learnt, output-b
 abbrev Place : ℕ → Type 0
 Place t = output-lts.After-start-at (output-calls t) (output-at t) output.Post
 
-seen : (t : ℕ) (p : Place t) → let s = p .before .before .before .before in
+seen : (t : ℕ) (p : Place t) → let s = p .before .before .before in
     Read (s .args .monitor .now) (s .args .row) (p .before .before .kind-at .result) (p .before .arg-at .result) (p .start-at .result)
 seen t p =
-    let s = p .before .before .before .before in
+    let s = p .before .before .before in
     record { kept = s .pre .1 .0; inside = s .pre .1 .1; kind-is = p .before .before .kind-at .ensures; arg-is = p .before .arg-at .ensures; start-is = p .start-at .ensures }
 
 -- a row below is asked
-asks : (t : ℕ) (p : Place t) {x : ℕ} → let s = p .before .before .before .before in
+asks : (t : ℕ) (p : Place t) {x : ℕ} → let s = p .before .before .before in
     x < s .args .row → ((x + 1) * 2 ^ 64 < t) × (BookKept (s .args .monitor .now) × (x < rowCount (s .args .monitor .now)))
 asks t p lt =
-    let s = p .before .before .before .before in
+    let s = p .before .before .before in
     (row-falls (s .pre .0) lt, (s .pre .1 .0, lt-trans lt (s .pre .1 .1)))
 
 output-kind-at-requires : (t : ℕ) → output-lts.Need-kind-at-requires (output-calls t) (output-at t) output.Post
-output-kind-at-requires t c κs = let s = c .before in row-inside (s .pre .1 .0) (s .pre .1 .1)
+output-kind-at-requires t c κs = let s = c in row-inside (s .pre .1 .0) (s .pre .1 .1)
 
 output-arg-at-requires : (t : ℕ) → output-lts.Need-arg-at-requires (output-calls t) (output-at t) output.Post
-output-arg-at-requires t c κs = let s = c .before .before in row-inside (s .pre .1 .0) (s .pre .1 .1)
+output-arg-at-requires t c κs = let s = c .before in row-inside (s .pre .1 .0) (s .pre .1 .1)
 
 output-start-at-requires : (t : ℕ) → output-lts.Need-start-at-requires (output-calls t) (output-at t) output.Post
-output-start-at-requires t c κs = let s = c .before .before .before in row-inside (s .pre .1 .0) (s .pre .1 .1)
+output-start-at-requires t c κs = let s = c .before .before in row-inside (s .pre .1 .0) (s .pre .1 .1)
 
 output-element-copy-out-result : (t : ℕ) → output-lts.Need-element-copy-out-result (output-calls t) (output-at t) output.Post
 output-element-copy-out-result t c = atom-as (seen t (c .before)) (c .match .keys3)
@@ -89,14 +89,14 @@ output-element-copy-out-result t c = atom-as (seen t (c .before)) (c .match .key
 output-output-walk-requires : (t : ℕ) → output-lts.Need-output-walk-requires (output-calls t) (output-at t) output.Post
 unfolding countOf
 output-output-walk-requires t c κs =
-    let s = c .before .before .before .before .before in
+    let s = c .before .before .before .before in
     let sp = span-as (seen t (c .before)) (c .match .keys4) in
     (walk-falls (s .args .row) (s .pre .0) (omega (arith, sp .inside)), (s .pre .1 .0, (s .pre .1 .1, sp)))
 
 output-output-walk-requires-2 : (t : ℕ) → output-lts.Need-output-walk-requires-2 (output-calls t) (output-at t) output.Post
 unfolding countOf
 output-output-walk-requires-2 t c κs =
-    let s = c .before .before .before .before .before in
+    let s = c .before .before .before .before in
     let sp = span-as (seen t (c .before)) (c .match .keys5) in
     (walk-falls (s .args .row) (s .pre .0) (omega (arith, sp .inside)), (s .pre .1 .0, (s .pre .1 .1, sp)))
 
@@ -129,10 +129,10 @@ unfolding countOf
 output-output-requires-3 t c κs = asks t (c .before .before .before .before .before) (second-below (span-as (seen t (c .before .before .before .before .before)) (c .before .before .before .before .match .keys7)) (lit< tt) (c .operand-at3 .ensures))
 
 output-here-at-requires : (t : ℕ) → output-lts.Need-here-at-requires (output-calls t) (output-at t) output.Post
-output-here-at-requires t c κs = let s = c .before .before .before .before .before in row-inside (s .pre .1 .0) (s .pre .1 .1) .1
+output-here-at-requires t c κs = let s = c .before .before .before .before in row-inside (s .pre .1 .0) (s .pre .1 .1) .1
 
 output-here-at-requires-2 : (t : ℕ) → output-lts.Need-here-at-requires-2 (output-calls t) (output-at t) output.Post
-output-here-at-requires-2 t c κs = let s = c .before .before .before .before .before in row-inside (s .pre .1 .0) (s .pre .1 .1) .1
+output-here-at-requires-2 t c κs = let s = c .before .before .before .before in row-inside (s .pre .1 .0) (s .pre .1 .1) .1
 
 output-returns : (t : ℕ) → output-lts.Need-returns (output-calls t) (output-at t) output.Post
 unfolding valueRule rowFrom countOf
@@ -145,7 +145,7 @@ output-returns-2 t c = sym (answer-read _ _ (seen t (c .before)) (c .match .keys
 output-returns-3 : (t : ℕ) → output-lts.Need-returns-3 (output-calls t) (output-at t) output.Post
 unfolding valueRule rowFrom countOf
 output-returns-3 t c =
-    sym (answer-read _ _ (seen t (c .before .before)) (c .before .match .keys3) ∙ List·getD-map isOne (c .before .before .before .before .before .before .args .atoms .now) (c .before .before .before .arg-at .result) 0)
+    sym (answer-read _ _ (seen t (c .before .before)) (c .before .match .keys3) ∙ List·getD-map isOne (c .before .before .before .before .before .args .atoms .now) (c .before .before .before .arg-at .result) 0)
 
 output-returns-4 : (t : ℕ) → output-lts.Need-returns-4 (output-calls t) (output-at t) output.Post
 unfolding valueRule rowFrom countOf
@@ -180,39 +180,39 @@ output-returns-10 t c =
     c .here-at2 .ensures ∙ sym (⊎-elim (λ k. answer-read _ _ e k) (λ k. answer-read _ _ e k) (past-seven e (c .before .match .rest)))
 
 output-walk-returns : (t : ℕ) → output-walk-lts.Need-returns (output-walk-calls t) (output-walk-at t) output-walk.Post
-output-walk-returns t c = let s = c .before .before in rw (c .if1 .taken) (joined-nil (s .args .stop))
+output-walk-returns t c = let s = c .before in rw (c .if1 .taken) (joined-nil (s .args .stop))
 
 output-walk-operand-at-requires : (t : ℕ) → output-walk-lts.Need-operand-at-requires (output-walk-calls t) (output-walk-at t) output-walk.Post
-output-walk-operand-at-requires t c κs = let s = c .before .before in (s .pre .1 .0 .long, omega (arith, s .pre .1 .1 .1 .inside, c .if1 .left))
+output-walk-operand-at-requires t c κs = let s = c .before in (s .pre .1 .0 .long, omega (arith, s .pre .1 .1 .1 .inside, c .if1 .left))
 
 output-walk-output-requires : (t : ℕ) → output-walk-lts.Need-output-requires (output-walk-calls t) (output-walk-at t) output-walk.Post
 output-walk-output-requires t c κs =
-    let s = c .before .before .before in
+    let s = c .before .before in
     let more = some-left (c .before .if1 .left) in
     let lt = first-below (s .pre .1 .1 .1) more (c .operand-at .ensures) in
     (operand-falls (s .pre .0) lt more, (s .pre .1 .0, lt-trans lt (s .pre .1 .1 .0)))
 
 output-walk-returns-2 : (t : ℕ) → output-walk-lts.Need-returns-2 (output-walk-calls t) (output-walk-at t) output-walk.Post
 output-walk-returns-2 t c =
-    let s = c .before .before .before .before .before in
+    let s = c .before .before .before .before in
     joined-stop (s .args .stop) _ _ (c .if2 .taken)
     ∙ ap (joined (s .args .stop)) (sym (walk-cons _ (s .pre .1 .0 .long) (s .pre .1 .1 .1) (some-left (c .before .before .before .if1 .left)) (c .before .before .operand-at .ensures) (c .before .output .ensures)))
 
 output-walk-add-output-walk : (t : ℕ) → output-walk-lts.Need-add-output-walk (output-walk-calls t) (output-walk-at t) output-walk.Post
-output-walk-add-output-walk t c = let s = c .before .before .before .before .before in omega (arith, s .pre .1 .1 .1 .inside)
+output-walk-add-output-walk t c = let s = c .before .before .before .before in omega (arith, s .pre .1 .1 .1 .inside)
 
 output-walk-sub-output-walk : (t : ℕ) → output-walk-lts.Need-sub-output-walk (output-walk-calls t) (output-walk-at t) output-walk.Post
 output-walk-sub-output-walk t c = some-left (c .before .before .before .if1 .left)
 
 output-walk-output-walk-requires : (t : ℕ) → output-walk-lts.Need-output-walk-requires (output-walk-calls t) (output-walk-at t) output-walk.Post
 output-walk-output-walk-requires t c κs =
-    let s = c .before .before .before .before .before in
+    let s = c .before .before .before .before in
     let more = some-left (c .before .before .before .if1 .left) in
     (rest-falls (s .args .row) (s .pre .0) more, (s .pre .1 .0, (s .pre .1 .1 .0, span-rest (s .pre .1 .1 .1) more)))
 
 output-walk-returns-3 : (t : ℕ) → output-walk-lts.Need-returns-3 (output-walk-calls t) (output-walk-at t) output-walk.Post
 output-walk-returns-3 t c =
-    let s = c .before .before .before .before .before .before in
+    let s = c .before .before .before .before .before in
     c .output-walk .ensures ∙ joined-on (s .args .stop) _ _ (c .before .if2 .left)
     ∙ ap (joined (s .args .stop)) (sym (walk-cons _ (s .pre .1 .0 .long) (s .pre .1 .1 .1) (some-left (c .before .before .before .before .if1 .left)) (c .before .before .before .operand-at .ensures) (c .before .before .output .ensures)))
 

@@ -102,39 +102,39 @@ settled-walk-calls t = (operand-at-reads.Asked, operand-at-reads.Learnt, settled
 abbrev Place : ℕ → Type 0
 Place t = settled-lts.After-start-at (settled-calls t) (settled-at t) settled.Post
 
-seen : (t : ℕ) (p : Place t) → let s = p .before .before .before .before in
+seen : (t : ℕ) (p : Place t) → let s = p .before .before .before in
     Read (s .args .monitor .now) (s .args .row) (p .before .before .kind-at .result) (p .before .arg-at .result) (p .start-at .result)
 seen t p =
-    let s = p .before .before .before .before in
+    let s = p .before .before .before in
     record { kept = s .pre .1 .0; inside = s .pre .1 .1; kind-is = p .before .before .kind-at .ensures; arg-is = p .before .arg-at .ensures; start-is = p .start-at .ensures }
 
 -- a row below is asked
-asks : (t : ℕ) (p : Place t) {x : ℕ} → let s = p .before .before .before .before in
+asks : (t : ℕ) (p : Place t) {x : ℕ} → let s = p .before .before .before in
     x < s .args .row → ((x + 1) * 2 ^ 64 < t) × (BookKept (s .args .monitor .now) × (x < rowCount (s .args .monitor .now)))
 asks t p lt =
-    let s = p .before .before .before .before in
+    let s = p .before .before .before in
     (row-falls (s .pre .0) lt, (s .pre .1 .0, lt-trans lt (s .pre .1 .1)))
 
 settled-kind-at-requires : (t : ℕ) → settled-lts.Need-kind-at-requires (settled-calls t) (settled-at t) settled.Post
-settled-kind-at-requires t c κs = let s = c .before in row-inside (s .pre .1 .0) (s .pre .1 .1)
+settled-kind-at-requires t c κs = let s = c in row-inside (s .pre .1 .0) (s .pre .1 .1)
 
 settled-arg-at-requires : (t : ℕ) → settled-lts.Need-arg-at-requires (settled-calls t) (settled-at t) settled.Post
-settled-arg-at-requires t c κs = let s = c .before .before in row-inside (s .pre .1 .0) (s .pre .1 .1)
+settled-arg-at-requires t c κs = let s = c .before in row-inside (s .pre .1 .0) (s .pre .1 .1)
 
 settled-start-at-requires : (t : ℕ) → settled-lts.Need-start-at-requires (settled-calls t) (settled-at t) settled.Post
-settled-start-at-requires t c κs = let s = c .before .before .before in row-inside (s .pre .1 .0) (s .pre .1 .1)
+settled-start-at-requires t c κs = let s = c .before .before in row-inside (s .pre .1 .0) (s .pre .1 .1)
 
 settled-settled-walk-requires : (t : ℕ) → settled-lts.Need-settled-walk-requires (settled-calls t) (settled-at t) settled.Post
 unfolding countOf
 settled-settled-walk-requires t c κs =
-    let s = c .before .before .before .before .before in
+    let s = c .before .before .before .before in
     let sp = span-as (seen t (c .before)) (c .match .keys4) in
     (walk-falls (s .args .row) (s .pre .0) (omega (arith, sp .inside)), (s .pre .1 .0, (s .pre .1 .1, sp)))
 
 settled-settled-walk-requires-2 : (t : ℕ) → settled-lts.Need-settled-walk-requires-2 (settled-calls t) (settled-at t) settled.Post
 unfolding countOf
 settled-settled-walk-requires-2 t c κs =
-    let s = c .before .before .before .before .before in
+    let s = c .before .before .before .before in
     let sp = span-as (seen t (c .before)) (c .match .keys5) in
     (walk-falls (s .args .row) (s .pre .0) (omega (arith, sp .inside)), (s .pre .1 .0, (s .pre .1 .1, sp)))
 
@@ -183,13 +183,13 @@ settled-implied-requires : (t : ℕ) → settled-lts.Need-implied-requires (sett
 settled-implied-requires t c κs = search needs
 
 settled-covers-alone-requires : (t : ℕ) → settled-lts.Need-covers-alone-requires (settled-calls t) (settled-at t) settled.Post
-settled-covers-alone-requires t c κs = let s = c .before .before .before .before .before in row-inside (s .pre .1 .0) (s .pre .1 .1) .1
+settled-covers-alone-requires t c κs = let s = c .before .before .before .before in row-inside (s .pre .1 .0) (s .pre .1 .1) .1
 
 settled-returns-2 : (t : ℕ) → settled-lts.Need-returns-2 (settled-calls t) (settled-at t) settled.Post
 unfolding rowFrom countOf
 settled-returns-2 t c =
-    sym (answer-one _ _ (seen t (c .before .before .before)) (c .before .before .match .keys8) (historically (rangeAt (c .before .before .before .before .before .before .before .args .monitor .now) (c .before .before .before .before .before .before .before .args .row))) (λ os. refl) (lit< tt) refl refl
-    ∙ historically-false _ _ (rangeAt (c .before .before .before .before .before .before .before .args .monitor .now) (c .before .before .before .before .before .before .before .args .row)) _ (sym (c .before .covers-alone .ensures) ∙ c .if2 .taken))
+    sym (answer-one _ _ (seen t (c .before .before .before)) (c .before .before .match .keys8) (historically (rangeAt (c .before .before .before .before .before .before .args .monitor .now) (c .before .before .before .before .before .before .args .row))) (λ os. refl) (lit< tt) refl refl
+    ∙ historically-false _ _ (rangeAt (c .before .before .before .before .before .before .args .monitor .now) (c .before .before .before .before .before .before .args .row)) _ (sym (c .before .covers-alone .ensures) ∙ c .if2 .taken))
 
 settled-operand-at-requires-4 : (t : ℕ) → settled-lts.Need-operand-at-requires-4 (settled-calls t) (settled-at t) settled.Post
 unfolding countOf
@@ -200,25 +200,25 @@ unfolding countOf
 settled-settled-requires-4 t c κs = asks t (c .before .before .before .before) (first-below (span-as (seen t (c .before .before .before .before)) (c .before .before .before .match .keys8)) (lit< tt) (c .operand-at4 .ensures))
 
 settled-from-now-requires : (t : ℕ) → settled-lts.Need-from-now-requires (settled-calls t) (settled-at t) settled.Post
-settled-from-now-requires t c κs = let s = c .before .before .before .before .before .before .before .before .before in row-inside (s .pre .1 .0) (s .pre .1 .1)
+settled-from-now-requires t c κs = let s = c .before .before .before .before .before .before .before .before in row-inside (s .pre .1 .0) (s .pre .1 .1)
 
 settled-covers-at-requires : (t : ℕ) → settled-lts.Need-covers-at-requires (settled-calls t) (settled-at t) settled.Post
-settled-covers-at-requires t c κs = let s = c .before .before .before .before .before .before .before .before .before .before in row-inside (s .pre .1 .0) (s .pre .1 .1) .1
+settled-covers-at-requires t c κs = let s = c .before .before .before .before .before .before .before .before .before in row-inside (s .pre .1 .0) (s .pre .1 .1) .1
 
 settled-gone-at-requires : (t : ℕ) → settled-lts.Need-gone-at-requires (settled-calls t) (settled-at t) settled.Post
-settled-gone-at-requires t c κs = let s = c .before .before .before .before .before .before .before .before .before .before .before in row-inside (s .pre .1 .0) (s .pre .1 .1) .1
+settled-gone-at-requires t c κs = let s = c .before .before .before .before .before .before .before .before .before .before in row-inside (s .pre .1 .0) (s .pre .1 .1) .1
 
 settled-settled-historically-requires : (t : ℕ) → settled-lts.Need-settled-historically-requires (settled-calls t) (settled-at t) settled.Post
 settled-settled-historically-requires t c κs = search needs
 
 settled-covers-at-requires-2 : (t : ℕ) → settled-lts.Need-covers-at-requires-2 (settled-calls t) (settled-at t) settled.Post
-settled-covers-at-requires-2 t c κs = let s = c .before .before .before .before .before in row-inside (s .pre .1 .0) (s .pre .1 .1) .1
+settled-covers-at-requires-2 t c κs = let s = c .before .before .before .before in row-inside (s .pre .1 .0) (s .pre .1 .1) .1
 
 settled-returns-3 : (t : ℕ) → settled-lts.Need-returns-3 (settled-calls t) (settled-at t) settled.Post
 unfolding rowFrom countOf
 settled-returns-3 t c =
-    sym (answer-one _ _ (seen t (c .before .before .before)) (c .before .before .match .keys9) (once (rangeAt (c .before .before .before .before .before .before .before .args .monitor .now) (c .before .before .before .before .before .before .before .args .row))) (λ os. refl) (lit< tt) refl refl
-    ∙ once-true _ _ (rangeAt (c .before .before .before .before .before .before .before .args .monitor .now) (c .before .before .before .before .before .before .before .args .row)) _ (sym (c .before .covers-at2 .ensures) ∙ c .if3 .taken))
+    sym (answer-one _ _ (seen t (c .before .before .before)) (c .before .before .match .keys9) (once (rangeAt (c .before .before .before .before .before .before .args .monitor .now) (c .before .before .before .before .before .before .args .row))) (λ os. refl) (lit< tt) refl refl
+    ∙ once-true _ _ (rangeAt (c .before .before .before .before .before .before .args .monitor .now) (c .before .before .before .before .before .before .args .row)) _ (sym (c .before .covers-at2 .ensures) ∙ c .if3 .taken))
 
 settled-operand-at-requires-5 : (t : ℕ) → settled-lts.Need-operand-at-requires-5 (settled-calls t) (settled-at t) settled.Post
 unfolding countOf
@@ -229,10 +229,10 @@ unfolding countOf
 settled-settled-requires-5 t c κs = asks t (c .before .before .before .before) (first-below (span-as (seen t (c .before .before .before .before)) (c .before .before .before .match .keys9)) (lit< tt) (c .operand-at5 .ensures))
 
 settled-from-now-requires-2 : (t : ℕ) → settled-lts.Need-from-now-requires-2 (settled-calls t) (settled-at t) settled.Post
-settled-from-now-requires-2 t c κs = let s = c .before .before .before .before .before .before .before .before .before in row-inside (s .pre .1 .0) (s .pre .1 .1)
+settled-from-now-requires-2 t c κs = let s = c .before .before .before .before .before .before .before .before in row-inside (s .pre .1 .0) (s .pre .1 .1)
 
 settled-gone-at-requires-2 : (t : ℕ) → settled-lts.Need-gone-at-requires-2 (settled-calls t) (settled-at t) settled.Post
-settled-gone-at-requires-2 t c κs = let s = c .before .before .before .before .before .before .before .before .before .before in row-inside (s .pre .1 .0) (s .pre .1 .1) .1
+settled-gone-at-requires-2 t c κs = let s = c .before .before .before .before .before .before .before .before .before in row-inside (s .pre .1 .0) (s .pre .1 .1) .1
 
 settled-settled-once-requires : (t : ℕ) → settled-lts.Need-settled-once-requires (settled-calls t) (settled-at t) settled.Post
 settled-settled-once-requires t c κs = search needs
@@ -240,7 +240,7 @@ settled-settled-once-requires t c κs = search needs
 settled-settled-since-requires : (t : ℕ) → settled-lts.Need-settled-since-requires (settled-calls t) (settled-at t) settled.Post
 unfolding countOf
 settled-settled-since-requires t c κs =
-    let s = c .before .before .before .before .before in
+    let s = c .before .before .before .before in
     let e = seen t (c .before) in
     (walk-falls (s .args .row) (s .pre .0) (lit≤ tt), (s .pre .1 .0, (s .pre .1 .1, span-as e (past-eight e (c .match .rest)))))
 
@@ -281,23 +281,23 @@ settled-returns-11 t c =
     let x = c .before .before .before .before .settled4 in
     c .settled-historically .ensures
     ∙ ap (λ z. settledHistorically z (c .before .before .covers-at .result) (c .before .gone-at .result) (x .result)) (c .before .before .before .from-now .ensures)
-    ∙ ap₂ (λ k n. settledHistorically (fromNow (rangeAt (c .before .before .before .before .before .before .before .before .before .before .before .before .before .args .monitor .now) (c .before .before .before .before .before .before .before .before .before .before .before .before .before .args .row))) k n (x .result)) (c .before .before .covers-at .ensures) (c .before .gone-at .ensures)
-    ∙ sym (answer-one _ _ (seen t (c .before .before .before .before .before .before .before .before .before)) (c .before .before .before .before .before .before .before .before .match .keys8) (historically (rangeAt (c .before .before .before .before .before .before .before .before .before .before .before .before .before .args .monitor .now) (c .before .before .before .before .before .before .before .before .before .before .before .before .before .args .row))) (λ os. refl) (lit< tt) (c .before .before .before .before .before .operand-at4 .ensures) (x .ensures))
+    ∙ ap₂ (λ k n. settledHistorically (fromNow (rangeAt (c .before .before .before .before .before .before .before .before .before .before .before .before .args .monitor .now) (c .before .before .before .before .before .before .before .before .before .before .before .before .args .row))) k n (x .result)) (c .before .before .covers-at .ensures) (c .before .gone-at .ensures)
+    ∙ sym (answer-one _ _ (seen t (c .before .before .before .before .before .before .before .before .before)) (c .before .before .before .before .before .before .before .before .match .keys8) (historically (rangeAt (c .before .before .before .before .before .before .before .before .before .before .before .before .args .monitor .now) (c .before .before .before .before .before .before .before .before .before .before .before .before .args .row))) (λ os. refl) (lit< tt) (c .before .before .before .before .before .operand-at4 .ensures) (x .ensures))
 
 settled-returns-12 : (t : ℕ) → settled-lts.Need-returns-12 (settled-calls t) (settled-at t) settled.Post
 unfolding rowFrom countOf
 settled-returns-12 t c =
     let x = c .before .before .before .settled5 in
     c .settled-once .ensures ∙ ap₂ (λ z n. settledOnce z n (x .result)) (c .before .before .from-now2 .ensures) (c .before .gone-at2 .ensures)
-    ∙ sym (answer-one _ _ (seen t (c .before .before .before .before .before .before .before .before)) (c .before .before .before .before .before .before .before .match .keys9) (once (rangeAt (c .before .before .before .before .before .before .before .before .before .before .before .before .args .monitor .now) (c .before .before .before .before .before .before .before .before .before .before .before .before .args .row))) (λ os. refl) (lit< tt) (c .before .before .before .before .operand-at5 .ensures) (x .ensures)
-    ∙ once-asked _ _ (rangeAt (c .before .before .before .before .before .before .before .before .before .before .before .before .args .monitor .now) (c .before .before .before .before .before .before .before .before .before .before .before .before .args .row)) (x .result) (sym (c .before .before .before .before .before .before .covers-at2 .ensures) ∙ c .before .before .before .before .before .if3 .left))
+    ∙ sym (answer-one _ _ (seen t (c .before .before .before .before .before .before .before .before)) (c .before .before .before .before .before .before .before .match .keys9) (once (rangeAt (c .before .before .before .before .before .before .before .before .before .before .before .args .monitor .now) (c .before .before .before .before .before .before .before .before .before .before .before .args .row))) (λ os. refl) (lit< tt) (c .before .before .before .before .operand-at5 .ensures) (x .ensures)
+    ∙ once-asked _ _ (rangeAt (c .before .before .before .before .before .before .before .before .before .before .before .args .monitor .now) (c .before .before .before .before .before .before .before .before .before .before .before .args .row)) (x .result) (sym (c .before .before .before .before .before .before .covers-at2 .ensures) ∙ c .before .before .before .before .before .if3 .left))
 
 settled-returns-13 : (t : ℕ) → settled-lts.Need-returns-13 (settled-calls t) (settled-at t) settled.Post
 unfolding rowFrom countOf
 settled-returns-13 t c =
     let e = seen t (c .before .before) in
     c .settled-since .ensures
-    ∙ sym (answer-two _ _ e (past-eight e (c .before .match .rest)) (since (rangeAt (c .before .before .before .before .before .before .args .monitor .now) (c .before .before .before .before .before .before .args .row))) (λ os. refl) (lit< tt) refl refl refl refl)
+    ∙ sym (answer-two _ _ e (past-eight e (c .before .match .rest)) (since (rangeAt (c .before .before .before .before .before .args .monitor .now) (c .before .before .before .before .before .args .row))) (λ os. refl) (lit< tt) refl refl refl refl)
 
 -- what left decides, of the answers that `settled_since` is about
 module _ {t : ℕ} (s : settled-since-lts.Start (settled-since-calls t) (settled-since-at t) settled-since.Post) where
@@ -307,29 +307,29 @@ module _ {t : ℕ} (s : settled-since-lts.Start (settled-since-calls t) (settled
   abbrev answers : ℕ → Answer
   answers = settledOf (s .args .monitor .now) (s .args .facts .now)
 
-left-is : (t : ℕ) (p : settled-since-lts.After-settled-left (settled-since-calls t) (settled-since-at t) settled-since.Post) → let s = p .before .before .before .before .before .before in
+left-is : (t : ℕ) (p : settled-since-lts.After-settled-left (settled-since-calls t) (settled-since-at t) settled-since.Post) → let s = p .before .before .before .before .before in
     p .settled-left .result ≡ settledLeft (fromNow (range s)) (coversIn (s .args .facts .now) (s .args .row)) (answers s (operandAt (s .args .monitor .now) (s .args .start)))
 left-is t p =
-    let s = p .before .before .before .before .before .before in
+    let s = p .before .before .before .before .before in
     let left = p .before .before .before .settled in
     p .settled-left .ensures
     ∙ ap₂ (λ z k. settledLeft z k (left .result)) (p .before .before .from-now .ensures) (p .before .covers-at .ensures)
     ∙ ap (λ x. settledLeft (fromNow (range s)) (coversIn (s .args .facts .now) (s .args .row)) x) (left .ensures ∙ ap (answers s) (p .before .before .before .before .operand-at .ensures))
 
 settled-since-operand-at-requires : (t : ℕ) → settled-since-lts.Need-operand-at-requires (settled-since-calls t) (settled-since-at t) settled-since.Post
-settled-since-operand-at-requires t c κs = let s = c .before in (s .pre .1 .0 .long, omega (arith, s .pre .1 .1 .1 .inside))
+settled-since-operand-at-requires t c κs = let s = c in (s .pre .1 .0 .long, omega (arith, s .pre .1 .1 .1 .inside))
 
 settled-since-settled-requires : (t : ℕ) → settled-since-lts.Need-settled-requires (settled-since-calls t) (settled-since-at t) settled-since.Post
 settled-since-settled-requires t c κs =
-    let s = c .before .before in
+    let s = c .before in
     let lt = first-below (s .pre .1 .1 .1) (lit< tt) (c .operand-at .ensures) in
     (operand-falls (s .pre .0) lt (lit< tt), (s .pre .1 .0, lt-trans lt (s .pre .1 .1 .0)))
 
 settled-since-from-now-requires : (t : ℕ) → settled-since-lts.Need-from-now-requires (settled-since-calls t) (settled-since-at t) settled-since.Post
-settled-since-from-now-requires t c κs = let s = c .before .before .before in row-inside (s .pre .1 .0) (s .pre .1 .1 .0)
+settled-since-from-now-requires t c κs = let s = c .before .before in row-inside (s .pre .1 .0) (s .pre .1 .1 .0)
 
 settled-since-covers-at-requires : (t : ℕ) → settled-since-lts.Need-covers-at-requires (settled-since-calls t) (settled-since-at t) settled-since.Post
-settled-since-covers-at-requires t c κs = let s = c .before .before .before .before in row-inside (s .pre .1 .0) (s .pre .1 .1 .0) .1
+settled-since-covers-at-requires t c κs = let s = c .before .before .before in row-inside (s .pre .1 .0) (s .pre .1 .1 .0) .1
 
 settled-since-settled-left-requires : (t : ℕ) → settled-since-lts.Need-settled-left-requires (settled-since-calls t) (settled-since-at t) settled-since.Post
 settled-since-settled-left-requires t c κs = search needs
@@ -338,29 +338,29 @@ settled-since-is-open-requires : (t : ℕ) → settled-since-lts.Need-is-open-re
 settled-since-is-open-requires t c κs = search needs
 
 settled-since-add-operand-at : (t : ℕ) → settled-since-lts.Need-add-operand-at (settled-since-calls t) (settled-since-at t) settled-since.Post
-settled-since-add-operand-at t c = let s = c .before .before .before .before .before .before .before .before in omega (arith, s .pre .1 .1 .1 .inside)
+settled-since-add-operand-at t c = let s = c .before .before .before .before .before .before .before in omega (arith, s .pre .1 .1 .1 .inside)
 
 settled-since-operand-at-requires-2 : (t : ℕ) → settled-since-lts.Need-operand-at-requires-2 (settled-since-calls t) (settled-since-at t) settled-since.Post
-settled-since-operand-at-requires-2 t c κs = let s = c .before .before .before .before .before .before .before .before in (s .pre .1 .0 .long, omega (arith, s .pre .1 .1 .1 .inside))
+settled-since-operand-at-requires-2 t c κs = let s = c .before .before .before .before .before .before .before in (s .pre .1 .0 .long, omega (arith, s .pre .1 .1 .1 .inside))
 
 settled-since-settled-requires-2 : (t : ℕ) → settled-since-lts.Need-settled-requires-2 (settled-since-calls t) (settled-since-at t) settled-since.Post
 settled-since-settled-requires-2 t c κs =
-    let s = c .before .before .before .before .before .before .before .before .before in
+    let s = c .before .before .before .before .before .before .before .before in
     let lt = second-below (s .pre .1 .1 .1) (lit< tt) (c .operand-at2 .ensures) in
     (operand-falls (s .pre .0) lt (lit< tt), (s .pre .1 .0, lt-trans lt (s .pre .1 .1 .0)))
 
 settled-since-from-now-requires-2 : (t : ℕ) → settled-since-lts.Need-from-now-requires-2 (settled-since-calls t) (settled-since-at t) settled-since.Post
-settled-since-from-now-requires-2 t c κs = let s = c .before .before .before .before .before .before .before .before .before .before in row-inside (s .pre .1 .0) (s .pre .1 .1 .0)
+settled-since-from-now-requires-2 t c κs = let s = c .before .before .before .before .before .before .before .before .before in row-inside (s .pre .1 .0) (s .pre .1 .1 .0)
 
 settled-since-gone-at-requires : (t : ℕ) → settled-since-lts.Need-gone-at-requires (settled-since-calls t) (settled-since-at t) settled-since.Post
-settled-since-gone-at-requires t c κs = let s = c .before .before .before .before .before .before .before .before .before .before .before in row-inside (s .pre .1 .0) (s .pre .1 .1 .0) .1
+settled-since-gone-at-requires t c κs = let s = c .before .before .before .before .before .before .before .before .before .before in row-inside (s .pre .1 .0) (s .pre .1 .1 .0) .1
 
 settled-since-settled-once-requires : (t : ℕ) → settled-since-lts.Need-settled-once-requires (settled-since-calls t) (settled-since-at t) settled-since.Post
 settled-since-settled-once-requires t c κs = search needs
 
 settled-since-returns : (t : ℕ) → settled-since-lts.Need-returns (settled-since-calls t) (settled-since-at t) settled-since.Post
 settled-since-returns t c =
-    let s = c .before .before .before .before .before .before .before .before .before .before .before .before .before in
+    let s = c .before .before .before .before .before .before .before .before .before .before .before .before in
     let right = c .before .before .before .settled2 in
     c .settled-once .ensures
     ∙ ap₂ (λ z n. settledOnce z n (right .result)) (c .before .before .from-now2 .ensures) (c .before .gone-at .ensures)
@@ -370,18 +370,18 @@ settled-since-returns t c =
 settled-since-returns-2 : (t : ℕ) → settled-since-lts.Need-returns-2 (settled-since-calls t) (settled-since-at t) settled-since.Post
 settled-since-returns-2 t c =
     let e = left-is t (c .before .before) in
-    e ∙ sym (since-left _ _ (range (c .before .before .before .before .before .before .before .before)) _ _ (ap isOpen (sym e) ∙ sym (c .before .is-open .ensures) ∙ c .if1 .left))
+    e ∙ sym (since-left _ _ (range (c .before .before .before .before .before .before .before)) _ _ (ap isOpen (sym e) ∙ sym (c .before .is-open .ensures) ∙ c .if1 .left))
 
 settled-walk-returns : (t : ℕ) → settled-walk-lts.Need-returns (settled-walk-calls t) (settled-walk-at t) settled-walk.Post
 unfolding settledSoFar
 settled-walk-returns t c = rw (c .if1 .taken)
 
 settled-walk-operand-at-requires : (t : ℕ) → settled-walk-lts.Need-operand-at-requires (settled-walk-calls t) (settled-walk-at t) settled-walk.Post
-settled-walk-operand-at-requires t c κs = let s = c .before .before in (s .pre .1 .0 .long, omega (arith, s .pre .1 .1 .1 .inside, c .if1 .left))
+settled-walk-operand-at-requires t c κs = let s = c .before in (s .pre .1 .0 .long, omega (arith, s .pre .1 .1 .1 .inside, c .if1 .left))
 
 settled-walk-settled-requires : (t : ℕ) → settled-walk-lts.Need-settled-requires (settled-walk-calls t) (settled-walk-at t) settled-walk.Post
 settled-walk-settled-requires t c κs =
-    let s = c .before .before .before in
+    let s = c .before .before in
     let more = some-left (c .before .if1 .left) in
     let lt = first-below (s .pre .1 .1 .1) more (c .operand-at .ensures) in
     (operand-falls (s .pre .0) lt more, (s .pre .1 .0, lt-trans lt (s .pre .1 .1 .0)))
@@ -391,12 +391,12 @@ settled-walk-decides-it-requires t c κs = search needs
 
 settled-walk-returns-2 : (t : ℕ) → settled-walk-lts.Need-returns-2 (settled-walk-calls t) (settled-walk-at t) settled-walk.Post
 settled-walk-returns-2 t c =
-    let s = c .before .before .before .before .before .before in
+    let s = c .before .before .before .before .before in
     settled-stop (s .args .any) (s .args .sofar) (c .before .before .settled .result) _ (sym (c .before .decides-it .ensures) ∙ c .if2 .taken)
     ∙ ap (settledSoFar (s .args .any) (s .args .sofar)) (sym (walk-cons _ (s .pre .1 .0 .long) (s .pre .1 .1 .1) (some-left (c .before .before .before .before .if1 .left)) (c .before .before .before .operand-at .ensures) (c .before .before .settled .ensures)))
 
 settled-walk-add-settled-walk : (t : ℕ) → settled-walk-lts.Need-add-settled-walk (settled-walk-calls t) (settled-walk-at t) settled-walk.Post
-settled-walk-add-settled-walk t c = let s = c .before .before .before .before .before .before in omega (arith, s .pre .1 .1 .1 .inside)
+settled-walk-add-settled-walk t c = let s = c .before .before .before .before .before in omega (arith, s .pre .1 .1 .1 .inside)
 
 settled-walk-sub-settled-walk : (t : ℕ) → settled-walk-lts.Need-sub-settled-walk (settled-walk-calls t) (settled-walk-at t) settled-walk.Post
 settled-walk-sub-settled-walk t c = some-left (c .before .before .before .before .if1 .left)
@@ -406,13 +406,13 @@ settled-walk-taken-in-requires t c κs = search needs
 
 settled-walk-settled-walk-requires : (t : ℕ) → settled-walk-lts.Need-settled-walk-requires (settled-walk-calls t) (settled-walk-at t) settled-walk.Post
 settled-walk-settled-walk-requires t c κs =
-    let s = c .before .before .before .before .before .before .before in
+    let s = c .before .before .before .before .before .before in
     let more = some-left (c .before .before .before .before .before .if1 .left) in
     (rest-falls (s .args .row) (s .pre .0) more, (s .pre .1 .0, (s .pre .1 .1 .0, span-rest (s .pre .1 .1 .1) more)))
 
 settled-walk-returns-3 : (t : ℕ) → settled-walk-lts.Need-returns-3 (settled-walk-calls t) (settled-walk-at t) settled-walk.Post
 settled-walk-returns-3 t c =
-    let s = c .before .before .before .before .before .before .before .before in
+    let s = c .before .before .before .before .before .before .before in
     c .settled-walk .ensures
     ∙ settled-on (s .args .any) (s .args .sofar) (c .before .before .before .before .settled .result) _ (sym (c .before .before .before .decides-it .ensures) ∙ c .before .before .if2 .left) (c .before .taken-in .ensures)
     ∙ ap (settledSoFar (s .args .any) (s .args .sofar)) (sym (walk-cons _ (s .pre .1 .0 .long) (s .pre .1 .1 .1) (some-left (c .before .before .before .before .before .before .if1 .left)) (c .before .before .before .before .before .operand-at .ensures) (c .before .before .before .before .settled .ensures)))

@@ -79,45 +79,45 @@ valuation-walk-calls t = (operand-at-reads.Asked, operand-at-reads.Learnt, valua
 abbrev Place : ℕ → Type 0
 Place t = valuation-lts.After-start-at (valuation-calls t) (valuation-at t) valuation.Post
 
-seen : (t : ℕ) (p : Place t) → let s = p .before .before .before .before in
+seen : (t : ℕ) (p : Place t) → let s = p .before .before .before in
     Read (s .args .monitor .now) (s .args .row) (p .before .before .kind-at .result) (p .before .arg-at .result) (p .start-at .result)
 seen t p =
-    let s = p .before .before .before .before in
+    let s = p .before .before .before in
     record { kept = s .pre .1 .0; inside = s .pre .1 .1; kind-is = p .before .before .kind-at .ensures; arg-is = p .before .arg-at .ensures; start-is = p .start-at .ensures }
 
 -- a row below is asked
-asks : (t : ℕ) (p : Place t) {x : ℕ} → let s = p .before .before .before .before in
+asks : (t : ℕ) (p : Place t) {x : ℕ} → let s = p .before .before .before in
     x < s .args .row → ((x + 1) * 2 ^ 64 < t) × (BookKept (s .args .monitor .now) × (x < rowCount (s .args .monitor .now)))
 asks t p lt =
-    let s = p .before .before .before .before in
+    let s = p .before .before .before in
     (row-falls (s .pre .0) lt, (s .pre .1 .0, lt-trans lt (s .pre .1 .1)))
 
 -- the row's range
 abbrev range : (t : ℕ) (p : Place t) → Range
 range t p =
-    let s = p .before .before .before .before in
+    let s = p .before .before .before in
     record { lower = lowerAt (s .args .monitor .now) (s .args .row); upper = upperAt (s .args .monitor .now) (s .args .row) }
 
 valuation-kind-at-requires : (t : ℕ) → valuation-lts.Need-kind-at-requires (valuation-calls t) (valuation-at t) valuation.Post
-valuation-kind-at-requires t c κs = let s = c .before in row-inside (s .pre .1 .0) (s .pre .1 .1)
+valuation-kind-at-requires t c κs = let s = c in row-inside (s .pre .1 .0) (s .pre .1 .1)
 
 valuation-arg-at-requires : (t : ℕ) → valuation-lts.Need-arg-at-requires (valuation-calls t) (valuation-at t) valuation.Post
-valuation-arg-at-requires t c κs = let s = c .before .before in row-inside (s .pre .1 .0) (s .pre .1 .1)
+valuation-arg-at-requires t c κs = let s = c .before in row-inside (s .pre .1 .0) (s .pre .1 .1)
 
 valuation-start-at-requires : (t : ℕ) → valuation-lts.Need-start-at-requires (valuation-calls t) (valuation-at t) valuation.Post
-valuation-start-at-requires t c κs = let s = c .before .before .before in row-inside (s .pre .1 .0) (s .pre .1 .1)
+valuation-start-at-requires t c κs = let s = c .before .before in row-inside (s .pre .1 .0) (s .pre .1 .1)
 
 valuation-valuation-walk-requires : (t : ℕ) → valuation-lts.Need-valuation-walk-requires (valuation-calls t) (valuation-at t) valuation.Post
 unfolding countOf
 valuation-valuation-walk-requires t c κs =
-    let s = c .before .before .before .before .before in
+    let s = c .before .before .before .before in
     let sp = span-as (seen t (c .before)) (c .match .keys4) in
     (walk-falls (s .args .row) (s .pre .0) (omega (arith, sp .inside)), (s .pre .1 .0, (s .pre .1 .1, sp)))
 
 valuation-valuation-walk-requires-2 : (t : ℕ) → valuation-lts.Need-valuation-walk-requires-2 (valuation-calls t) (valuation-at t) valuation.Post
 unfolding countOf
 valuation-valuation-walk-requires-2 t c κs =
-    let s = c .before .before .before .before .before in
+    let s = c .before .before .before .before in
     let sp = span-as (seen t (c .before)) (c .match .keys5) in
     (walk-falls (s .args .row) (s .pre .0) (omega (arith, sp .inside)), (s .pre .1 .0, (s .pre .1 .1, sp)))
 
@@ -174,10 +174,10 @@ unfolding countOf
 valuation-valuation-requires-4 t c κs = asks t (c .before .before) (first-below (span-as (seen t (c .before .before)) (c .before .match .keys8)) (lit< tt) (c .operand-at4 .ensures))
 
 valuation-from-now-requires : (t : ℕ) → valuation-lts.Need-from-now-requires (valuation-calls t) (valuation-at t) valuation.Post
-valuation-from-now-requires t c κs = let s = c .before .before .before .before .before .before .before in row-inside (s .pre .1 .0) (s .pre .1 .1)
+valuation-from-now-requires t c κs = let s = c .before .before .before .before .before .before in row-inside (s .pre .1 .0) (s .pre .1 .1)
 
 valuation-covers-at-requires : (t : ℕ) → valuation-lts.Need-covers-at-requires (valuation-calls t) (valuation-at t) valuation.Post
-valuation-covers-at-requires t c κs = let s = c .before .before .before .before .before .before .before .before in row-inside (s .pre .1 .0) (s .pre .1 .1) .1
+valuation-covers-at-requires t c κs = let s = c .before .before .before .before .before .before .before in row-inside (s .pre .1 .0) (s .pre .1 .1) .1
 
 valuation-early-historically-requires : (t : ℕ) → valuation-lts.Need-early-historically-requires (valuation-calls t) (valuation-at t) valuation.Post
 valuation-early-historically-requires t c κs = search needs
@@ -191,10 +191,10 @@ unfolding countOf
 valuation-valuation-requires-5 t c κs = asks t (c .before .before) (first-below (span-as (seen t (c .before .before)) (c .before .match .keys9)) (lit< tt) (c .operand-at5 .ensures))
 
 valuation-from-now-requires-2 : (t : ℕ) → valuation-lts.Need-from-now-requires-2 (valuation-calls t) (valuation-at t) valuation.Post
-valuation-from-now-requires-2 t c κs = let s = c .before .before .before .before .before .before .before in row-inside (s .pre .1 .0) (s .pre .1 .1)
+valuation-from-now-requires-2 t c κs = let s = c .before .before .before .before .before .before in row-inside (s .pre .1 .0) (s .pre .1 .1)
 
 valuation-covers-at-requires-2 : (t : ℕ) → valuation-lts.Need-covers-at-requires-2 (valuation-calls t) (valuation-at t) valuation.Post
-valuation-covers-at-requires-2 t c κs = let s = c .before .before .before .before .before .before .before .before in row-inside (s .pre .1 .0) (s .pre .1 .1) .1
+valuation-covers-at-requires-2 t c κs = let s = c .before .before .before .before .before .before .before in row-inside (s .pre .1 .0) (s .pre .1 .1) .1
 
 valuation-early-once-requires : (t : ℕ) → valuation-lts.Need-early-once-requires (valuation-calls t) (valuation-at t) valuation.Post
 valuation-early-once-requires t c κs = search needs
@@ -223,7 +223,7 @@ valuation-returns-2 t c =
     ∙ since-false _ (range t (c .before .before .before .before .before)) _ (right .result) (sym (c .before .is-false .ensures) ∙ c .if2 .taken))
 
 valuation-covers-at-requires-3 : (t : ℕ) → valuation-lts.Need-covers-at-requires-3 (valuation-calls t) (valuation-at t) valuation.Post
-valuation-covers-at-requires-3 t c κs = let s = c .before .before .before .before .before .before .before .before .before in row-inside (s .pre .1 .0) (s .pre .1 .1) .1
+valuation-covers-at-requires-3 t c κs = let s = c .before .before .before .before .before .before .before .before in row-inside (s .pre .1 .0) (s .pre .1 .1) .1
 
 valuation-operand-at-requires-7 : (t : ℕ) → valuation-lts.Need-operand-at-requires-7 (valuation-calls t) (valuation-at t) valuation.Post
 unfolding countOf
@@ -234,7 +234,7 @@ unfolding countOf
 valuation-valuation-requires-7 t c κs = asks t (c .before .before .before .before .before .before .before .before) (first-below (span-as (seen t (c .before .before .before .before .before .before .before .before)) (past-eight (seen t (c .before .before .before .before .before .before .before .before)) (c .before .before .before .before .before .before .before .match .rest))) (lit< tt) (c .operand-at7 .ensures))
 
 valuation-from-now-requires-3 : (t : ℕ) → valuation-lts.Need-from-now-requires-3 (valuation-calls t) (valuation-at t) valuation.Post
-valuation-from-now-requires-3 t c κs = let s = c .before .before .before .before .before .before .before .before .before .before .before .before .before in row-inside (s .pre .1 .0) (s .pre .1 .1)
+valuation-from-now-requires-3 t c κs = let s = c .before .before .before .before .before .before .before .before .before .before .before .before in row-inside (s .pre .1 .0) (s .pre .1 .1)
 
 valuation-early-covered-requires : (t : ℕ) → valuation-lts.Need-early-covered-requires (valuation-calls t) (valuation-at t) valuation.Post
 valuation-early-covered-requires t c κs = search needs
@@ -307,11 +307,11 @@ unfolding earlySoFar
 valuation-walk-returns t c = rw (c .if1 .taken)
 
 valuation-walk-operand-at-requires : (t : ℕ) → valuation-walk-lts.Need-operand-at-requires (valuation-walk-calls t) (valuation-walk-at t) valuation-walk.Post
-valuation-walk-operand-at-requires t c κs = let s = c .before .before in (s .pre .1 .0 .long, omega (arith, s .pre .1 .1 .1 .inside, c .if1 .left))
+valuation-walk-operand-at-requires t c κs = let s = c .before in (s .pre .1 .0 .long, omega (arith, s .pre .1 .1 .1 .inside, c .if1 .left))
 
 valuation-walk-valuation-requires : (t : ℕ) → valuation-walk-lts.Need-valuation-requires (valuation-walk-calls t) (valuation-walk-at t) valuation-walk.Post
 valuation-walk-valuation-requires t c κs =
-    let s = c .before .before .before in
+    let s = c .before .before in
     let more = some-left (c .before .if1 .left) in
     let lt = first-below (s .pre .1 .1 .1) more (c .operand-at .ensures) in
     (operand-falls (s .pre .0) lt more, (s .pre .1 .0, lt-trans lt (s .pre .1 .1 .0)))
@@ -321,12 +321,12 @@ valuation-walk-is-open-requires t c κs = search needs
 
 valuation-walk-returns-2 : (t : ℕ) → valuation-walk-lts.Need-returns-2 (valuation-walk-calls t) (valuation-walk-at t) valuation-walk.Post
 valuation-walk-returns-2 t c =
-    let s = c .before .before .before .before .before .before in
+    let s = c .before .before .before .before .before in
     early-stop (s .args .any) (s .args .sofar) (c .before .before .valuation .result) _ (sym (c .before .is-open .ensures) ∙ c .if2 .taken)
     ∙ ap (earlySoFar (s .args .any) (s .args .sofar)) (sym (walk-cons _ (s .pre .1 .0 .long) (s .pre .1 .1 .1) (some-left (c .before .before .before .before .if1 .left)) (c .before .before .before .operand-at .ensures) (c .before .before .valuation .ensures)))
 
 valuation-walk-add-valuation-walk : (t : ℕ) → valuation-walk-lts.Need-add-valuation-walk (valuation-walk-calls t) (valuation-walk-at t) valuation-walk.Post
-valuation-walk-add-valuation-walk t c = let s = c .before .before .before .before .before .before in omega (arith, s .pre .1 .1 .1 .inside)
+valuation-walk-add-valuation-walk t c = let s = c .before .before .before .before .before in omega (arith, s .pre .1 .1 .1 .inside)
 
 valuation-walk-sub-valuation-walk : (t : ℕ) → valuation-walk-lts.Need-sub-valuation-walk (valuation-walk-calls t) (valuation-walk-at t) valuation-walk.Post
 valuation-walk-sub-valuation-walk t c = some-left (c .before .before .before .before .if1 .left)
@@ -336,13 +336,13 @@ valuation-walk-taken-in-requires t c κs = search needs
 
 valuation-walk-valuation-walk-requires : (t : ℕ) → valuation-walk-lts.Need-valuation-walk-requires (valuation-walk-calls t) (valuation-walk-at t) valuation-walk.Post
 valuation-walk-valuation-walk-requires t c κs =
-    let s = c .before .before .before .before .before .before .before in
+    let s = c .before .before .before .before .before .before in
     let more = some-left (c .before .before .before .before .before .if1 .left) in
     (rest-falls (s .args .row) (s .pre .0) more, (s .pre .1 .0, (s .pre .1 .1 .0, span-rest (s .pre .1 .1 .1) more)))
 
 valuation-walk-returns-3 : (t : ℕ) → valuation-walk-lts.Need-returns-3 (valuation-walk-calls t) (valuation-walk-at t) valuation-walk.Post
 valuation-walk-returns-3 t c =
-    let s = c .before .before .before .before .before .before .before .before in
+    let s = c .before .before .before .before .before .before .before in
     c .valuation-walk .ensures
     ∙ early-on (s .args .any) (s .args .sofar) (c .before .before .before .before .valuation .result) _ (sym (c .before .before .before .is-open .ensures) ∙ c .before .before .if2 .left) (c .before .taken-in .ensures)
     ∙ ap (earlySoFar (s .args .any) (s .args .sofar)) (sym (walk-cons _ (s .pre .1 .0 .long) (s .pre .1 .1 .1) (some-left (c .before .before .before .before .before .before .if1 .left)) (c .before .before .before .before .before .operand-at .ensures) (c .before .before .before .before .valuation .ensures)))

@@ -29,7 +29,7 @@ part-result-end : tie.Need-part-result-end
 part-result-end c = search needs
 
 returns : tie.Need-returns
-returns c = let s = c .before in part-to (setStart (s .args .slot)) (setStart (s .args .slot) + SET) SET (s .args .monitor .now) refl
+returns c = let s = c .before .before in part-to (setStart (s .args .slot)) (setStart (s .args .slot) + SET) SET (s .args .monitor .now) refl
 
 pub set-at-spec : {M : Type 1} → statement M
 set-at-spec =

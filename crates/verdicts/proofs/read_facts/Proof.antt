@@ -16,25 +16,25 @@ abbrev μ-loop : tie.MeasureT-loop
 μ-loop monitor clock count facts₀ slot₀ facts slot = count - slot
 
 clock-requires : tie.Need-clock-requires Inv-loop μ-loop
-clock-requires c κs = c .before .pre .book .long
+clock-requires c κs = c .pre .book .long
 
 temporal-count-requires : tie.Need-temporal-count-requires Inv-loop μ-loop
-temporal-count-requires c κs = c .before .before .pre .book .long
+temporal-count-requires c κs = c .before .pre .book .long
 
 loop-holds : tie.Need-loop-holds Inv-loop μ-loop
 loop-holds c = (omega arith, c .temporal-count .ensures, c .before .clock .ensures, told-start _)
 
 owner-at-requires : tie.Need-owner-at-requires Inv-loop μ-loop
-owner-at-requires c κs = let k = c .before .before .before .before .before .pre .book in let l = c .before .loop .inv .1 in let few = k .temporal-few in (k .long, omega arith)
+owner-at-requires c κs = let k = c .before .before .before .before .pre .book in let l = c .before .loop .inv .1 in let few = k .temporal-few in (k .long, omega arith)
 
 set-at-requires : tie.Need-set-at-requires Inv-loop μ-loop
-set-at-requires c κs = let k = c .before .before .before .before .before .before .pre .book in let l = c .before .before .loop .inv .1 in let few = k .temporal-few in (k .long, omega arith)
+set-at-requires c κs = let k = c .before .before .before .before .before .pre .book in let l = c .before .before .loop .inv .1 in let few = k .temporal-few in (k .long, omega arith)
 
 fact-about-requires : tie.Need-fact-about-requires Inv-loop μ-loop
-fact-about-requires c κs = let k = c .before .before .before .before .before .before .before .pre in let l = c .before .before .before .loop in let e = l .inv .1 in let few = k .book .temporal-few in subst Good (sym (c .set-at .ensures)) (k .sets (l .slot) (omega arith))
+fact-about-requires c κs = let k = c .before .before .before .before .before .before .pre in let l = c .before .before .before .loop in let e = l .inv .1 in let few = k .book .temporal-few in subst Good (sym (c .set-at .ensures)) (k .sets (l .slot) (omega arith))
 
 array-write-facts : tie.Need-array-write-facts Inv-loop μ-loop
-array-write-facts c = let k = c .before .before .before .before .before .before .before .before .pre .book in let l = c .before .before .before .before .loop in let o = k .owned (l .slot) (let e = l .inv .1 in omega arith) in let e = c .before .before .owner-at .ensures in let few = k .few in omega arith
+array-write-facts c = let k = c .before .before .before .before .before .before .before .pre .book in let l = c .before .before .before .before .loop in let o = k .owned (l .slot) (let e = l .inv .1 in omega arith) in let e = c .before .before .owner-at .ensures in let few = k .few in omega arith
 
 add-slot : tie.Need-add-slot Inv-loop μ-loop
 add-slot c = search needs
@@ -43,10 +43,10 @@ loop-less : tie.Need-loop-less Inv-loop μ-loop
 loop-less c = search needs
 
 loop-again : tie.Need-loop-again Inv-loop μ-loop
-loop-again c = let k = c .before .before .before .before .before .before .before .before .pre in let l = c .before .before .before .before .loop in (omega arith, l .inv .1, l .inv .2, told-more k (l .inv .3) (let e = l .inv .1 in omega arith) (c .before .before .owner-at .ensures) (c .fact-about .ensures ∙ rw (l .inv .2, c .before .set-at .ensures)))
+loop-again c = let k = c .before .before .before .before .before .before .before .pre in let l = c .before .before .before .before .loop in (omega arith, l .inv .1, l .inv .2, told-more k (l .inv .3) (let e = l .inv .1 in omega arith) (c .before .before .owner-at .ensures) (c .fact-about .ensures ∙ rw (l .inv .2, c .before .set-at .ensures)))
 
 returns : tie.Need-returns Inv-loop μ-loop
-returns c = let k = c .before .before .before .before .before .pre in let l = c .before .loop in told-all k (l .inv .3) (let e = l .inv .1 in let le = l .inv .0 in omega arith)
+returns c = let k = c .before .before .before .before .pre in let l = c .before .loop in told-all k (l .inv .3) (let e = l .inv .1 in let le = l .inv .0 in omega arith)
 
 pub read-facts-spec : {M : Type 1} → statement M
 read-facts-spec =

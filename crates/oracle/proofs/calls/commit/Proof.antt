@@ -3,7 +3,7 @@ use Rattle.oracle.proofs.Commits.{written-start, commit-fit, commit-mor
 use Rattle.oracle.specs.Steps.{setAfter, Written}
 use Rattle.rows.specs.Memory.{temporals}
 use lib.ListN.{getD}
-use mathlib.Core.Path.{_≡_, sym, _∙_}
+use mathlib.Core.Path.{_≡_}
 use Prim.Native.Nat.{_≤_, _-_}
 use native.Mathlib.Omega.{arith}
 use borrow.Author.Needs.{needs}
@@ -17,16 +17,16 @@ abbrev μ-loop : tie.MeasureT-loop
 μ-loop monitor₀ clock modes count slot₀ monitor slot = count - slot
 
 temporal-count-requires : tie.Need-temporal-count-requires Inv-loop μ-loop
-temporal-count-requires c κs = c .before .before .pre .timely .kept .book .long
+temporal-count-requires c κs = c .before .pre .timely .kept .book .long
 
 loop-holds : tie.Need-loop-holds Inv-loop μ-loop
-loop-holds c = let s = c .before .before .before in (omega arith, c .temporal-count .ensures, written-start (s .args .monitor .now) _ (s .pre .timely .kept .book .long))
+loop-holds c = let s = c .before .before in (omega arith, c .temporal-count .ensures, written-start (s .args .monitor .now) _ (s .pre .timely .kept .book .long))
 
 element-copy-out-commit-slot : tie.Need-element-copy-out-commit-slot Inv-loop μ-loop
-element-copy-out-commit-slot c = let s = c .before .before .before .before .before .before in let l = c .before .before .loop in let e = l .inv .1 in let f = s .pre .timely .kept .book .temporal-few in omega arith
+element-copy-out-commit-slot c = let s = c .before .before .before .before .before in let l = c .before .before .loop in let e = l .inv .1 in let f = s .pre .timely .kept .book .temporal-few in omega arith
 
 commit-slot-requires : tie.Need-commit-slot-requires Inv-loop μ-loop
-commit-slot-requires c κs = let s = c .before .before .before .before .before .before .before in let l = c .before .before .before .loop in commit-fit (s .pre) (let e = l .inv .1 in omega arith) (l .inv .2)
+commit-slot-requires c κs = let s = c .before .before .before .before .before .before in let l = c .before .before .before .loop in commit-fit (s .pre) (let e = l .inv .1 in omega arith) (l .inv .2)
 
 add-slot : tie.Need-add-slot Inv-loop μ-loop
 add-slot c = search needs
@@ -35,13 +35,10 @@ loop-less : tie.Need-loop-less Inv-loop μ-loop
 loop-less c = search needs
 
 loop-again : tie.Need-loop-again Inv-loop μ-loop
-loop-again c = let s = c .before .before .before .before .before .before .before .before .before .before in let l = c .before .before .before .before .before .before .loop in (omega arith, l .inv .1, commit-more (s .pre) (let e = l .inv .1 in omega arith) (l .inv .2) (c .before .before .commit-slot .ensures))
-
-same-length : tie.Need-same-length Inv-loop μ-loop
-same-length c = let s = c .before .before .before .before .before in c .before .loop .inv .2 .long ∙ sym (s .pre .timely .kept .book .long)
+loop-again c = let s = c .before .before .before .before .before .before .before in let l = c .before .before .before .before .loop in (omega arith, l .inv .1, commit-more (s .pre) (let e = l .inv .1 in omega arith) (l .inv .2) (c .commit-slot .ensures))
 
 returns : tie.Need-returns Inv-loop μ-loop
-returns c = let s = c .before .before .before .before .before in let l = c .before .loop in let e : l .slot ≡ temporals (s .args .monitor .now) = let q = l .inv .1 in omega arith in rw e at (l .inv .2)
+returns c = let s = c .before .before .before .before in let l = c .before .loop in let e : l .slot ≡ temporals (s .args .monitor .now) = let q = l .inv .1 in omega arith in rw e at (l .inv .2)
 
 pub commit-spec : {M : Type 1} → statement M
 commit-spec =
@@ -56,5 +53,4 @@ commit-spec =
     add-slot
     loop-less
     loop-again
-    same-length
     returns)

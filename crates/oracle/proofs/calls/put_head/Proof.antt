@@ -2,8 +2,7 @@
 use Rattle.oracle.proofs.Heads.{atoms-start, atoms-more, headed}
 use Rattle.oracle.specs.Steps.{Atoms}
 use Rattle.rows.specs.Memory.{widthWord}
-use lib.ListN.{length-set}
-use mathlib.Core.Path.{_≡_, sym, _∙_}
+use mathlib.Core.Path.{_≡_}
 use Prim.Native.Nat.{_≤_, _-_}
 use native.Mathlib.Omega.{arith}
 use borrow.Author.Needs.{needs}
@@ -20,43 +19,40 @@ width-requires : tie.Need-width-requires Inv-loop μ-loop
 width-requires c κs = search needs
 
 loop-holds : tie.Need-loop-holds Inv-loop μ-loop
-loop-holds c = let s = c .before .before .before in (omega arith, c .width .ensures, atoms-start (s .args .monitor .now) (s .args .atoms .now) (s .pre .0))
+loop-holds c = let s = c .before .before in (omega arith, c .width .ensures, atoms-start (s .args .monitor .now) (s .args .atoms .now) (s .pre .0))
 
 element-copy-out-wide : tie.Need-element-copy-out-wide Inv-loop μ-loop
-element-copy-out-wide c = let s = c .before .before .before .before .before in let l = c .before .loop in let e = l .inv .1 in let k = s .pre in omega arith
+element-copy-out-wide c = let s = c .before .before .before .before in let l = c .before .loop in let e = l .inv .1 in let k = s .pre in omega arith
 
 wide-requires : tie.Need-wide-requires Inv-loop μ-loop
 wide-requires c κs = search needs
 
 add-monitor : tie.Need-add-monitor Inv-loop μ-loop
-add-monitor c = let s = c .before .before .before .before .before .before .before in let l = c .before .before .before .loop in let e = l .inv .1 in let k = s .pre in omega arith
+add-monitor c = let s = c .before .before .before .before .before .before in let l = c .before .before .before .loop in let e = l .inv .1 in let k = s .pre in omega arith
 
 mul-monitor : tie.Need-mul-monitor Inv-loop μ-loop
-mul-monitor c = let s = c .before .before .before .before .before .before .before in let l = c .before .before .before .loop in let e = l .inv .1 in let k = s .pre in omega arith
+mul-monitor c = let s = c .before .before .before .before .before .before in let l = c .before .before .before .loop in let e = l .inv .1 in let k = s .pre in omega arith
 
-slice-write-monitor : tie.Need-slice-write-monitor Inv-loop μ-loop
-slice-write-monitor c = let s = c .before .before .before .before .before .before .before in let l = c .before .before .before .loop in let e = l .inv .1 in let k = s .pre in let g = l .inv .2 .long in omega arith
+element-write-monitor : tie.Need-element-write-monitor Inv-loop μ-loop
+element-write-monitor c = let s = c .before .before .before .before .before .before in let l = c .before .before .before .loop in let e = l .inv .1 in let k = s .pre in let g = l .inv .2 .long in omega arith
 
 add-i : tie.Need-add-i Inv-loop μ-loop
-add-i c = let s = c .before .before .before .before .before .before .before in let l = c .before .before .before .loop in let e = l .inv .1 in let k = s .pre in omega arith
+add-i c = let s = c .before .before .before .before .before .before in let l = c .before .before .before .loop in let e = l .inv .1 in let k = s .pre in omega arith
 
 loop-less : tie.Need-loop-less Inv-loop μ-loop
 loop-less c = search needs
 
 loop-again : tie.Need-loop-again Inv-loop μ-loop
-loop-again c = let s = c .before .before .before .before .before .before .before in let l = c .before .before .before .loop in let e = l .inv .1 in let k = s .pre in (omega arith, e, atoms-more (l .inv .2) (omega arith) (c .wide .ensures))
+loop-again c = let s = c .before .before .before .before .before .before in let l = c .before .before .before .loop in let e = l .inv .1 in let k = s .pre in (omega arith, e, atoms-more (l .inv .2) (omega arith) (c .wide .ensures))
 
-slice-write-monitor-2 : tie.Need-slice-write-monitor-2 Inv-loop μ-loop
-slice-write-monitor-2 c = let g = c .before .loop .inv .2 .long in omega arith
+element-write-monitor-2 : tie.Need-element-write-monitor-2 Inv-loop μ-loop
+element-write-monitor-2 c = search needs
 
-slice-write-monitor-3 : tie.Need-slice-write-monitor-3 Inv-loop μ-loop
-slice-write-monitor-3 c = let g = c .before .loop .inv .2 .long in simp length-set (omega arith)
-
-same-length : tie.Need-same-length Inv-loop μ-loop
-same-length c = let s = c .before .before .before .before .before in let g = c .before .loop .inv .2 .long in simp length-set (g ∙ sym (s .pre .0))
+element-write-monitor-3 : tie.Need-element-write-monitor-3 Inv-loop μ-loop
+element-write-monitor-3 c = search needs
 
 returns : tie.Need-returns Inv-loop μ-loop
-returns c = let s = c .before .before .before .before .before in let l = c .before .loop in headed (l .inv .2) (let e = l .inv .1 in let q = l .inv .0 in omega arith)
+returns c = let s = c .before .before .before .before in let l = c .before .loop in headed (l .inv .2) (let e = l .inv .1 in let q = l .inv .0 in omega arith)
 
 pub put-head-spec : {M : Type 1} → statement M
 put-head-spec =
@@ -70,11 +66,10 @@ put-head-spec =
     wide-requires
     add-monitor
     mul-monitor
-    slice-write-monitor
+    element-write-monitor
     add-i
     loop-less
     loop-again
-    slice-write-monitor-2
-    slice-write-monitor-3
-    same-length
+    element-write-monitor-2
+    element-write-monitor-3
     returns)

@@ -5,40 +5,31 @@ use Rattle.oracle.proofs.calls.state_call.Statement.{statement}
 use Rattle.oracle.proofs.calls.state_call.Tie as tie
 
 returns : tie.Need-returns
-returns c = let s = c .before .before .before in state-wide (s .pre) (s .args .state .now) (c .if1 .taken)
+returns c = let s = c .before .before in state-wide (s .pre) (s .args .state .now) (c .if1 .taken)
 
 width-requires : tie.Need-width-requires
 width-requires c κs = search needs
 
-same-length : tie.Need-same-length
-same-length c = search needs
-
 returns-2 : tie.Need-returns-2
-returns-2 c = let s = c .before .before .before .before .before .before in state-short (s .pre) (s .args .state .now) (c .before .before .before .if1 .left) (c .before .width .ensures) (c .if2 .taken)
+returns-2 c = let s = c .before .before .before .before .before in state-short (s .pre) (s .args .state .now) (c .before .before .before .if1 .left) (c .before .width .ensures) (c .if2 .taken)
 
 has-other-requires : tie.Need-has-other-requires
 has-other-requires c κs = search needs
 
-same-length-2 : tie.Need-same-length-2
-same-length-2 c = search needs
-
 returns-3 : tie.Need-returns-3
-returns-3 c = let s = c .before .before .before .before .before .before .before .before in state-other (s .pre) (s .args .state .now) (c .before .before .before .before .before .if1 .left) (c .before .before .before .width .ensures) (c .before .before .if2 .left) (c .before .has-other .ensures) (c .if3 .taken)
+returns-3 c = let s = c .before .before .before .before .before .before .before in state-other (s .pre) (s .args .state .now) (c .before .before .before .before .before .if1 .left) (c .before .before .before .width .ensures) (c .before .before .if2 .left) (c .before .has-other .ensures) (c .if3 .taken)
 
 new-atoms-requires : tie.Need-new-atoms-requires
-new-atoms-requires c κs = let s = c .before .before .before .before .before .before .before .before in (c .before .before .if2 .left, new-narrow (s .pre) (s .args .state .now) (c .before .before .before .before .before .if1 .left) (c .before .before .before .width .ensures) (c .before .before .if2 .left) (c .before .has-other .ensures))
+new-atoms-requires c κs = let s = c .before .before .before .before .before .before .before in (c .before .before .if2 .left, new-narrow (s .pre) (s .args .state .now) (c .before .before .before .before .before .if1 .left) (c .before .before .before .width .ensures) (c .before .before .if2 .left) (c .before .has-other .ensures))
 
 clock-requires : tie.Need-clock-requires
 clock-requires c κs = search needs
 
 advance-requires : tie.Need-advance-requires
-advance-requires c κs = let s = c .before .before .before .before .before .before .before .before .before .before .before .before .before in (state-timely (s .pre) (s .args .state .now) (c .before .before .before .before .before .before .before .before .before .before .if1 .left) (c .before .before .before .before .before .before .before .before .width .ensures) (c .before .before .before .before .before .before .before .if2 .left) (c .before .before .before .before .before .before .has-other .ensures) (c .before .before .clock .ensures), new-bytes (s .pre) (s .args .state .now) (c .before .before .before .before .before .before .before .before .before .before .if1 .left) (c .before .before .before .before .before .before .before .before .width .ensures) (c .before .before .before .before .before .before .before .if2 .left) (c .before .before .before .before .before .before .has-other .ensures) (c .before .before .before .before .before .if3 .left) (c .before .before .before .before .new-atoms .ensures))
-
-same-length-3 : tie.Need-same-length-3
-same-length-3 c = search needs
+advance-requires c κs = let s = c .before .before .before .before .before .before .before .before .before .before .before .before in (state-timely (s .pre) (s .args .state .now) (c .before .before .before .before .before .before .before .before .before .before .if1 .left) (c .before .before .before .before .before .before .before .before .width .ensures) (c .before .before .before .before .before .before .before .if2 .left) (c .before .before .before .before .before .before .has-other .ensures) (c .before .before .clock .ensures), new-bytes (s .pre) (s .args .state .now) (c .before .before .before .before .before .before .before .before .before .before .if1 .left) (c .before .before .before .before .before .before .before .before .width .ensures) (c .before .before .before .before .before .before .before .if2 .left) (c .before .before .before .before .before .before .has-other .ensures) (c .before .before .before .before .before .if3 .left) (c .before .before .before .before .new-atoms .ensures))
 
 returns-4 : tie.Need-returns-4
-returns-4 c = let s = c .before .before .before .before .before .before .before .before .before .before .before .before .before .before .before .before in state-played (s .pre) (s .args .state .now) (c .before .before .before .before .before .before .before .before .before .before .before .before .before .if1 .left) (c .before .before .before .before .before .before .before .before .before .before .before .width .ensures) (c .before .before .before .before .before .before .before .before .before .before .if2 .left) (c .before .before .before .before .before .before .before .before .before .has-other .ensures) (c .before .before .before .before .before .before .before .before .if3 .left) (c .before .before .before .before .before .clock .ensures) (c .before .before .before .before .before .before .before .new-atoms .ensures) (c .before .before .advance .ensures)
+returns-4 c = let s = c .before .before .before .before .before .before .before .before .before .before .before .before .before in state-played (s .pre) (s .args .state .now) (c .before .before .before .before .before .before .before .before .before .before .before .if1 .left) (c .before .before .before .before .before .before .before .before .before .width .ensures) (c .before .before .before .before .before .before .before .before .if2 .left) (c .before .before .before .before .before .before .before .has-other .ensures) (c .before .before .before .before .before .before .if3 .left) (c .before .before .before .clock .ensures) (c .before .before .before .before .before .new-atoms .ensures) (c .advance .ensures)
 
 pub state-call-spec : {M : Type 1} → statement M
 state-call-spec =
@@ -46,13 +37,10 @@ state-call-spec =
     (tie.spec
     returns
     width-requires
-    same-length
     returns-2
     has-other-requires
-    same-length-2
     returns-3
     new-atoms-requires
     clock-requires
     advance-requires
-    same-length-3
     returns-4)

@@ -7,40 +7,28 @@ use Rattle.oracle.proofs.calls.time_call.Tie as tie
 clock-requires : tie.Need-clock-requires
 clock-requires c κs = search needs
 
-same-length : tie.Need-same-length
-same-length c = search needs
-
 returns : tie.Need-returns
-returns c = time-early (c .before .before .before .before .pre) (c .before .clock .ensures) (c .if1 .taken)
-
-same-length-2 : tie.Need-same-length-2
-same-length-2 c = search needs
+returns c = time-early (c .before .before .before .pre) (c .before .clock .ensures) (c .if1 .taken)
 
 returns-2 : tie.Need-returns-2
-returns-2 c = time-late (c .before .before .before .before .before .pre) (c .before .before .clock .ensures) (c .before .if1 .left) (c .if2 .taken)
+returns-2 c = time-late (c .before .before .before .before .pre) (c .before .before .clock .ensures) (c .before .if1 .left) (c .if2 .taken)
 
 read-atoms-requires : tie.Need-read-atoms-requires
 read-atoms-requires c κs = search needs
 
 advance-requires : tie.Need-advance-requires
-advance-requires c κs = let s = c .before .before .before .before .before .before .before .before .before in (time-timely (s .pre) (c .before .before .before .before .before .before .clock .ensures) (c .before .before .before .before .before .if1 .left) (c .before .before .before .before .if2 .left), rw (c .before .before .read-atoms .ensures) (old-bytes (s .pre)))
-
-same-length-3 : tie.Need-same-length-3
-same-length-3 c = search needs
+advance-requires c κs = let s = c .before .before .before .before .before .before .before .before in (time-timely (s .pre) (c .before .before .before .before .before .before .clock .ensures) (c .before .before .before .before .before .if1 .left) (c .before .before .before .before .if2 .left), rw (c .before .before .read-atoms .ensures) (old-bytes (s .pre)))
 
 returns-3 : tie.Need-returns-3
-returns-3 c = let s = c .before .before .before .before .before .before .before .before .before .before .before .before in time-played (s .pre) (c .before .before .before .before .before .before .before .before .before .clock .ensures) (c .before .before .before .before .before .before .before .before .if1 .left) (c .before .before .before .before .before .before .before .if2 .left) (c .before .before .before .before .before .read-atoms .ensures) (c .before .before .advance .ensures)
+returns-3 c = let s = c .before .before .before .before .before .before .before .before .before in time-played (s .pre) (c .before .before .before .before .before .before .before .clock .ensures) (c .before .before .before .before .before .before .if1 .left) (c .before .before .before .before .before .if2 .left) (c .before .before .before .read-atoms .ensures) (c .advance .ensures)
 
 pub time-call-spec : {M : Type 1} → statement M
 time-call-spec =
     tie.close
     (tie.spec
     clock-requires
-    same-length
     returns
-    same-length-2
     returns-2
     read-atoms-requires
     advance-requires
-    same-length-3
     returns-3)
