@@ -282,10 +282,10 @@ pub fn output<'a>(
         ATOM => atoms[arg] == 1,
         AND => output_walk(monitor, atoms, facts, row, start, arg, false),
         OR => output_walk(monitor, atoms, facts, row, start, arg, true),
-        NOT => !output(monitor, atoms, facts, operand_at(monitor, start)),
+        NOT => !operand_output(monitor, atoms, facts, operand_at(monitor, start)),
         IMPLIES => {
-            if output(monitor, atoms, facts, operand_at(monitor, start)) {
-                output(monitor, atoms, facts, operand_at(monitor, start + 1))
+            if operand_output(monitor, atoms, facts, operand_at(monitor, start)) {
+                operand_output(monitor, atoms, facts, operand_at(monitor, start + 1))
             } else {
                 true
             }
@@ -313,10 +313,31 @@ fn output_walk<'a>(
     if left == 0 {
         return !stop;
     }
-    if output(monitor, atoms, facts, operand_at(monitor, place)) == stop {
+    if operand_output(monitor, atoms, facts, operand_at(monitor, place)) == stop {
         return stop;
     }
     output_walk(monitor, atoms, facts, row, place + 1, left - 1, stop)
+}
+
+// Whether an operand holds. Most operands are atoms or have a set: these are answered on the spot, with no call.
+fn operand_output<'a>(
+    monitor: &'a [u64; SIZE],
+    atoms: &'a [u8; MOST_ATOMS],
+    facts: &'a [u8; MOST_ROWS],
+    row: usize,
+) -> bool
+    requires { ⌜ BookKept (now monitor) ⌝ }
+    requires { ⌜ row < rowCount (now monitor) ⌝ }
+    ensures { λ r. ⌜ r ≡ outputOf (now (monitor .entry)) (now (atoms .entry)) (now (facts .entry)) row ⌝ }
+{
+    let kind = kind_at(monitor, row);
+    match kind {
+        ATOM => atoms[arg_at(monitor, row)] == 1,
+        HISTORICALLY => !here_at(facts, row),
+        ONCE => here_at(facts, row),
+        SINCE => here_at(facts, row),
+        _ => output(monitor, atoms, facts, row),
+    }
 }
 
 // Whether a row's lower bound is 0.
