@@ -22,43 +22,13 @@ use Rattle.pmtl.proofs.Steps.{value-out, early-out, settled-out}
 use Rattle.rows.specs.Memory.{PROPERTIES, ATOMS, part, rowCount, begunWord, clockOf, widthWord, assumeCount, guaranteeCount, isOne, listed, rowsOf, bookOf, stateOf}
 use Rattle.rows.specs.Facts.{factOf, hereIn, coversIn, goneIn, outputOf, valuationOf, settledOf}
 use Rattle.rows.proofs.Listed.{listed-at, listed-out}
+use Rattle.rows.proofs.Facts.{fact-here, fact-covers, fact-gone}
 use Rattle.rows.proofs.Kept.{rows-length}
 use Rattle.book.specs.Kept.{Kept}
 use Rattle.verdicts.specs.declared.Verdict.{Verdict}
 use Rattle.verdicts.specs.Verdict.{propertyAt, verdictIn, verdictOf, propertiesIn, answersNumber, answersList}
-use Rattle.verdicts.proofs.Filled.{any-default, steps, steps-is}
-use Rattle.verdicts.specs.Steps.{absent, blank, factAt, factsOf, atomAt, atomsOf, Seen, Answered}
-
--- ---- a fact's bits
-here-bit : (h c g : Bool) → isOne (factOf h c g % 2) ≡ h
-here-bit true true true = refl
-here-bit true true false = refl
-here-bit true false true = refl
-here-bit true false false = refl
-here-bit false true true = refl
-here-bit false true false = refl
-here-bit false false true = refl
-here-bit false false false = refl
-
-covers-bit : (h c g : Bool) → isOne (factOf h c g / 2 % 2) ≡ c
-covers-bit true true true = refl
-covers-bit true true false = refl
-covers-bit true false true = refl
-covers-bit true false false = refl
-covers-bit false true true = refl
-covers-bit false true false = refl
-covers-bit false false true = refl
-covers-bit false false false = refl
-
-gone-bit : (h c g : Bool) → isOne (factOf h c g / 4 % 2) ≡ g
-gone-bit true true true = refl
-gone-bit true true false = refl
-gone-bit true false true = refl
-gone-bit true false false = refl
-gone-bit false true true = refl
-gone-bit false true false = refl
-gone-bit false false true = refl
-gone-bit false false false = refl
+use Rattle.verdicts.proofs.Filled.{any-default, steps-is}
+use Rattle.verdicts.specs.Steps.{steps, absent, blank, factAt, factsOf, atomAt, atomsOf, Seen, Answered}
 
 -- a value by other atoms of the same numbers
 atoms-same : (xs ys : List Bool) → ((a : ℕ) → getD xs a false ≡ getD ys a false) → (here : Bool) (row : Row Bool) → valueRule xs here row ≡ valueRule ys here row
@@ -106,13 +76,13 @@ module _ {m atoms facts : List ℕ} (seen : Seen m atoms facts) where
     none = gone (clockOf m) (setAt (stateOf m) r)
 
     here-is : hereIn facts r ≡ inside
-    here-is = ap (λ x. isOne (x % 2)) (fact-is r h) ∙ here-bit inside covered none
+    here-is = ap (λ x. isOne (x % 2)) (fact-is r h) ∙ fact-here inside covered none
 
     covers-is : coversIn facts r ≡ covered
-    covers-is = ap (λ x. isOne (x / 2 % 2)) (fact-is r h) ∙ covers-bit inside covered none
+    covers-is = ap (λ x. isOne (x / 2 % 2)) (fact-is r h) ∙ fact-covers inside covered none
 
     gone-is : goneIn facts r ≡ none
-    gone-is = ap (λ x. isOne (x / 4 % 2)) (fact-is r h) ∙ gone-bit inside covered none
+    gone-is = ap (λ x. isOne (x / 4 % 2)) (fact-is r h) ∙ fact-gone inside covered none
 
   module _ (r : ℕ) (inside : r < rowCount m) where
     below : (o : ℕ) → o ≤ r → o < 128
@@ -158,7 +128,7 @@ module _ (m : List ℕ) where
       let g = kept .book .guarantees-few in
       rw properties-are (simp (length-take, length-drop) (omega arith))
 
-  property-is : Kept m → (i : ℕ) → i < assumeCount m + guaranteeCount m → propertyAt (bookOf m) i ≡ getD m (PROPERTIES + i) 0
+  pub property-is : Kept m → (i : ℕ) → i < assumeCount m + guaranteeCount m → propertyAt (bookOf m) i ≡ getD m (PROPERTIES + i) 0
   property-is kept i h =
       let long = properties-length kept in
       any-default (properties (bookOf m)) i (length (bookOf m .rows)) 0 (omega arith)

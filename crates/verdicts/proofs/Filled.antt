@@ -1,12 +1,14 @@
 -- Elements of a list, and a list that a loop fills from the front. Assumes nothing.
 use Prim.Native.Nat.{ℕ, zero, suc, _+_, _≤_, _<_}
 use native.Mathlib.Omega.{arith}
+use native.Mathlib.Numerals.{add-one}
 use native.Mathlib.Decide.{decLt, ℕ-discrete}
 use mathlib.Core.Path.{_≡_, refl, sym, ap, _∙_}
 use mathlib.Core.List.{List, [], _∷_, _++_, append-assoc}
 use lib.ListN.{length, getD, set, drop, replicate, length-set, length-replicate, getD-replicate, List·getD-eq-default}
 use lib.Seq.{ext-getD, getD-set-same, getD-set-other, drop-cons, set-at}
 use Rattle.rows.specs.Memory.{listed}
+use Rattle.verdicts.specs.Steps.{steps}
 use Rattle.rows.proofs.Listed.{listed-length, listed-at}
 
 -- an element that is there does not need a default
@@ -59,17 +61,25 @@ module _ {A : Type 0} (f : ℕ → A) (d : A) (n : ℕ) where
 
 -- ---- the same as stores into a list that was there before
 module _ {A : Type 0} (f : ℕ → A) (xs : List A) where
-  -- after i of them
-  abbrev pub steps : ℕ → List A
-  steps zero = xs
-  steps (suc i) = set (steps i) i (f i)
-
-  pub steps-length : (i : ℕ) → length (steps i) ≡ length xs
+  pub steps-length : (i : ℕ) → length (steps f xs i) ≡ length xs
   steps-length zero = refl
-  steps-length (suc i) = length-set (steps i) i (f i) ∙ steps-length i
+  steps-length (suc i) = length-set (steps f xs i) i (f i) ∙ steps-length i
+
+  -- one more
+  pub steps-more : {l : List A} {i : ℕ} {x : A} → l ≡ steps f xs i → x ≡ f i → set l i x ≡ steps f xs (i + 1)
+  steps-more {i = i} e ex = rw (e, ex, add-one)
+
+  -- those that are stored
+  pub steps-at : (d : A) (i k : ℕ) → k < i → i ≤ length xs → getD (steps f xs i) k d ≡ f k
+  steps-at d zero k h l = absurd (omega arith)
+  steps-at d (suc i) k h l = go (ℕ-discrete k i) (λ (h′ : k < i). steps-at d i k h′ (omega arith))
+    where
+      go : Dec (k ≡ i) → (k < i → getD (steps f xs i) k d ≡ f k) → getD (steps f xs (suc i)) k d ≡ f k
+      go (yes e) below = rw e (getD-set-same (steps f xs i) i (f i) d (let e′ = steps-length i in omega arith))
+      go (no e) below = getD-set-other (steps f xs i) i k (f i) d e ∙ below (omega arith)
 
   -- it is what f says, and then what was there
-  pub steps-is : (i : ℕ) → i ≤ length xs → steps i ≡ listed f i ++ drop i xs
+  pub steps-is : (i : ℕ) → i ≤ length xs → steps f xs i ≡ listed f i ++ drop i xs
   unfolding listed
   steps-is zero h = refl
   steps-is (suc i) h =

@@ -1,3 +1,4 @@
 pub mod Filled
 pub mod Read
 pub mod Bridge
+pub mod Boards

@@ -24,7 +24,7 @@ use Rattle.verdicts.specs.Steps.{factAbout, factAt, factsOf}
 -- ---- the sets of the state that a memory holds
 module _ (m : List ℕ) (kept : Kept m) where
   -- a temporal row's
-  owner-set : (j : ℕ) → j < temporals m → setAt (stateOf m) (ownerAt m j) ≡ runs (setWords m j)
+  pub owner-set : (j : ℕ) → j < temporals m → setAt (stateOf m) (ownerAt m j) ≡ runs (setWords m j)
   unfolding stateOf setOf
   owner-set j h =
       listed-at (setOf m) [] (rowCount m) (ownerAt m j) (kept .book .owned j h)

@@ -1,9 +1,9 @@
 -- Private steps of the answers: what is read off a memory once, before any row is asked. The public contracts cite one of these, `atomsOf`. Definitions only.
-use Prim.Native.Nat.{ℕ, _+_, _≤_, _<_}
+use Prim.Native.Nat.{ℕ, zero, suc, _+_, _≤_, _<_}
 use mathlib.Core.Path.{_≡_}
 use mathlib.Core.Bool.{false}
 use mathlib.Core.List.{List}
-use lib.ListN.{getD}
+use lib.ListN.{getD, set}
 use Rattle.numset.specs.Runs.{Runs, has, covers}
 use Rattle.pmtl.specs.Monitor.{setAt}
 use Rattle.pmtl.specs.Sets.{gone}
@@ -37,6 +37,11 @@ pub record Seen (m atoms facts : List ℕ) : Type 0 where
   pub kept : Kept m
   pub atoms-are : atoms ≡ atomsOf m
   pub facts-are : facts ≡ factsOf m
+
+-- xs with its first elements as f says, so many of them
+abbrev pub steps : {A : Type 0} → (ℕ → A) → List A → ℕ → List A
+steps f xs zero = xs
+steps f xs (suc i) = set (steps f xs i) i (f i)
 
 -- bytes that say rightly, of each row with a set, whether it contains the clock
 pub record Here (m here : List ℕ) : Type 0 where

@@ -1,4 +1,6 @@
 // What a loaded monitor answers of its properties.
+mod board;
+
 ghost use mathlib.Core.Path.{_≡_};
 ghost use Prim.Native.Nat.{ℕ, _+_, _<_};
 ghost use mathlib.Core.Bool.{cond};
@@ -10,6 +12,9 @@ ghost use Rattle.rows.specs.Facts.{settledOf};
 ghost use Rattle.book.specs.Kept.{Kept};
 ghost use Rattle.verdicts.specs.Verdict.{verdictOf, propertiesIn, answersNumber, answersList};
 ghost use Rattle.verdicts.specs.Steps.{absent, blank, Answered, factAbout, factsOf, atomsOf, Seen};
+pub use board::ask;
+pub use board::renew;
+pub use board::values;
 use pmtl::Answer;
 use rows::MOST_ATOMS;
 use rows::SIZE;
@@ -93,7 +98,7 @@ pub fn read_atoms(monitor: &[u64; SIZE]) -> [u8; MOST_ATOMS]
 }
 
 // How many properties the book has.
-fn property_count(monitor: &[u64; SIZE]) -> usize
+pub fn property_count(monitor: &[u64; SIZE]) -> usize
     requires { ⌜ BookKept (now monitor) ⌝ }
     ensures { λ r. ⌜ r ≡ assumeCount (now (monitor .entry)) + guaranteeCount (now (monitor .entry)) ⌝ }
 {

@@ -55,10 +55,10 @@ use denote.Exit.{yes}
 use Rattle.rows.specs.Memory.{SIZE}
 use Rattle.book.specs.Kept.{Kept}
 use Rattle.verdicts.specs.Verdict.{verdictOf, answersNumber, answersList}
-use Rattle.verdicts.specs.Steps.{blank, Answered}
+use Rattle.verdicts.specs.Steps.{steps, blank, Answered}
 use Rattle.verdicts.specs.declared.Verdict.{Verdict}
 use Rattle.verdicts.specs.declared.Filling.{Filling}
-use Rattle.verdicts.proofs.Filled.{steps, steps-length}
+use Rattle.verdicts.proofs.Filled.{steps-length}
 use Rattle.verdicts.proofs.Bridge.{answered-room, answered-few, answered-at, answered-all}
 use Rattle.verdicts.proofs.Verdict as T
 use Rattle.verdicts.proofs.Verdict.Laws as T′
