@@ -1,6 +1,6 @@
 -- A planned call carried out: the memory that it leaves holds the definitions' next state, and is kept. Assumes nothing.
 use Prim.Native.Nat.{ℕ, _+_, _^_, _≤_, _<_}
-use mathlib.Core.Path.{_≡_, refl, sym, ap, ap₂, _∙_}
+use mathlib.Core.Path.{_≡_, refl, sym, ap, ap₂, subst, _∙_}
 use mathlib.Core.Logic.{⊎-elim}
 use mathlib.Core.Bool.{Bool, true, false}
 use mathlib.Core.List.{List, [], _∷_, map}
@@ -19,6 +19,7 @@ use Rattle.pmtl.proofs.Steps.{step-sets, step-now, step-begun}
 use Rattle.rows.specs.Memory.{ATOMS, OWNERS, SET, widthWord, temporals, rowCount, kindAt, slotAt, ownerAt, setStart, setWords, listed, rowsOf, setOf, stateOf, isOne}
 use Rattle.rows.proofs.Kept.{rows-length}
 use Rattle.rows.proofs.Listed.{listed-length, listed-at}
+use Rattle.verdicts.specs.Steps.{Here}
 use Rattle.store.proofs.Parts.{part-same}
 use Rattle.store.proofs.Steps.{Stepped, kept-step, step-book, kind-same, slot-same, width-same}
 use Rattle.change.proofs.Changes.{changed-under}
@@ -40,7 +41,11 @@ stop-fits g c h b =
 state-is : (st : State) {begun : Bool} {now : Snap} {sets : List Runs} → st .begun ≡ begun → st .now ≡ now → st .sets ≡ sets → record { begun = begun; now = now; sets = sets } ≡ st
 state-is st e f g = λ i. record { begun = sym e i; now = sym f i; sets = sym g i }
 
-module _ {m : List ℕ} {c : ℕ} {atoms modes : List ℕ} (timely : Timely m c) (planned : Planned m c atoms true modes) where
+-- a plan, where it is known whether there is room
+pub planned-as : {m : List ℕ} {c : ℕ} {atoms here modes : List ℕ} {room room′ : Bool} → room ≡ room′ → Planned m c atoms here room modes → Planned m c atoms here room′ modes
+planned-as {m} {c} {atoms} {here} {modes} e p = subst (λ (b : Bool). Planned m c atoms here b modes) e p
+
+module _ {m : List ℕ} {c : ℕ} {atoms here modes : List ℕ} (timely : Timely m c) (planned : Planned m c atoms here true modes) where
   roomy : crowded (stepOf m c atoms) ≡ false
   roomy = planned .fits
 
@@ -159,7 +164,18 @@ module _ {m : List ℕ} {c : ℕ} {atoms modes : List ℕ} (timely : Timely m c)
           kept = kept-step m m₂ (timely .kept) stepped;
         }
 
-pub unmoved : {m : List ℕ} {c : ℕ} {atoms modes : List ℕ} → Timely m c → Planned m c atoms false modes → Advanced m (snapOf c atoms (widthWord m) ∷ []) m 11
+    -- and what was planned of the sets is so of those that it holds
+    pub here-after : Here m₂ here
+    here-after =
+        let same-count : temporals m₂ ≡ temporals m = stepped .book-same 4 (omega arith) (omega arith) in
+        record {
+          right = λ j lt.
+              let l : j < temporals m = omega arith in
+              let o : ownerAt m₂ j ≡ ownerAt m j = stepped .owners-same j (let f = few in omega arith) in
+              rw (o, state-after, h .clock) (planned .here-right refl j l);
+        }
+
+pub unmoved : {m : List ℕ} {c : ℕ} {atoms here modes : List ℕ} → Timely m c → Planned m c atoms here false modes → Advanced m (snapOf c atoms (widthWord m) ∷ []) m 11
 unfolding play
 unmoved timely planned =
     let e = planned .fits in

@@ -53,7 +53,6 @@ here-bit false = refl
 
 -- how far planning has gone: the slots below n have their modes and room, and the facts are right for their owners
 pub record Going (m : List ℕ) (c : ℕ) (atoms facts modes : List ℕ) (n : ℕ) : Type 0 where
-  pub facts-long : length facts ≡ 128
   pub modes-long : length modes ≡ 32
   pub right : (j : ℕ) → j < n → hereIn facts (ownerAt m j) ≡ has (setAt (stepOf m c atoms) (ownerAt m j)) c
   pub sets : (j : ℕ) → j < n → setAfter m c (getD modes j 0) j ≡ setAt (stepOf m c atoms) (ownerAt m j)
@@ -146,19 +145,17 @@ module _ (m : List ℕ) (kept : BookKept m) (c : ℕ) (atoms : List ℕ) where
       room-is : {b : Bool} → p .room ≡ b → fits SET (setAt (stepOf m c atoms) (ownerAt m n)) ≡ b
       room-is e = sym (ap (fits SET) set-right) ∙ sym (ap (λ (x : RowPlan). x .room) plan-is) ∙ e
 
-      pub going-more : p .room ≡ true → Going m c atoms (set facts row (p .here)) (set modes n (p .mode)) (n + 1)
-      going-more e =
+      pub going-more : length facts ≡ 128 → p .room ≡ true → {facts′ : List ℕ} → facts′ ≡ set facts row (p .here) → Going m c atoms facts′ (set modes n (p .mode)) (n + 1)
+      going-more long e told =
           let r : ℕ = ownerAt m n in
-          let fl = g .facts-long in
           let ml = g .modes-long in
           let few = kept .temporal-few in
           let lr : r < 128 = omega (arith, kept .owned n h, kept .few) in
           let em : setAfter m c (p .mode) n ≡ setAt (stepOf m c atoms) r = ap (λ (x : RowPlan). setAfter m c (x .mode) n) plan-is ∙ set-right in
           let eh : isOne (p .here % 2) ≡ has (setAt (stepOf m c atoms) r) c =
           ap (λ (x : RowPlan). isOne (x .here % 2)) plan-is ∙ here-bit _ ∙ ap (λ (s : Runs). has s c) set-right in
-          rw er
+          rw (told, er)
           (record {
-            facts-long = length-set facts r (p .here) ∙ fl;
             modes-long = length-set modes n (p .mode) ∙ ml;
             right = λ j lt.
                 ⊎-elim
@@ -170,16 +167,16 @@ module _ (m : List ℕ) (kept : BookKept m) (c : ℕ) (atoms : List ℕ) where
             room = λ j lt. ⊎-elim (λ (z : j < n). g .room j z) (λ (z : n ≤ j). let d : j ≡ n = omega arith in rw d (room-is e)) (lt-or-ge j n);
           })
 
-      pub going-full : {ms : List ℕ} → p .room ≡ false → Planned m c atoms false ms
-      going-full e = record { fits = no-room n h (room-is e); sets = λ z. absurd (true≢false (sym z)) }
+      pub going-full : {here ms : List ℕ} → p .room ≡ false → Planned m c atoms here false ms
+      going-full e = record { fits = no-room n h (room-is e); sets = λ z. absurd (true≢false (sym z)); here-right = λ z. absurd (true≢false (sym z)) }
 
-  pub going-done : {facts modes : List ℕ} {n : ℕ} → Going m c atoms facts modes n → temporals m ≤ n → Planned m c atoms true modes
-  going-done g l = record { fits = all-room (λ j lt. g .room j (omega arith)); sets = λ z j lt. g .sets j (omega arith) }
+  pub going-done : {facts modes : List ℕ} {n : ℕ} → Going m c atoms facts modes n → temporals m ≤ n → Planned m c atoms facts true modes
+  going-done g l = record { fits = all-room (λ j lt. g .room j (omega arith)); sets = λ z j lt. g .sets j (omega arith); here-right = λ z j lt. g .right j (omega arith) }
 
-  pub going-start : Going m c atoms (replicate 128 0) (replicate 32 0) 0
+  -- whatever stood in the facts
+  pub going-start : {facts : List ℕ} → Going m c atoms facts (replicate 32 0) 0
   going-start =
       record {
-        facts-long = length-replicate {A = ℕ} 128 0;
         modes-long = length-replicate {A = ℕ} 32 0;
         right = λ j lt. absurd (omega arith);
         sets = λ j lt. absurd (omega arith);

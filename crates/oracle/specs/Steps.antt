@@ -11,7 +11,7 @@ use Rattle.pmtl.specs.Answer.{bitOf}
 use Rattle.pmtl.specs.Monitor.{Snap, State, setAt, step}
 use Rattle.pmtl.specs.Calls.{crowded, play}
 use Rattle.rows.specs.Memory.{ATOMS, SETS, SET, SIZE, begunWord, clockOf, widthWord, temporals, lowerAt, upperAt, ownerAt, setWords, rowOf, rowsOf, bookOf, stateOf, isOne}
-use Rattle.rows.specs.Facts.{outputOf}
+use Rattle.rows.specs.Facts.{hereIn, outputOf}
 use Rattle.book.specs.Kept.{Kept}
 use Rattle.change.specs.Change.{changed, modeIn}
 use Rattle.oracle.specs.declared.calls.RowPlan.{RowPlan}
@@ -52,10 +52,11 @@ rowPlan m c mode j = record {
   room = fits SET (setAfter m c mode j);
 }
 
--- the plan of a call: whether every set has room, and if so the modes
-pub record Planned (m : List ℕ) (c : ℕ) (atoms : List ℕ) (room : Bool) (modes : List ℕ) : Type 0 where
+-- the plan of a call: whether every set has room, and if so the modes, and of each set whether it will contain the clock
+pub record Planned (m : List ℕ) (c : ℕ) (atoms here : List ℕ) (room : Bool) (modes : List ℕ) : Type 0 where
   pub fits : crowded (stepOf m c atoms) ≡ not room
   pub sets : room ≡ true → (j : ℕ) → j < temporals m → setAfter m c (getD modes j 0) j ≡ setAt (stepOf m c atoms) (ownerAt m j)
+  pub here-right : room ≡ true → (j : ℕ) → j < temporals m → hereIn here (ownerAt m j) ≡ has (setAt (stepOf m c atoms) (ownerAt m j)) c
 
 -- m′ is m with the sets of the slots below n as f says
 pub record Written (m : List ℕ) (f : ℕ → Runs) (n : ℕ) (m′ : List ℕ) : Type 0 where

@@ -3,7 +3,7 @@ ghost use mathlib.Core.Path.{_≡_};
 ghost use mathlib.Core.Bool.{true};
 ghost use mathlib.Core.List.{[], _∷_};
 ghost use Prim.Native.Nat.{_+_, _*_, _≤_, _<_};
-ghost use lib.ListN.{length, getD};
+ghost use lib.ListN.{length, getD, set};
 ghost use lib.Dec.{ltb};
 ghost use borrow.Rule.Slice.PartMut.{putMid};
 ghost use Rattle.numset.specs.Runs.{pack, runs};
@@ -11,6 +11,7 @@ ghost use Rattle.pmtl.specs.Book.{start, stop, some};
 ghost use Rattle.pmtl.specs.Calls.{Call};
 ghost use Rattle.rows.specs.Memory.{SET, SIZE, rowCount, widthWord, temporals, kindAt, setStart, setWords, BookKept};
 ghost use Rattle.book.specs.Kept.{Kept};
+ghost use Rattle.verdicts.specs.Steps.{Here};
 ghost use Rattle.change.specs.Change.{changed};
 ghost use Rattle.oracle.specs.Steps.{firstBytes, Bytes, snapOf, rangeAt, modeAt, setAfter, rowPlan, Bounded, Slot, Planned, Timely, Roomy, Fit, Fitting, Written, Headed, Advanced};
 ghost use Rattle.oracle.specs.Oracle.{Called};
@@ -125,22 +126,35 @@ fn plan_row<'a>(
     }
 }
 
-// The plan of a call, from the lowest temporal row upward, up to the first whose set lacks room.
-fn plan_call<'a>(monitor: &'a [u64; SIZE], clock: u64, atoms: &'a [u8; MOST_ATOMS]) -> Plan
+// Says of a row whether its set will contain the clock. The bytes come as a slice, since nothing says the length of a lent array.
+fn tell(here: &mut [u8], row: usize, fact: u8)
+    requires { ⌜ row < length (now here) ⌝ }
+    ensures { λ _. ⌜ now (here .exit) ≡ set (now (here .entry)) row fact ⌝ }
+{
+    here[row] = fact;
+}
+
+// The plan of a call, from the lowest temporal row upward, up to the first whose set lacks room. Of the rows planned, `here` then
+// says whether their sets will contain the clock; of the others it is never asked.
+fn plan_call<'a>(
+    monitor: &'a [u64; SIZE],
+    clock: u64,
+    atoms: &'a [u8; MOST_ATOMS],
+    here: &mut [u8; MOST_ROWS],
+) -> Plan
     requires { ⌜ Timely (now monitor) clock ⌝ }
-    ensures { λ r. ⌜ Planned (now (monitor .entry)) clock (now (atoms .entry)) (r .room) (r .modes) ⌝ }
+    ensures { λ r. ⌜ Planned (now (monitor .entry)) clock (now (atoms .entry)) (now (here .exit)) (r .room) (r .modes) ⌝ }
 {
     let count = rows::temporal_count(monitor);
-    let mut facts = [0u8; MOST_ROWS];
     let mut modes = [0u8; MOST_TEMPORALS];
     let mut slot = 0;
     while slot < count {
         let row = rows::owner_at(monitor, slot);
-        let planned = plan_row(monitor, clock, atoms, &facts, slot, row);
+        let planned = plan_row(monitor, clock, atoms, here, slot, row);
         let room = planned.room;
         if room {
             modes[slot] = planned.mode;
-            facts[row] = planned.here;
+            tell(here, row, planned.here);
             slot += 1;
         } else {
             return Plan { room: false, modes };
@@ -208,12 +222,17 @@ fn put_head(monitor: &mut [u64; SIZE], clock: u64, atoms: &[u8; MOST_ATOMS])
 }
 
 // A call at a clock and atoms: planned, and then carried out. Where a set lacks room, nothing is.
-fn advance(monitor: &mut [u64; SIZE], clock: u64, atoms: &[u8; MOST_ATOMS]) -> u64
+fn advance(
+    monitor: &mut [u64; SIZE],
+    clock: u64,
+    atoms: &[u8; MOST_ATOMS],
+    here: &mut [u8; MOST_ROWS],
+) -> u64
     requires { ⌜ Timely (now monitor) clock ⌝ }
     requires { ⌜ Bytes (now atoms) (widthWord (now monitor)) ⌝ }
-    ensures { λ r. ⌜ Advanced (now (monitor .entry)) (snapOf clock (now (atoms .entry)) (widthWord (now (monitor .entry))) ∷ []) (now (monitor .exit)) r ⌝ }
+    ensures { λ r. ⌜ Advanced (now (monitor .entry)) (snapOf clock (now (atoms .entry)) (widthWord (now (monitor .entry))) ∷ []) (now (monitor .exit)) r × (r ≡ 0 → Here (now (monitor .exit)) (now (here .exit))) ⌝ }
 {
-    let plan = plan_call(monitor, clock, atoms);
+    let plan = plan_call(monitor, clock, atoms, here);
     let room = plan.room;
     if room {
         let modes = plan.modes;
@@ -253,9 +272,9 @@ fn has_other(state: &[u8]) -> bool
 }
 
 // The clock becomes `time`.
-pub fn time_call(monitor: &mut [u64; SIZE], time: u64) -> u64
+pub fn time_call(monitor: &mut [u64; SIZE], time: u64, here: &mut [u8; MOST_ROWS]) -> u64
     requires { ⌜ Kept (now monitor) ⌝ }
-    ensures { λ r. ⌜ Called (Call.time time) (now (monitor .entry)) (now (monitor .exit)) r ⌝ }
+    ensures { λ r. ⌜ Called (Call.time time) (now (monitor .entry)) (now (monitor .exit)) r × (r ≡ 0 → Here (now (monitor .exit)) (now (here .exit))) ⌝ }
 {
     if time < rows::clock(monitor) {
         return TOO_EARLY;
@@ -264,13 +283,13 @@ pub fn time_call(monitor: &mut [u64; SIZE], time: u64) -> u64
         return TOO_LATE;
     }
     let atoms = verdicts::read_atoms(monitor);
-    advance(monitor, time, &atoms)
+    advance(monitor, time, &atoms, here)
 }
 
 // The atoms become the bytes of `state`.
-pub fn state_call(monitor: &mut [u64; SIZE], state: &[u8]) -> u64
+pub fn state_call(monitor: &mut [u64; SIZE], state: &[u8], here: &mut [u8; MOST_ROWS]) -> u64
     requires { ⌜ Kept (now monitor) ⌝ }
-    ensures { λ r. ⌜ Called (Call.state (now (state .entry))) (now (monitor .entry)) (now (monitor .exit)) r ⌝ }
+    ensures { λ r. ⌜ Called (Call.state (now (state .entry))) (now (monitor .entry)) (now (monitor .exit)) r × (r ≡ 0 → Here (now (monitor .exit)) (now (here .exit))) ⌝ }
 {
     if MOST_ATOMS < state.len() {
         return TOO_WIDE;
@@ -284,5 +303,5 @@ pub fn state_call(monitor: &mut [u64; SIZE], state: &[u8]) -> u64
     }
     let atoms = new_atoms(state, count);
     let clock = rows::clock(monitor);
-    advance(monitor, clock, &atoms)
+    advance(monitor, clock, &atoms, here)
 }

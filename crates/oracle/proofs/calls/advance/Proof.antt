@@ -1,8 +1,5 @@
 -- `oracle::calls::advance` meets its contract: the sets have room and are changed, or nothing is. Assumes nothing.
-use Rattle.oracle.proofs.Advances.{fitting, advanced, unmoved}
-use Rattle.oracle.specs.Steps.{Planned}
-use mathlib.Core.Bool.{Bool}
-use mathlib.Core.Path.{subst}
+use Rattle.oracle.proofs.Advances.{planned-as, fitting, advanced, here-after, unmoved}
 use native.Mathlib.Omega.{arith}
 use borrow.Author.Needs.{needs}
 use Rattle.oracle.proofs.calls.advance.Statement.{statement}
@@ -12,16 +9,16 @@ plan-call-requires : tie.Need-plan-call-requires
 plan-call-requires c κs = search needs
 
 commit-requires : tie.Need-commit-requires
-commit-requires c κs = let s = c .before .before .before .before .before .before in let f = c .before .before .before .before .plan-call in let p = subst (λ (b : Bool). Planned (s .args .monitor .now) (s .args .clock) (s .args .atoms .now) b (f .result .modes)) (c .before .before .before .if1 .taken) (f .ensures) in fitting (s .pre .0) p
+commit-requires c κs = fitting (c .before .before .before .before .before .before .before .pre .0) (planned-as (c .before .before .before .if1 .taken) (c .before .before .before .before .plan-call .ensures))
 
 put-head-requires : tie.Need-put-head-requires
-put-head-requires c κs = let s = c .before .before .before .before .before .before .before .before in let w = c .before .commit .ensures in (w .long, s .pre .1 .long, (let e = w .below 3 (omega arith) in let n = s .pre .0 .kept .book .narrow in omega arith))
+put-head-requires c κs = let s = c .before .before .before .before .before .before .before .before .before in let w = c .before .commit .ensures in (w .long, s .pre .1 .long, (let e = w .below 3 (omega arith) in let n = s .pre .0 .kept .book .narrow in omega arith))
 
 returns : tie.Need-returns
-returns c = let s = c .before .before .before .before .before .before .before .before .before in let f = c .before .before .before .before .before .before .before .plan-call in let p = subst (λ (b : Bool). Planned (s .args .monitor .now) (s .args .clock) (s .args .atoms .now) b (f .result .modes)) (c .before .before .before .before .before .before .if1 .taken) (f .ensures) in advanced (s .pre .0) p (s .pre .1) (c .before .before .commit .ensures) (c .put-head .ensures)
+returns c = let s = c .before .before .before .before .before .before .before .before .before .before in let p = planned-as (c .before .before .before .before .before .before .if1 .taken) (c .before .before .before .before .before .before .before .plan-call .ensures) in let w = c .before .before .commit .ensures in let h = c .put-head .ensures in (advanced (s .pre .0) p (s .pre .1) w h, λ e. here-after (s .pre .0) p (s .pre .1) w h)
 
 returns-2 : tie.Need-returns-2
-returns-2 c = let s = c .before .before .before in let f = c .before .plan-call in let p = subst (λ (b : Bool). Planned (s .args .monitor .now) (s .args .clock) (s .args .atoms .now) b (f .result .modes)) (c .if1 .left) (f .ensures) in unmoved (s .pre .0) p
+returns-2 c = (unmoved (c .before .before .before .before .pre .0) (planned-as (c .if1 .left) (c .before .plan-call .ensures)), λ e. absurd (omega arith))
 
 pub advance-spec : {M : Type 1} → statement M
 advance-spec =

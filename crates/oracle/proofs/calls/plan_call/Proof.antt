@@ -8,10 +8,10 @@ use Rattle.oracle.proofs.calls.plan_call.Statement.{statement}
 use Rattle.oracle.proofs.calls.plan_call.Tie as tie
 
 abbrev Inv-loop : tie.InvT-loop
-Inv-loop monitor clock atoms count facts₀ modes₀ slot₀ facts modes slot = (slot ≤ count) × (count ≡ temporals monitor) × Going monitor clock atoms facts modes slot
+Inv-loop monitor clock atoms here₀ count modes₀ slot₀ here modes slot = (slot ≤ count) × (count ≡ temporals monitor) × Going monitor clock atoms here modes slot
 
 abbrev μ-loop : tie.MeasureT-loop
-μ-loop monitor clock atoms count facts₀ modes₀ slot₀ facts modes slot = count - slot
+μ-loop monitor clock atoms here₀ count modes₀ slot₀ here modes slot = count - slot
 
 temporal-count-requires : tie.Need-temporal-count-requires Inv-loop μ-loop
 temporal-count-requires c κs = c .pre .kept .book .long
@@ -28,17 +28,17 @@ plan-row-requires c κs = let s = c .before .before .before .before .before in l
 array-write-modes : tie.Need-array-write-modes Inv-loop μ-loop
 array-write-modes c = let s = c .before .before .before .before .before .before .before in let l = c .before .before .before .before .before .loop in let e = l .inv .1 in let f = s .pre .kept .book .temporal-few in omega arith
 
-array-write-facts : tie.Need-array-write-facts Inv-loop μ-loop
-array-write-facts c = let s = c .before .before .before .before .before .before .before in let l = c .before .before .before .before .before .loop in let e = l .inv .1 in let b = s .pre .kept .book in let o = b .owned (l .slot) (omega arith) in let f = b .few in let we = c .before .before .before .owner-at .ensures in omega arith
+tell-requires : tie.Need-tell-requires Inv-loop μ-loop
+tell-requires c κs = let s = c .before .before .before .before .before .before .before .before in let l = c .before .before .before .before .before .before .loop in let e = l .inv .1 in let b = s .pre .kept .book in let o = b .owned (l .slot) (omega arith) in let f = b .few in let we = c .before .before .before .before .owner-at .ensures in let long = c .tell-arg .given .0 .1 in omega arith
 
 add-slot : tie.Need-add-slot Inv-loop μ-loop
-add-slot c = let s = c .before .before .before .before .before .before .before in let l = c .before .before .before .before .before .loop in let e = l .inv .1 in let f = s .pre .kept .book .temporal-few in omega arith
+add-slot c = let s = c .before .before .before .before .before .before .before .before .before in let l = c .before .before .before .before .before .before .before .loop in let e = l .inv .1 in let f = s .pre .kept .book .temporal-few in omega arith
 
 loop-less : tie.Need-loop-less Inv-loop μ-loop
 loop-less c = omega arith
 
 loop-again : tie.Need-loop-again Inv-loop μ-loop
-loop-again c = let s = c .before .before .before .before .before .before .before in let l = c .before .before .before .before .before .loop in (omega arith, l .inv .1, going-more (s .args .monitor .now) (s .pre .kept .book) (s .args .clock) (s .args .atoms .now) (l .inv .2) (let e = l .inv .1 in omega arith) (c .before .before .before .owner-at .ensures) (c .before .plan-row .ensures) (c .if1 .taken))
+loop-again c = let s = c .before .before .before .before .before .before .before .before .before in let l = c .before .before .before .before .before .before .before .loop in (omega arith, l .inv .1, going-more (s .args .monitor .now) (s .pre .kept .book) (s .args .clock) (s .args .atoms .now) (l .inv .2) (let e = l .inv .1 in omega arith) (c .before .before .before .before .before .owner-at .ensures) (c .before .before .before .plan-row .ensures) (c .before .tell-arg .given .0 .1) (c .before .before .if1 .taken) (c .tell .ensures))
 
 returns : tie.Need-returns Inv-loop μ-loop
 returns c = let s = c .before .before .before .before .before .before .before in let l = c .before .before .before .before .before .loop in going-full (s .args .monitor .now) (s .pre .kept .book) (s .args .clock) (s .args .atoms .now) (l .inv .2) (let e = l .inv .1 in omega arith) (c .before .before .before .owner-at .ensures) (c .before .plan-row .ensures) (c .if1 .left)
@@ -57,7 +57,7 @@ plan-call-spec =
     owner-at-requires
     plan-row-requires
     array-write-modes
-    array-write-facts
+    tell-requires
     add-slot
     loop-less
     loop-again

@@ -1,23 +1,24 @@
 -- `oracle::calls::state_call` meets its contract: refused for itself, or played. Assumes nothing.
 use Rattle.oracle.proofs.Public.{state-wide, state-short, state-other, new-narrow, new-bytes, state-timely, state-played}
+use native.Mathlib.Omega.{arith}
 use borrow.Author.Needs.{needs}
 use Rattle.oracle.proofs.calls.state_call.Statement.{statement}
 use Rattle.oracle.proofs.calls.state_call.Tie as tie
 
 returns : tie.Need-returns
-returns c = let s = c .before .before in state-wide (s .pre) (s .args .state .now) (c .if1 .taken)
+returns c = let s = c .before .before in (state-wide (s .pre) (s .args .state .now) (c .if1 .taken), λ e. absurd (omega arith))
 
 width-requires : tie.Need-width-requires
 width-requires c κs = search needs
 
 returns-2 : tie.Need-returns-2
-returns-2 c = let s = c .before .before .before .before .before in state-short (s .pre) (s .args .state .now) (c .before .before .before .if1 .left) (c .before .width .ensures) (c .if2 .taken)
+returns-2 c = let s = c .before .before .before .before .before in (state-short (s .pre) (s .args .state .now) (c .before .before .before .if1 .left) (c .before .width .ensures) (c .if2 .taken), λ e. absurd (omega arith))
 
 has-other-requires : tie.Need-has-other-requires
 has-other-requires c κs = search needs
 
 returns-3 : tie.Need-returns-3
-returns-3 c = let s = c .before .before .before .before .before .before .before in state-other (s .pre) (s .args .state .now) (c .before .before .before .before .before .if1 .left) (c .before .before .before .width .ensures) (c .before .before .if2 .left) (c .before .has-other .ensures) (c .if3 .taken)
+returns-3 c = let s = c .before .before .before .before .before .before .before in (state-other (s .pre) (s .args .state .now) (c .before .before .before .before .before .if1 .left) (c .before .before .before .width .ensures) (c .before .before .if2 .left) (c .before .has-other .ensures) (c .if3 .taken), λ e. absurd (omega arith))
 
 new-atoms-requires : tie.Need-new-atoms-requires
 new-atoms-requires c κs = let s = c .before .before .before .before .before .before .before in (c .before .before .if2 .left, new-narrow (s .pre) (s .args .state .now) (c .before .before .before .before .before .if1 .left) (c .before .before .before .width .ensures) (c .before .before .if2 .left) (c .before .has-other .ensures))
@@ -26,10 +27,10 @@ clock-requires : tie.Need-clock-requires
 clock-requires c κs = search needs
 
 advance-requires : tie.Need-advance-requires
-advance-requires c κs = let s = c .before .before .before .before .before .before .before .before .before .before .before .before in (state-timely (s .pre) (s .args .state .now) (c .before .before .before .before .before .before .before .before .before .before .if1 .left) (c .before .before .before .before .before .before .before .before .width .ensures) (c .before .before .before .before .before .before .before .if2 .left) (c .before .before .before .before .before .before .has-other .ensures) (c .before .before .clock .ensures), new-bytes (s .pre) (s .args .state .now) (c .before .before .before .before .before .before .before .before .before .before .if1 .left) (c .before .before .before .before .before .before .before .before .width .ensures) (c .before .before .before .before .before .before .before .if2 .left) (c .before .before .before .before .before .before .has-other .ensures) (c .before .before .before .before .before .if3 .left) (c .before .before .before .before .new-atoms .ensures))
+advance-requires c κs = let s = c .before .before .before .before .before .before .before .before .before .before .before .before .before in (state-timely (s .pre) (s .args .state .now) (c .before .before .before .before .before .before .before .before .before .before .before .if1 .left) (c .before .before .before .before .before .before .before .before .before .width .ensures) (c .before .before .before .before .before .before .before .before .if2 .left) (c .before .before .before .before .before .before .before .has-other .ensures) (c .before .before .before .clock .ensures), new-bytes (s .pre) (s .args .state .now) (c .before .before .before .before .before .before .before .before .before .before .before .if1 .left) (c .before .before .before .before .before .before .before .before .before .width .ensures) (c .before .before .before .before .before .before .before .before .if2 .left) (c .before .before .before .before .before .before .before .has-other .ensures) (c .before .before .before .before .before .before .if3 .left) (c .before .before .before .before .before .new-atoms .ensures))
 
 returns-4 : tie.Need-returns-4
-returns-4 c = let s = c .before .before .before .before .before .before .before .before .before .before .before .before .before in state-played (s .pre) (s .args .state .now) (c .before .before .before .before .before .before .before .before .before .before .before .if1 .left) (c .before .before .before .before .before .before .before .before .before .width .ensures) (c .before .before .before .before .before .before .before .before .if2 .left) (c .before .before .before .before .before .before .before .has-other .ensures) (c .before .before .before .before .before .before .if3 .left) (c .before .before .before .clock .ensures) (c .before .before .before .before .before .new-atoms .ensures) (c .advance .ensures)
+returns-4 c = let s = c .before .before .before .before .before .before .before .before .before .before .before .before .before .before in let a = c .advance .ensures in (state-played (s .pre) (s .args .state .now) (c .before .before .before .before .before .before .before .before .before .before .before .before .if1 .left) (c .before .before .before .before .before .before .before .before .before .before .width .ensures) (c .before .before .before .before .before .before .before .before .before .if2 .left) (c .before .before .before .before .before .before .before .before .has-other .ensures) (c .before .before .before .before .before .before .before .if3 .left) (c .before .before .before .before .clock .ensures) (c .before .before .before .before .before .before .new-atoms .ensures) (a .0), a .1)
 
 pub state-call-spec : {M : Type 1} → statement M
 state-call-spec =

@@ -1,5 +1,6 @@
 -- `oracle::calls::time_call` meets its contract: refused for itself, or played. Assumes nothing.
 use Rattle.oracle.proofs.Public.{old-bytes, time-early, time-late, time-timely, time-played}
+use native.Mathlib.Omega.{arith}
 use borrow.Author.Needs.{needs}
 use Rattle.oracle.proofs.calls.time_call.Statement.{statement}
 use Rattle.oracle.proofs.calls.time_call.Tie as tie
@@ -8,19 +9,19 @@ clock-requires : tie.Need-clock-requires
 clock-requires c κs = search needs
 
 returns : tie.Need-returns
-returns c = time-early (c .before .before .before .pre) (c .before .clock .ensures) (c .if1 .taken)
+returns c = (time-early (c .before .before .before .pre) (c .before .clock .ensures) (c .if1 .taken), λ e. absurd (omega arith))
 
 returns-2 : tie.Need-returns-2
-returns-2 c = time-late (c .before .before .before .before .pre) (c .before .before .clock .ensures) (c .before .if1 .left) (c .if2 .taken)
+returns-2 c = (time-late (c .before .before .before .before .pre) (c .before .before .clock .ensures) (c .before .if1 .left) (c .if2 .taken), λ e. absurd (omega arith))
 
 read-atoms-requires : tie.Need-read-atoms-requires
 read-atoms-requires c κs = search needs
 
 advance-requires : tie.Need-advance-requires
-advance-requires c κs = let s = c .before .before .before .before .before .before .before .before in (time-timely (s .pre) (c .before .before .before .before .before .before .clock .ensures) (c .before .before .before .before .before .if1 .left) (c .before .before .before .before .if2 .left), rw (c .before .before .read-atoms .ensures) (old-bytes (s .pre)))
+advance-requires c κs = let s = c .before .before .before .before .before .before .before .before .before in (time-timely (s .pre) (c .before .before .before .before .before .before .before .clock .ensures) (c .before .before .before .before .before .before .if1 .left) (c .before .before .before .before .before .if2 .left), rw (c .before .before .before .read-atoms .ensures) (old-bytes (s .pre)))
 
 returns-3 : tie.Need-returns-3
-returns-3 c = let s = c .before .before .before .before .before .before .before .before .before in time-played (s .pre) (c .before .before .before .before .before .before .before .clock .ensures) (c .before .before .before .before .before .before .if1 .left) (c .before .before .before .before .before .if2 .left) (c .before .before .before .read-atoms .ensures) (c .advance .ensures)
+returns-3 c = let s = c .before .before .before .before .before .before .before .before .before .before in let a = c .advance .ensures in (time-played (s .pre) (c .before .before .before .before .before .before .before .before .clock .ensures) (c .before .before .before .before .before .before .before .if1 .left) (c .before .before .before .before .before .before .if2 .left) (c .before .before .before .before .read-atoms .ensures) (a .0), a .1)
 
 pub time-call-spec : {M : Type 1} → statement M
 time-call-spec =
