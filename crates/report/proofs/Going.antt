@@ -43,14 +43,14 @@ go-start input from count m out start k =
     record { low = omega arith; size = refl; kept = k; book = refl; on = refl; owed = rw e }
 
 module _ {input : List ℕ} {from count : ℕ} {m₀ out₀ : List ℕ} {start : ℕ} {m out : List ℕ} {at cursor done : ℕ} (g : Going input from count m₀ out₀ start m out at cursor done) where
-  abbrev Next : List ℕ → Turn → Type 0
-  Next m′ t = Turned input (supplyFrom input cursor .ending) (callFrom (supplyFrom input cursor .ending) (supplyFrom input cursor .words)) m m′ t
+  abbrev Next : List ℕ → List ℕ → Turn → Type 0
+  Next m′ here t = Turned input (supplyFrom input cursor .ending) (callFrom (supplyFrom input cursor .ending) (supplyFrom input cursor .words)) m m′ here t
 
-  pub go-called : (m′ : List ℕ) {t : Turn} {r next : ℕ} → Next m′ t → t ≡ Made r next → CallMade input (supplyFrom input cursor .ending) (callFrom (supplyFrom input cursor .ending) (supplyFrom input cursor .words)) m m′ r next
+  pub go-called : (m′ here : List ℕ) {t : Turn} {r next : ℕ} → Next m′ here t → t ≡ Made r next → CallMade input (supplyFrom input cursor .ending) (callFrom (supplyFrom input cursor .ending) (supplyFrom input cursor .words)) m m′ here r next
   unfolding Turned
-  go-called m′ k e = rw e at k
+  go-called m′ here k e = rw e at k
 
-  module _ {m′ : List ℕ} {r next : ℕ} (c : CallMade input (supplyFrom input cursor .ending) (callFrom (supplyFrom input cursor .ending) (supplyFrom input cursor .words)) m m′ r next) where
+  module _ {m′ here : List ℕ} {r next : ℕ} (c : CallMade input (supplyFrom input cursor .ending) (callFrom (supplyFrom input cursor .ending) (supplyFrom input cursor .words)) m m′ here r next) where
     made : call (bookOf m₀ .rows) (stateOf m) (c .what) ≡ record { number = r; state = stateOf m′ }
     made = rw (← g .book) (outcome-is (c .called .number) (c .called .state))
 
@@ -78,14 +78,14 @@ module _ {input : List ℕ} {from count : ℕ} {m₀ out₀ : List ℕ} {start :
   unfolding linesFrom orStop
   halt k e f = let a = rw (g .on) at e in rw (f, a)
 
-  go-refused : (m′ : List ℕ) {t : Turn} {n : ℕ} → Next m′ t → t ≡ Stopped n → callFrom (supplyFrom input cursor .ending) (supplyFrom input cursor .words) ≡ refused n
+  go-refused : (m′ here : List ℕ) {t : Turn} {n : ℕ} → Next m′ here t → t ≡ Stopped n → callFrom (supplyFrom input cursor .ending) (supplyFrom input cursor .words) ≡ refused n
   unfolding Turned
-  go-refused m′ k e = rw e at k
+  go-refused m′ here k e = rw e at k
 
-  pub go-stop : (m′ : List ℕ) {t : Turn} {h : Handed} {n k : ℕ} → Next m′ t → t ≡ Stopped n → done < count → h ≡ finish out at (stopLine k) → k ≡ n → h ≡ finish out₀ start (linesFrom (bookOf m₀) (supplyFrom input from .ending) count 0 (stateOf m₀) (supplyFrom input from .words))
-  go-stop m′ {n = n} c e l p f =
+  pub go-stop : (m′ here : List ℕ) {t : Turn} {h : Handed} {n k : ℕ} → Next m′ here t → t ≡ Stopped n → done < count → h ≡ finish out at (stopLine k) → k ≡ n → h ≡ finish out₀ start (linesFrom (bookOf m₀) (supplyFrom input from .ending) count 0 (stateOf m₀) (supplyFrom input from .words))
+  go-stop m′ here {n = n} c e l p f =
       p ∙ ap (λ (x : ℕ). finish out at (stopLine x)) f
-      ∙ sym (ap (finish out at) (halt (count - (done + 1)) (go-refused m′ c e) (omega arith))) ∙ g .owed
+      ∙ sym (ap (finish out at) (halt (count - (done + 1)) (go-refused m′ here c e) (omega arith))) ∙ g .owed
 
   none : count - done ≡ zero → linesFrom (bookOf m₀) (supplyFrom input from .ending) (count - done) done (stateOf m) (supplyFrom input cursor .words) ≡ lastLine (supplyFrom input from .ending) (supplyFrom input cursor .words)
   unfolding linesFrom

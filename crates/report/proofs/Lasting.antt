@@ -1,26 +1,30 @@
 -- Laws of a report's lines. Assumes nothing.
-use Prim.Native.Nat.{ℕ, _+_, _-_, _≤_, _<_}
-use mathlib.Core.Path.{_≡_, refl, ap, _∙_}
+use Prim.Native.Nat.{ℕ, zero, suc, _+_, _-_, _≤_, _<_}
+use mathlib.Core.Path.{_≡_, refl, sym, ap, subst, _∙_}
+use mathlib.Core.Bool.{Bool, true, false}
 use mathlib.Core.List.{List, [], _∷_, _++_, append-nil}
 use native.Mathlib.Omega.{arith}
 use native.Mathlib.Numerals.{add-one}
+use native.Mathlib.Decide.{ℕ-discrete}
+use lib.Dec.{lit≤}
 use lib.ListN.{length, getD, take, drop, length-append, length-take}
 use borrow.Author.Tests.{eq-eqb, ne-eqb}
 use Rattle.text.specs.Words.{space, lineFeed, badWord, nextWord, supplyFrom}
 use Rattle.text.specs.declared.words.Read.the-variants.{Word, Refused}
 use Rattle.text.specs.Decimals.{decimal}
 use Rattle.text.proofs.Supplies.{word, refused as ended}
-use Rattle.pmtl.specs.Book.{Book, properties}
-use Rattle.pmtl.specs.Monitor.{State}
-use Rattle.rows.specs.Memory.{PROPERTIES, assumeCount, guaranteeCount, bookOf, listed}
-use Rattle.rows.proofs.Listed.{listed-at}
+use Rattle.pmtl.specs.declared.Answer.{Answer}
+use Rattle.pmtl.specs.declared.Answer.the-variants.{False, True, Open}
+use Rattle.pmtl.specs.Answer.{bitOf, digitOf}
+use Rattle.pmtl.specs.Book.{properties}
+use Rattle.rows.specs.Memory.{PROPERTIES, assumeCount, guaranteeCount, bookOf, stateOf}
 use Rattle.book.specs.Kept.{Kept}
-use Rattle.verdicts.specs.declared.Verdict.{Verdict}
-use Rattle.verdicts.specs.Verdict.{verdictIn}
+use Rattle.verdicts.specs.Verdict.{verdictOf, propertiesIn}
 use Rattle.writer.specs.Buffer.{Handed}
 use Rattle.writer.specs.Finish.{finish, Wrote}
 use Rattle.writer.proofs.Writes.{and-then}
 use Rattle.report.specs.Report.{stopLine, endLine, verdictWord, verdictWords, callLine, lastLine}
+use Rattle.report.specs.Steps.{digitWord, digitWords, digitLine, Digits, Said}
 
 pub ending : {h : Handed} (out : List ℕ) (at : ℕ) {x y : List ℕ} → h ≡ finish out at x → x ≡ y → h ≡ finish out at y
 ending out at p e = p ∙ ap (finish out at) e
@@ -48,32 +52,68 @@ few-properties {m} k =
     omega (arith, length-append (take (assumeCount m) (drop PROPERTIES m)) (take (guaranteeCount m) (drop (PROPERTIES + assumeCount m) m)), k .book .assumes-few, k .book .guarantees-few)
 
 -- the words of the first i properties are written
-pub record Wording (b : Book) (st : State) (count : ℕ) (out₀ : List ℕ) (at : ℕ) (out : List ℕ) (p i : ℕ) : Type 0 where
+pub record Wording (values early settled : List ℕ) (count : ℕ) (out₀ : List ℕ) (at : ℕ) (out : List ℕ) (p i : ℕ) : Type 0 where
   pub low : i ≤ count
   pub size : length out ≡ length out₀
-  pub wrote : Wrote out₀ at (verdictWords b st i) out p
+  pub wrote : Wrote out₀ at (digitWords values early settled i) out p
 
-pub word-start : (b : Book) (st : State) (count : ℕ) (out : List ℕ) (at : ℕ) → Wording b st count out at out at 0
-unfolding verdictWords
-word-start b st count out at = record { low = omega arith; size = refl; wrote = record { same = λ rest. refl } }
+pub word-start : (values early settled : List ℕ) (count : ℕ) (out : List ℕ) (at : ℕ) → Wording values early settled count out at out at 0
+unfolding digitWords
+word-start values early settled count out at = record { low = omega arith; size = refl; wrote = record { same = λ rest. refl } }
 
-module _ {b : Book} {st : State} {count : ℕ} {out₀ : List ℕ} {at : ℕ} {out : List ℕ} {p i : ℕ} (g : Wording b st count out₀ at out p i) where
-  pub word-more : {out′ : List ℕ} {p′ : ℕ} → i < count → Wrote out p (verdictWord (verdictIn b st i)) out′ p′ → length out′ ≡ length out → Wording b st count out₀ at out′ p′ (i + 1)
-  unfolding verdictWords
+module _ {values early settled : List ℕ} {count : ℕ} {out₀ : List ℕ} {at : ℕ} {out : List ℕ} {p i : ℕ} (g : Wording values early settled count out₀ at out p i) where
+  pub word-more : {out′ : List ℕ} {p′ : ℕ} → i < count → Wrote out p (digitWord (getD values i 0) (getD early i 0) (getD settled i 0)) out′ p′ → length out′ ≡ length out
+      → Wording values early settled count out₀ at out′ p′ (i + 1)
+  unfolding digitWords
   word-more h w z = record { low = omega arith; size = z ∙ g .size; wrote = rw add-one (and-then (g .wrote) w) }
 
-  pub word-done : {n : ℕ} → count ≤ i → count ≡ n → Wrote out₀ at (verdictWords b st n) out p
-  word-done {n} h f = let e : n ≡ i = omega (arith, g .low) in rw e (g .wrote)
-
-pub listed-word : (f : ℕ → Verdict) (l : List Verdict) (i : ℕ) (none : Verdict) → l ≡ listed f 32 → i < 32 → verdictWord (getD l i none) ≡ verdictWord (f i)
-listed-word f l i none e h = rw (e, listed-at f none 32 i h)
+  pub word-done : count ≤ i → Wrote out₀ at (digitWords values early settled count) out p
+  word-done h = let e : count ≡ i = omega (arith, g .low) in rw e (g .wrote)
 
 -- ---- a call's line
-module _ (b : Book) (st : State) (i r : ℕ) {m m₁ : List ℕ} {at at₁ : ℕ} (numbers : Wrote m at (decimal i ++ space ∷ decimal r) m₁ at₁) where
-  pub line-accepted : {m₂ m₃ : List ℕ} {at₂ at₃ : ℕ} → r ≡ 0 → Wrote m₁ at₁ (verdictWords b st (length (properties b))) m₂ at₂ → Wrote m₂ at₂ (lineFeed ∷ []) m₃ at₃ → Wrote m at (callLine b i (record { number = r; state = st })) m₃ at₃
-  unfolding callLine
+module _ (i r : ℕ) (words : List ℕ) {m m₁ : List ℕ} {at at₁ : ℕ} (numbers : Wrote m at (decimal i ++ space ∷ decimal r) m₁ at₁) where
+  pub line-accepted : {m₂ m₃ : List ℕ} {at₂ at₃ : ℕ} → r ≡ 0 → Wrote m₁ at₁ words m₂ at₂ → Wrote m₂ at₂ (lineFeed ∷ []) m₃ at₃ → Wrote m at (digitLine i r words) m₃ at₃
+  unfolding digitLine
   line-accepted e p q = rw (eq-eqb r 0 e) (and-then (and-then numbers p) q)
 
-  pub line-refused : {m₂ : List ℕ} {at₂ : ℕ} → (r ≡ 0 → ⊥) → Wrote m₁ at₁ (lineFeed ∷ []) m₂ at₂ → Wrote m at (callLine b i (record { number = r; state = st })) m₂ at₂
-  unfolding callLine
+  pub line-refused : {m₂ : List ℕ} {at₂ : ℕ} → (r ≡ 0 → ⊥) → Wrote m₁ at₁ (lineFeed ∷ []) m₂ at₂ → Wrote m at (digitLine i r words) m₂ at₂
+  unfolding digitLine
   line-refused e q = rw (ne-eqb r 0 e, append-nil) (and-then numbers q)
+
+-- ---- the digits of the answers, and the line that 01 asks for
+digit-small : (a : Answer) → digitOf a ≤ 2
+digit-small False = lit≤ tt
+digit-small True = lit≤ tt
+digit-small Open = lit≤ tt
+
+bit-small : (b : Bool) → bitOf b ≤ 2
+bit-small true = lit≤ tt
+bit-small false = lit≤ tt
+
+module _ {m values early settled : List ℕ} (said : Said m values early settled) where
+  pub said-digits : Kept m → {n : ℕ} → n ≡ propertiesIn m → Digits n values early settled
+  said-digits kept e = record {
+    few = let n = few-properties kept in omega arith;
+    small = λ i h.
+        let l : i < propertiesIn m = omega arith in (
+          subst (λ x. x ≤ 2) (sym (said .values-are i l)) (bit-small (verdictOf m i .value)),
+          subst (λ x. x ≤ 2) (sym (said .early-are i l)) (digit-small (verdictOf m i .early)),
+          subst (λ x. x ≤ 2) (sym (said .settled-are i l)) (digit-small (verdictOf m i .settled)),
+        );
+  }
+
+  said-words : (n : ℕ) → n ≤ propertiesIn m → digitWords values early settled n ≡ verdictWords (bookOf m) (stateOf m) n
+  unfolding digitWords digitWord verdictWords verdictWord
+  said-words zero h = refl
+  said-words (suc i) h =
+      let l : i < propertiesIn m = omega arith in
+      rw (said-words i (omega arith), said .values-are i l, said .early-are i l, said .settled-are i l)
+
+pub line-said : (m values early settled : List ℕ) (i r : ℕ) {n : ℕ} → (r ≡ 0 → Said m values early settled) → n ≡ propertiesIn m
+    → digitLine i r (digitWords values early settled n) ≡ callLine (bookOf m) i (record { number = r; state = stateOf m })
+unfolding digitLine callLine
+line-said m values early settled i r {n} said e = go (ℕ-discrete r 0)
+  where
+    go : Dec (r ≡ 0) → digitLine i r (digitWords values early settled n) ≡ callLine (bookOf m) i (record { number = r; state = stateOf m })
+    go (yes z) = rw (eq-eqb r 0 z, e, said-words (said z) (propertiesIn m) (omega arith))
+    go (no z) = rw (ne-eqb r 0 z)

@@ -3,3 +3,4 @@ pub mod Lasting
 pub mod Turns
 pub mod Going
 pub mod Examples
+pub mod Saying

@@ -5,9 +5,11 @@ ghost use lib.ListN.{length, take};
 ghost use Rattle.text.specs.Words.{supplyFrom};
 ghost use Rattle.pmtl.specs.Calls.{Call};
 ghost use Rattle.book.specs.Kept.{Kept};
+ghost use Rattle.verdicts.specs.Steps.{Here};
 ghost use Rattle.oracle.specs.Oracle.{Called};
 ghost use Rattle.report.specs.Report.{timeFrom, stateFrom, callFrom};
 ghost use Rattle.report.specs.Steps.{turnNumber, Turned};
+use oracle::MOST_ROWS;
 use oracle::SIZE;
 use reader::Part;
 use text::Read;
@@ -38,50 +40,67 @@ pub fn turn_number(t: Turn) -> u64
     }
 }
 
-fn time_call(input: &[u8], at: usize, monitor: &mut [u64; SIZE]) -> Turn
+fn time_call(input: &[u8], at: usize, monitor: &mut [u64; SIZE], here: &mut [u8; MOST_ROWS]) -> Turn
     requires { ⌜ Kept (now monitor) ⌝ }
-    ensures { λ t. ⌜ Turned (now (input .entry)) (supplyFrom (now (input .entry)) at .ending) (timeFrom (supplyFrom (now (input .entry)) at .ending) (supplyFrom (now (input .entry)) at .words)) (now (monitor .entry)) (now (monitor .exit)) t ⌝ }
+    ensures { λ t. ⌜ Turned (now (input .entry)) (supplyFrom (now (input .entry)) at .ending) (timeFrom (supplyFrom (now (input .entry)) at .ending) (supplyFrom (now (input .entry)) at .words)) (now (monitor .entry)) (now (monitor .exit)) (now (here .exit)) t ⌝ }
 {
     let r = text::next_word(input, at);
     let Read::Word(time, next) = r else {
         return Turn::Stopped(reader::number_of(r));
     };
-    Turn::Made(oracle::update_time(monitor, time), next)
+    Turn::Made(oracle::update_time_here(monitor, time, here), next)
 }
 
 // A state call of the first `width` bytes.
-fn state_made(monitor: &mut [u64; SIZE], bytes: &[u8], width: usize) -> u64
+fn state_made(
+    monitor: &mut [u64; SIZE],
+    bytes: &[u8],
+    width: usize,
+    here: &mut [u8; MOST_ROWS],
+) -> u64
     requires { ⌜ Kept (now monitor) × (width ≤ length (now bytes)) ⌝ }
-    ensures { λ r. ⌜ Called (Call.state (take width (now (bytes .entry)))) (now (monitor .entry)) (now (monitor .exit)) r ⌝ }
+    ensures { λ r. ⌜ Called (Call.state (take width (now (bytes .entry)))) (now (monitor .entry)) (now (monitor .exit)) r × (r ≡ 0 → Here (now (monitor .exit)) (now (here .exit))) ⌝ }
 {
-    oracle::update_state(monitor, &bytes[..width])
+    oracle::update_state_here(monitor, &bytes[..width], here)
 }
 
-fn state_call(input: &[u8], at: usize, bytes: &mut [u8; WIDEST], monitor: &mut [u64; SIZE]) -> Turn
+fn state_call(
+    input: &[u8],
+    at: usize,
+    bytes: &mut [u8; WIDEST],
+    monitor: &mut [u64; SIZE],
+    here: &mut [u8; MOST_ROWS],
+) -> Turn
     requires { ⌜ Kept (now monitor) ⌝ }
-    ensures { λ t. ⌜ Turned (now (input .entry)) (supplyFrom (now (input .entry)) at .ending) (stateFrom (supplyFrom (now (input .entry)) at .ending) (supplyFrom (now (input .entry)) at .words)) (now (monitor .entry)) (now (monitor .exit)) t ⌝ }
+    ensures { λ t. ⌜ Turned (now (input .entry)) (supplyFrom (now (input .entry)) at .ending) (stateFrom (supplyFrom (now (input .entry)) at .ending) (supplyFrom (now (input .entry)) at .words)) (now (monitor .entry)) (now (monitor .exit)) (now (here .exit)) t ⌝ }
 {
     let p = reader::state(input, at, bytes);
     let Part::Words(width, next) = p else {
         return Turn::Stopped(reader::part_number(p));
     };
-    Turn::Made(state_made(monitor, bytes, width), next)
+    Turn::Made(state_made(monitor, bytes, width, here), next)
 }
 
-// The next call. `bytes` is room for a state, whatever stands there.
-pub fn call(input: &[u8], at: usize, bytes: &mut [u8; WIDEST], monitor: &mut [u64; SIZE]) -> Turn
+// The next call. `bytes` is room for a state, whatever stands there. Of a call that is accepted, `here` then says which sets contain the clock.
+pub fn call(
+    input: &[u8],
+    at: usize,
+    bytes: &mut [u8; WIDEST],
+    monitor: &mut [u64; SIZE],
+    here: &mut [u8; MOST_ROWS],
+) -> Turn
     requires { ⌜ Kept (now monitor) ⌝ }
-    ensures { λ t. ⌜ Turned (now (input .entry)) (supplyFrom (now (input .entry)) at .ending) (callFrom (supplyFrom (now (input .entry)) at .ending) (supplyFrom (now (input .entry)) at .words)) (now (monitor .entry)) (now (monitor .exit)) t ⌝ }
+    ensures { λ t. ⌜ Turned (now (input .entry)) (supplyFrom (now (input .entry)) at .ending) (callFrom (supplyFrom (now (input .entry)) at .ending) (supplyFrom (now (input .entry)) at .words)) (now (monitor .entry)) (now (monitor .exit)) (now (here .exit)) t ⌝ }
 {
     let r = text::next_short(input, at);
     let Read::Word(kind, next) = r else {
         return Turn::Stopped(reader::number_of(r));
     };
     if kind == TIME {
-        return time_call(input, next, monitor);
+        return time_call(input, next, monitor, here);
     }
     if kind == STATE {
-        return state_call(input, next, bytes, monitor);
+        return state_call(input, next, bytes, monitor, here);
     }
     Turn::Stopped(NO_KIND)
 }

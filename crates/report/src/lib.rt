@@ -1,5 +1,6 @@
 // Text in, report out.
 mod calls;
+mod digits;
 mod lines;
 
 ghost use mathlib.Core.Path.{_≡_};
@@ -12,9 +13,11 @@ ghost use Rattle.writer.specs.Buffer.{handed, inBuffer};
 ghost use Rattle.writer.specs.Finish.{finish};
 ghost use Rattle.report.specs.Report.{bookLine, linesFrom, callLines, bookThen, report};
 use calls::Turn;
+use oracle::MOST_ROWS;
 use oracle::SIZE;
 use reader::Part;
 use text::Read;
+use verdicts::MOST_PROPERTIES;
 
 // The longest input, and the number for one that is longer.
 const LONGEST: usize = 65536;
@@ -35,16 +38,41 @@ fn call_lines(
     requires { ⌜ Kept (now monitor) ⌝ }
     ensures { λ r. ⌜ handed r (now (out .exit)) ≡ finish (now (out .entry)) start (linesFrom (bookOf (now (monitor .entry))) (supplyFrom (now (input .entry)) from .ending) count 0 (stateOf (now (monitor .entry))) (supplyFrom (now (input .entry)) from .words)) ⌝ }
 {
+    let properties = verdicts::property_count(monitor);
     let mut bytes = [0u8; calls::WIDEST];
+    let mut here = [0u8; MOST_ROWS];
+    let mut told = [0u8; MOST_ROWS];
+    let mut values = [0u8; MOST_PROPERTIES];
+    let mut early = [0u8; MOST_PROPERTIES];
+    let mut settled = [0u8; MOST_PROPERTIES];
+    verdicts::ask(monitor, &told, &mut early, &mut settled);
     let mut at = start;
     let mut cursor = from;
     let mut done: u64 = 0;
     while done < count {
-        let t = calls::call(input, cursor, &mut bytes, monitor);
+        let t = calls::call(input, cursor, &mut bytes, monitor, &mut here);
         let Turn::Made(refusal, next) = t else {
             return lines::stopped(out, at, calls::turn_number(t));
         };
-        at = lines::put_call(out, at, done + 1, refusal, monitor);
+        digits::renew(
+            refusal,
+            monitor,
+            &here,
+            &mut told,
+            &mut values,
+            &mut early,
+            &mut settled,
+        );
+        at = lines::put_call(
+            out,
+            at,
+            done + 1,
+            refusal,
+            properties,
+            &values,
+            &early,
+            &settled,
+        );
         cursor = next;
         done += 1;
     }

@@ -1,22 +1,20 @@
 // The lines of a report.
 ghost use mathlib.Core.Path.{_≡_};
 ghost use mathlib.Core.List.{_∷_, _++_};
-ghost use Prim.Native.Nat.{_+_};
-ghost use lib.ListN.{length};
+ghost use Prim.Native.Nat.{_+_, _≤_};
 ghost use Rattle.text.specs.Words.{space, digit0, supplyFrom};
 ghost use Rattle.text.specs.Decimals.{decimal};
-ghost use Rattle.pmtl.specs.Book.{properties};
-ghost use Rattle.pmtl.specs.Answer.{bitOf, digitOf};
-ghost use Rattle.rows.specs.Memory.{bookOf, stateOf};
-ghost use Rattle.book.specs.Kept.{Kept};
 ghost use Rattle.writer.specs.Buffer.{handed};
 ghost use Rattle.writer.specs.Finish.{finish, Wrote};
-ghost use Rattle.report.specs.Report.{ended as Report·ended, bookLine, stopLine, endLine, verdictWord, verdictWords, callLine, lastLine};
-use pmtl::Answer;
+ghost use Rattle.report.specs.Report.{ended as Report·ended, bookLine, stopLine, endLine, lastLine};
+ghost use Rattle.report.specs.Steps.{digitWord, digitWords, digitLine, Digits};
 use text::Read;
-use verdicts::Verdict;
+use verdicts::MOST_PROPERTIES;
 
 const ACCEPTED: u64 = 0;
+
+// The byte of the digit 0.
+const ZERO: u8 = b'0';
 
 // The numbers for a word that is left over, and for a bad word.
 const LEFT_OVER: u64 = 1;
@@ -74,46 +72,39 @@ pub fn last(input: &[u8], cursor: usize, out: &mut [u8], at: usize) -> u64
     ended(out, at)
 }
 
-// The digit of a truth value, and of an answer.
-fn bit(b: bool) -> u8
-    ensures { λ r. ⌜ r ≡ digit0 + bitOf b ⌝ }
+// The byte of a digit.
+fn glyph(d: u8) -> u8
+    requires { ⌜ d ≤ 2 ⌝ }
+    ensures { λ r. ⌜ r ≡ digit0 + d ⌝ }
 {
-    if b { b'1' } else { b'0' }
+    ZERO + d
 }
 
-fn digit(a: Answer) -> u8
-    ensures { λ r. ⌜ r ≡ digit0 + digitOf a ⌝ }
+// A property's word, of its three digits.
+fn put_word(out: &mut [u8], at: usize, value: u8, early: u8, settled: u8) -> usize
+    requires { ⌜ (value ≤ 2) × (early ≤ 2) × (settled ≤ 2) ⌝ }
+    ensures { λ r. ⌜ Wrote (now (out .entry)) at (digitWord value early settled) (now (out .exit)) r ⌝ }
 {
-    match a {
-        Answer::False => b'0',
-        Answer::True => b'1',
-        Answer::Open => b'2',
-    }
-}
-
-// A property's word.
-fn put_verdict(out: &mut [u8], at: usize, v: Verdict) -> usize
-    ensures { λ r. ⌜ Wrote (now (out .entry)) at (verdictWord v) (now (out .exit)) r ⌝ }
-{
-    let value = v.value;
-    let early = v.early;
-    let settled = v.settled;
-    let word = [b' ', bit(value), digit(early), digit(settled)];
+    let word = [b' ', glyph(value), glyph(early), glyph(settled)];
     writer::put_bytes(out, at, &word)
 }
 
-// The words of all properties.
-fn put_verdicts(out: &mut [u8], at: usize, monitor: &[u64]) -> usize
-    requires { ⌜ Kept (now monitor) ⌝ }
-    ensures { λ r. ⌜ Wrote (now (out .entry)) at (verdictWords (bookOf (now (monitor .entry))) (stateOf (now (monitor .entry))) (length (properties (bookOf (now (monitor .entry)))))) (now (out .exit)) r ⌝ }
+// The words of the first `count` properties.
+fn put_words(
+    out: &mut [u8],
+    at: usize,
+    count: usize,
+    values: &[u8; MOST_PROPERTIES],
+    early: &[u8; MOST_PROPERTIES],
+    settled: &[u8; MOST_PROPERTIES],
+) -> usize
+    requires { ⌜ Digits count (now values) (now early) (now settled) ⌝ }
+    ensures { λ r. ⌜ Wrote (now (out .entry)) at (digitWords (now (values .entry)) (now (early .entry)) (now (settled .entry)) count) (now (out .exit)) r ⌝ }
 {
-    let v = verdicts::all(monitor);
-    let count = v.count;
-    let list = v.list;
     let mut p = at;
     let mut i = 0;
     while i < count {
-        p = put_verdict(out, p, list[i]);
+        p = put_word(out, p, values[i], early[i], settled[i]);
         i += 1;
     }
     p
@@ -128,14 +119,23 @@ fn put_numbers(out: &mut [u8], at: usize, i: u64, refusal: u64) -> usize
     writer::put_number(out, b, refusal)
 }
 
-// A call's line, from the monitor that it left.
-pub fn put_call(out: &mut [u8], at: usize, i: u64, refusal: u64, monitor: &[u64]) -> usize
-    requires { ⌜ Kept (now monitor) ⌝ }
-    ensures { λ r. ⌜ Wrote (now (out .entry)) at (callLine (bookOf (now (monitor .entry))) i (record { number = refusal; state = stateOf (now (monitor .entry)) })) (now (out .exit)) r ⌝ }
+// A call's line. That of an accepted call has the words of `count` properties.
+pub fn put_call(
+    out: &mut [u8],
+    at: usize,
+    i: u64,
+    refusal: u64,
+    count: usize,
+    values: &[u8; MOST_PROPERTIES],
+    early: &[u8; MOST_PROPERTIES],
+    settled: &[u8; MOST_PROPERTIES],
+) -> usize
+    requires { ⌜ (refusal ≡ 0 → Digits count (now values) (now early) (now settled)) ⌝ }
+    ensures { λ r. ⌜ Wrote (now (out .entry)) at (digitLine i refusal (digitWords (now (values .entry)) (now (early .entry)) (now (settled .entry)) count)) (now (out .exit)) r ⌝ }
 {
     let a = put_numbers(out, at, i, refusal);
     if refusal == ACCEPTED {
-        let b = put_verdicts(out, a, monitor);
+        let b = put_words(out, a, count, values, early, settled);
         return writer::put_bytes(out, b, b"\n");
     }
     writer::put_bytes(out, a, b"\n")

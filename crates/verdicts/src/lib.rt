@@ -24,7 +24,7 @@ use rows::set_at;
 // The most rows and the most properties.
 const MOST_ROWS: usize = 128;
 
-const MOST_PROPERTIES: usize = 32;
+pub const MOST_PROPERTIES: usize = 32;
 
 // What asking for all answers hands back: they are in the list, or the list is too short.
 const DONE: u64 = 0;
