@@ -17,7 +17,7 @@ use Rattle.book.specs.Kept.{Kept}
 use Rattle.verdicts.specs.Verdict.{verdictOf, propertiesIn}
 use Rattle.verdicts.specs.Steps.{steps}
 use Rattle.verdicts.specs.Board.{retold, Board}
-use Rattle.verdicts.proofs.Filled.{steps-length, steps-at}
+use Rattle.verdicts.proofs.Filled.{steps-at}
 use Rattle.verdicts.proofs.Bridge.{properties-length}
 use Rattle.verdicts.proofs.Boards.{early-told, settled-told}
 use Rattle.oracle.specs.Oracle.{Called}

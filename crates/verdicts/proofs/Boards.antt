@@ -3,7 +3,7 @@ use Prim.Native.Nat.{ℕ, zero, suc, _+_, _*_, _/_, _%_, _≤_, _<_}
 use native.Mathlib.Omega.{arith}
 use native.Mathlib.Nat.{zero-add}
 use native.Mathlib.Numerals.{add-one}
-use native.Mathlib.Decide.{decLt, ℕ-discrete}
+use native.Mathlib.Decide.{ℕ-discrete}
 use mathlib.Core.Path.{_≡_, refl, sym, ap, ap₂, subst, _∙_}
 use mathlib.Core.Bool.{Bool, true, false, _&&_}
 use mathlib.Core.Logic.{_↔_}
@@ -12,7 +12,7 @@ use lib.ListN.{length, getD, set, length-set}
 use lib.Seq.{set-getD, getD-set-same, getD-set-other}
 use lib.Dec.{eqb}
 use borrow.Author.Tests.{eqb-true}
-use Rattle.numset.specs.Runs.{MAX, Runs, runs, has, covers, Covers, Good}
+use Rattle.numset.specs.Runs.{MAX, runs, has, covers, Covers, Good}
 use Rattle.numset.proofs.Laws.{good-canonical}
 use Rattle.numset.proofs.Covering.{covers-test}
 use Rattle.pmtl.specs.declared.Answer.{Answer}
@@ -20,7 +20,7 @@ use Rattle.pmtl.specs.Answer.{bitOf, digitOf}
 use Rattle.pmtl.specs.Sets.{gone}
 use Rattle.pmtl.specs.Monitor.{setAt, value}
 use Rattle.pmtl.proofs.Bools.{and-left, and-right}
-use Rattle.rows.specs.Memory.{ATOMS, PROPERTIES, rowCount, assumeCount, guaranteeCount, begunWord, clockOf, widthWord, temporals, kindAt, slotAt, ownerAt, setWords, rowsOf, bookOf, stateOf, isOne}
+use Rattle.rows.specs.Memory.{ATOMS, PROPERTIES, rowCount, assumeCount, guaranteeCount, begunWord, clockOf, widthWord, temporals, kindAt, slotAt, ownerAt, setWords, bookOf, stateOf, isOne}
 use Rattle.rows.specs.Facts.{hereIn, coversIn, goneIn, outputOf, valuationOf, settledOf}
 use Rattle.rows.proofs.Listed.{listed-at}
 use Rattle.rows.proofs.Facts.{fact-covers, fact-gone, facts-value, facts-early, facts-settled}

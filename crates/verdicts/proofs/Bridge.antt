@@ -3,7 +3,7 @@ use Prim.Native.Nat.{ℕ, _+_, _%_, _/_, _≤_, _<_}
 use native.Mathlib.Omega.{arith}
 use native.Mathlib.Decide.{decLt}
 use mathlib.Core.Path.{_≡_, refl, sym, ap, ap₂, _∙_}
-use mathlib.Core.Bool.{Bool, true, false, cond}
+use mathlib.Core.Bool.{Bool, false, cond}
 use mathlib.Core.List.{List, _++_, map}
 use lib.ListN.{length, getD, take, drop, List·getD-map, List·getD-eq-default, length-take, length-drop}
 use lib.Seq.{getD-take, getD-drop, take-add, drop-drop}
@@ -20,15 +20,14 @@ use Rattle.pmtl.specs.Settled.{settledRule, settled}
 use Rattle.pmtl.proofs.Table.{answer-local}
 use Rattle.pmtl.proofs.Steps.{value-out, early-out, settled-out}
 use Rattle.rows.specs.Memory.{PROPERTIES, ATOMS, part, rowCount, begunWord, clockOf, widthWord, assumeCount, guaranteeCount, isOne, listed, rowsOf, bookOf, stateOf}
-use Rattle.rows.specs.Facts.{factOf, hereIn, coversIn, goneIn, outputOf, valuationOf, settledOf}
+use Rattle.rows.specs.Facts.{hereIn, coversIn, goneIn, outputOf, valuationOf, settledOf}
 use Rattle.rows.proofs.Listed.{listed-at, listed-out}
 use Rattle.rows.proofs.Facts.{fact-here, fact-covers, fact-gone}
-use Rattle.rows.proofs.Kept.{rows-length}
 use Rattle.book.specs.Kept.{Kept}
 use Rattle.verdicts.specs.declared.Verdict.{Verdict}
 use Rattle.verdicts.specs.Verdict.{propertyAt, verdictIn, verdictOf, propertiesIn, answersNumber, answersList}
 use Rattle.verdicts.proofs.Filled.{any-default, steps-is}
-use Rattle.verdicts.specs.Steps.{steps, absent, blank, factAt, factsOf, atomAt, atomsOf, Seen, Answered}
+use Rattle.verdicts.specs.Steps.{steps, absent, blank, factAt, atomAt, atomsOf, Seen, Answered}
 
 -- a value by other atoms of the same numbers
 atoms-same : (xs ys : List Bool) → ((a : ℕ) → getD xs a false ≡ getD ys a false) → (here : Bool) (row : Row Bool) → valueRule xs here row ≡ valueRule ys here row

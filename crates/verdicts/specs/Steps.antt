@@ -1,4 +1,4 @@
--- Private steps of the answers: what is read off a memory once, before any row is asked. The public contracts cite one of these, `atomsOf`. Definitions only.
+-- Private steps of the answers: what is read off a memory once, before any row is asked. Functions for other crates cite `atomsOf`, `steps` and `Here` of these. Definitions only.
 use Prim.Native.Nat.{ℕ, zero, suc, _+_, _≤_, _<_}
 use mathlib.Core.Path.{_≡_}
 use mathlib.Core.Bool.{false}

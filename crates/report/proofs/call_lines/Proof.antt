@@ -1,7 +1,7 @@
 -- `report::call_lines` meets its contract. The invariant: what is still owed comes to what was owed at first, and the digits kept are right for what the rows were told. Assumes nothing.
 use Prim.Native.Nat.{ℕ, _-_, _^_, _<_}
 use native.Mathlib.Omega.{arith}
-use mathlib.Core.Path.{_≡_, refl, sym, ap, _∙_}
+use mathlib.Core.Path.{_≡_, sym, _∙_}
 use lib.ListN.{length, replicate, length-replicate}
 use borrow.Author.Needs.{needs}
 use Rattle.rows.specs.Memory.{bookOf}
@@ -14,16 +14,6 @@ use Rattle.report.proofs.Saying.{called-begun, board-book, counted}
 use Rattle.report.proofs.Going.{Going, go-start, go-called, go-more, go-stop, go-end}
 use Rattle.report.proofs.call_lines.Statement.{statement}
 use Rattle.report.proofs.call_lines.Tie as tie
-use Rattle.report.proofs.call_lines.Reads as reads
-use Rattle.report.proofs.call_lines.Lts as lts
-use Rattle.report.proofs.calls.call.Reads as call-reads
-use Rattle.report.proofs.calls.turn_number.Reads as turn-number-reads
-use Rattle.report.proofs.digits.renew.Reads as renew-reads
-use Rattle.report.proofs.lines.last.Reads as last-reads
-use Rattle.report.proofs.lines.put_call.Reads as put-call-reads
-use Rattle.report.proofs.lines.stopped.Reads as stopped-reads
-use Rattle.verdicts.proofs.ask.Reads as ask-reads
-use Rattle.verdicts.proofs.property_count.Reads as property-count-reads
 
 abbrev Inv-loop : tie.InvT-loop
 Inv-loop input from count monitor₀ out₀ start properties bytes₀ here₀ told₀ values₀ early₀ settled₀ at₀ cursor₀ done₀ monitor out bytes here told values early settled at cursor done =

@@ -5,7 +5,7 @@ use Prim.Native.Nat.{_+_, _-_, _≤_}
 use mathlib.Core.Path.{_≡_, sym, _∙_}
 use Rattle.rows.specs.Memory.{assumeCount, guaranteeCount}
 use Rattle.verdicts.specs.Verdict.{verdictOf}
-use Rattle.verdicts.specs.Steps.{absent, atomsOf, factsOf}
+use Rattle.verdicts.specs.Steps.{absent}
 use Rattle.verdicts.proofs.Filled.{Filled, filled-start, filled-more, filled-all}
 use Rattle.verdicts.proofs.Bridge.{properties-length, verdict-out}
 use Rattle.verdicts.proofs.all.Statement.{statement}

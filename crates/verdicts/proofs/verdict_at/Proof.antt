@@ -1,9 +1,7 @@
 -- `verdicts::verdict_at` meets its contract: a property that is not there, or the answers of its row. Assumes nothing.
 use borrow.Author.Needs.{needs}
 use native.Mathlib.Omega.{arith}
-use Prim.Native.Nat.{_+_, _<_, _≤_}
-use mathlib.Core.Path.{_≡_, sym, _∙_}
-use Rattle.rows.specs.Memory.{rowCount, assumeCount, guaranteeCount}
+use mathlib.Core.Path.{sym, _∙_}
 use Rattle.verdicts.proofs.Bridge.{verdict-in, verdict-out}
 use Rattle.verdicts.proofs.verdict_at.Statement.{statement}
 use Rattle.verdicts.proofs.verdict_at.Tie as tie

@@ -8,10 +8,6 @@ use Rattle.verdicts.proofs.Filled.{steps-length}
 use Rattle.report.proofs.Saying.{said-now}
 use Rattle.report.proofs.digits.renew.Statement.{statement}
 use Rattle.report.proofs.digits.renew.Tie as tie
-use Rattle.report.proofs.digits.renew.Reads as reads
-use Rattle.report.proofs.digits.renew.Lts as lts
-use Rattle.verdicts.proofs.renew.Reads as renew-reads
-use Rattle.verdicts.proofs.values.Reads as values-reads
 
 renew-requires : tie.Need-renew-requires
 renew-requires c κs = let s = c .before .before .before .before in (s .pre .0 .0, s .pre .1 .0)

@@ -4,10 +4,6 @@ use Rattle.writer.proofs.Writes.{same-bytes}
 use Rattle.report.specs.Steps.{digitWord}
 use Rattle.report.proofs.lines.put_word.Statement.{statement}
 use Rattle.report.proofs.lines.put_word.Tie as tie
-use Rattle.report.proofs.lines.put_word.Reads as reads
-use Rattle.report.proofs.lines.put_word.Lts as lts
-use Rattle.report.proofs.lines.glyph.Reads as glyph-reads
-use Rattle.writer.proofs.put_bytes.Reads as put-bytes-reads
 
 glyph-requires : tie.Need-glyph-requires
 glyph-requires c κs = search needs

@@ -5,9 +5,6 @@ use native.Mathlib.Omega.{arith}
 use Rattle.report.proofs.Lasting.{Wording, word-start, word-more, word-done}
 use Rattle.report.proofs.lines.put_words.Statement.{statement}
 use Rattle.report.proofs.lines.put_words.Tie as tie
-use Rattle.report.proofs.lines.put_words.Reads as reads
-use Rattle.report.proofs.lines.put_words.Lts as lts
-use Rattle.report.proofs.lines.put_word.Reads as put-word-reads
 
 abbrev Inv-loop : tie.InvT-loop
 Inv-loop out₀ at count values early settled p₀ i₀ out p i = Wording values early settled count out₀ at out p i

@@ -2,7 +2,7 @@
 use borrow.Author.Needs.{needs}
 use native.Mathlib.Omega.{arith}
 use Prim.Native.Nat.{_+_, _-_, _≤_, _<_}
-use mathlib.Core.Path.{_≡_, refl, sym, ap, subst, _∙_}
+use mathlib.Core.Path.{_≡_, refl}
 use Rattle.rows.specs.Memory.{assumeCount, guaranteeCount, bookOf}
 use Rattle.verdicts.specs.Steps.{steps}
 use Rattle.verdicts.specs.Board.{earlyBy, settledBy}
@@ -12,13 +12,6 @@ use Rattle.verdicts.proofs.Bridge.{properties-length}
 use Rattle.verdicts.proofs.Boards.{row-asked, early-asked, settled-asked}
 use Rattle.verdicts.proofs.board.ask.Statement.{statement}
 use Rattle.verdicts.proofs.board.ask.Tie as tie
-use Rattle.verdicts.proofs.board.ask.Reads as reads
-use Rattle.verdicts.proofs.board.ask.Lts as lts
-use Rattle.rows.proofs.settled.Reads as settled-reads
-use Rattle.rows.proofs.valuation.Reads as valuation-reads
-use Rattle.rows.proofs.word.Reads as word-reads
-use Rattle.verdicts.proofs.board.digit.Reads as digit-reads
-use Rattle.verdicts.proofs.property_count.Reads as property-count-reads
 
 abbrev Inv-loop : tie.InvT-loop
 Inv-loop monitor told early₀ settled₀ count i₀ early settled i =

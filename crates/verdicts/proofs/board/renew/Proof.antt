@@ -6,10 +6,6 @@ use Rattle.rows.specs.Memory.{temporals}
 use Rattle.verdicts.proofs.Boards.{retold-length, board-same, board-asked}
 use Rattle.verdicts.proofs.board.renew.Statement.{statement}
 use Rattle.verdicts.proofs.board.renew.Tie as tie
-use Rattle.verdicts.proofs.board.renew.Reads as reads
-use Rattle.verdicts.proofs.board.renew.Lts as lts
-use Rattle.verdicts.proofs.board.ask.Reads as ask-reads
-use Rattle.verdicts.proofs.board.retell.Reads as retell-reads
 
 retell-requires : tie.Need-retell-requires
 retell-requires c κs = search needs

@@ -2,20 +2,13 @@
 use borrow.Author.Needs.{needs}
 use native.Mathlib.Omega.{arith}
 use Prim.Native.Nat.{_-_, _≤_}
-use mathlib.Core.Path.{_≡_, refl, sym, ap, subst, _∙_}
+use mathlib.Core.Path.{_≡_, sym, subst, _∙_}
 use Rattle.numset.specs.Runs.{Good}
 use Rattle.rows.specs.Memory.{clockOf, temporals}
 use Rattle.verdicts.specs.Board.{retold, agrees}
 use Rattle.verdicts.proofs.Boards.{retold-none, retold-more}
 use Rattle.verdicts.proofs.board.retell.Statement.{statement}
 use Rattle.verdicts.proofs.board.retell.Tie as tie
-use Rattle.verdicts.proofs.board.retell.Reads as reads
-use Rattle.verdicts.proofs.board.retell.Lts as lts
-use Rattle.rows.proofs.clock.Reads as clock-reads
-use Rattle.rows.proofs.owner_at.Reads as owner-at-reads
-use Rattle.rows.proofs.set_at.Reads as set-at-reads
-use Rattle.rows.proofs.temporal_count.Reads as temporal-count-reads
-use Rattle.verdicts.proofs.board.told_about.Reads as told-about-reads
 
 abbrev Inv-loop : tie.InvT-loop
 Inv-loop monitor told₀ clock count same₀ slot₀ told same slot =

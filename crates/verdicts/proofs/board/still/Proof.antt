@@ -6,8 +6,6 @@ use Rattle.pmtl.proofs.Bools.{and-no-right}
 use Rattle.verdicts.proofs.Boards.{and-with}
 use Rattle.verdicts.proofs.board.still.Statement.{statement}
 use Rattle.verdicts.proofs.board.still.Tie as tie
-use Rattle.verdicts.proofs.board.still.Reads as reads
-use Rattle.verdicts.proofs.board.still.Lts as lts
 
 returns : tie.Need-returns
 returns c = let s = c .before in sym (and-with (s .args .same) (eq-eqb (s .args .old) (s .args .new) (c .if1 .taken)))

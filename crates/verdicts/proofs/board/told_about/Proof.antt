@@ -5,11 +5,6 @@ use Rattle.verdicts.proofs.Read.{bit-small}
 use Rattle.verdicts.proofs.Boards.{told-is}
 use Rattle.verdicts.proofs.board.told_about.Statement.{statement}
 use Rattle.verdicts.proofs.board.told_about.Tie as tie
-use Rattle.verdicts.proofs.board.told_about.Reads as reads
-use Rattle.verdicts.proofs.board.told_about.Lts as lts
-use Rattle.numset.proofs.covers.Reads as covers-reads
-use Rattle.rows.proofs.bit.Reads as bit-reads
-use Rattle.verdicts.proofs.gone.Reads as gone-reads
 
 covers-requires : tie.Need-covers-requires
 covers-requires c κs = search needs

@@ -2,7 +2,7 @@
 use borrow.Author.Needs.{needs}
 use native.Mathlib.Omega.{arith}
 use Prim.Native.Nat.{_+_, _-_, _≤_, _<_}
-use mathlib.Core.Path.{_≡_, refl, sym, ap, subst, _∙_}
+use mathlib.Core.Path.{_≡_, refl}
 use Rattle.pmtl.specs.Answer.{bitOf}
 use Rattle.rows.specs.Memory.{assumeCount, guaranteeCount}
 use Rattle.verdicts.specs.Verdict.{verdictOf, propertiesIn}
@@ -12,13 +12,6 @@ use Rattle.verdicts.proofs.Bridge.{properties-length}
 use Rattle.verdicts.proofs.Boards.{row-asked, value-said}
 use Rattle.verdicts.proofs.board.values.Statement.{statement}
 use Rattle.verdicts.proofs.board.values.Tie as tie
-use Rattle.verdicts.proofs.board.values.Reads as reads
-use Rattle.verdicts.proofs.board.values.Lts as lts
-use Rattle.rows.proofs.bit.Reads as bit-reads
-use Rattle.rows.proofs.output.Reads as output-reads
-use Rattle.rows.proofs.word.Reads as word-reads
-use Rattle.verdicts.proofs.property_count.Reads as property-count-reads
-use Rattle.verdicts.proofs.read_atoms.Reads as read-atoms-reads
 
 abbrev Inv-loop : tie.InvT-loop
 Inv-loop monitor here values₀ atoms count i₀ values i =
