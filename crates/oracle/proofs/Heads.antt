@@ -9,11 +9,15 @@ use native.Mathlib.Nat.{zero-add}
 use lib.ListN.{length, getD, set, take, drop, replicate, length-set, length-replicate}
 use lib.Seq.{paste-suc, length-paste, take-at, getD-take, getD-set-same, getD-set-other, length-take-le}
 use Rattle.numset.proofs.Laws.{lt-or-ge}
-use Rattle.rows.specs.Memory.{ATOMS, SIZE, widthWord}
-use Rattle.oracle.specs.Steps.{firstBytes, Bytes, Atoms, Headed}
+use Rattle.rows.specs.Memory.{ATOMS, SIZE, begunWord, clockOf}
+use Rattle.oracle.specs.Steps.{firstBytes, Bytes, clocked, Atoms}
+
+-- atoms that stand there are written
+pub atoms-stand : {m atoms : List ℕ} {n : ℕ} → length m ≡ SIZE → ((i : ℕ) → i < n → getD m (ATOMS + i) 0 ≡ getD atoms i 0) → Atoms m atoms n m
+atoms-stand e f = record { long = e; new = f; below = λ i h. refl; above = λ i h. refl }
 
 pub atoms-start : (m atoms : List ℕ) → length m ≡ SIZE → Atoms m atoms 0 m
-atoms-start m atoms e = record { long = e; new = λ i h. absurd (omega arith); below = λ i h. refl; above = λ i h. refl }
+atoms-start m atoms e = atoms-stand e (λ i h. absurd (omega arith))
 
 pub atoms-more : {m m₁ : List ℕ} {atoms : List ℕ} {i x : ℕ} → Atoms m atoms i m₁ → i < 256 → x ≡ getD atoms i 0 → Atoms m atoms (i + 1) (set m₁ (ATOMS + i) x)
 atoms-more {m} {m₁} {atoms} {i} {x} a h e =
@@ -27,20 +31,19 @@ atoms-more {m} {m₁} {atoms} {i} {x} a h e =
       above = λ k le. getD-set-other m₁ (ATOMS + i) k x 0 (omega arith) ∙ a .above k (omega arith);
     }
 
-pub headed : {m m₁ : List ℕ} {c : ℕ} {atoms : List ℕ} {n : ℕ} → Atoms m atoms n m₁ → n ≡ widthWord m → Headed m c atoms (set (set m₁ 1 1) 2 c)
-headed {m} {m₁} {c} {atoms} {n} a e =
-    let l = a .long in
-    let k = length-set m₁ 1 1 in
-    let other : (i : ℕ) → (i ≡ 1 → ⊥) → (i ≡ 2 → ⊥) → getD (set (set m₁ 1 1) 2 c) i 0 ≡ getD m₁ i 0 =
-    λ i p q. getD-set-other (set m₁ 1 1) 2 i c 0 q ∙ getD-set-other m₁ 1 i 1 0 p in
-    record {
-      long = length-set (set m₁ 1 1) 2 c ∙ k ∙ l;
-      begun = getD-set-other (set m₁ 1 1) 2 1 c 0 (omega arith) ∙ getD-set-same m₁ 1 1 0 (omega arith);
-      clock = getD-set-same (set m₁ 1 1) 2 c 0 (omega arith);
-      new = λ i lt. other (ATOMS + i) (omega arith) (omega arith) ∙ a .new i (omega arith);
-      below = λ i p q lt. other i p q ∙ a .below i lt;
-      above = λ i le. other i (omega arith) (omega arith) ∙ a .above i (omega arith);
-    }
+-- ---- begun and the clock
+module _ (m : List ℕ) (c : ℕ) where
+  pub clocked-length : length (clocked m c) ≡ length m
+  clocked-length = length-set (set m 1 1) 2 c ∙ length-set m 1 1
+
+  pub clocked-begun : length m ≡ SIZE → begunWord (clocked m c) ≡ 1
+  clocked-begun l = getD-set-other (set m 1 1) 2 1 c 0 (omega arith) ∙ getD-set-same m 1 1 0 (omega arith)
+
+  pub clocked-clock : length m ≡ SIZE → clockOf (clocked m c) ≡ c
+  clocked-clock l = getD-set-same (set m 1 1) 2 c 0 (omega (arith, length-set m 1 1))
+
+  pub clocked-other : (i : ℕ) → (i ≡ 1 → ⊥) → (i ≡ 2 → ⊥) → getD (clocked m c) i 0 ≡ getD m i 0
+  clocked-other i p q = getD-set-other (set m 1 1) 2 i c 0 q ∙ getD-set-other m 1 i 1 0 p
 
 -- ---- bytes copied from the front of a list, zeros after them
 pub copy-more : (s : List ℕ) (atoms : List ℕ) (i x : ℕ) → atoms ≡ firstBytes s i → x ≡ getD s i 0 → i < 256 → i < length s → set atoms i x ≡ firstBytes s (i + 1)

@@ -1,6 +1,6 @@
 -- The public calls, arm by arm: refused for themselves, or played. Assumes nothing.
-use Prim.Native.Nat.{ℕ, _≤_, _<_}
-use mathlib.Core.Path.{_≡_, refl, sym, ap, ap₂, _∙_}
+use Prim.Native.Nat.{ℕ, _+_, _≤_, _<_}
+use mathlib.Core.Path.{_≡_, refl, sym, ap, ap₂, subst, _∙_}
 use mathlib.Core.Bool.{Bool, true, false, true≢false}
 use mathlib.Core.List.{List, [], _∷_, map}
 use native.Mathlib.Omega.{arith}
@@ -13,14 +13,15 @@ use Rattle.pmtl.specs.Monitor.{Snap}
 use Rattle.pmtl.specs.Calls.{Call, WIDEST, turns, refusal, play, call}
 use Rattle.pmtl.specs.Calls.Call.{time, state}
 use Rattle.pmtl.proofs.Bools.{fails-by}
-use Rattle.rows.specs.Memory.{clockOf, widthWord, listed, rowsOf, bookOf, stateOf, isOne}
+use Rattle.rows.specs.Memory.{ATOMS, SIZE, clockOf, widthWord, listed, rowsOf, bookOf, stateOf, isOne}
 use Rattle.rows.proofs.Listed.{listed-length, listed-at}
 use Rattle.book.specs.Kept.{Kept}
-use Rattle.verdicts.specs.Steps.{atomAt, atomsOf}
-use Rattle.oracle.specs.Steps.{firstBytes, Bytes, snapOf, Timely, Advanced}
+use Rattle.verdicts.specs.Steps.{atomAt, atomsOf, Here}
+use Rattle.oracle.specs.Steps.{firstBytes, Bytes, snapOf, Atoms, Tried, Timely, Advanced}
 use Rattle.oracle.specs.Oracle.{Called}
 use Rattle.oracle.proofs.Plans.{some-hit}
 use Rattle.oracle.proofs.Heads.{first-bytes, first-take}
+use Rattle.oracle.proofs.Advances.{moved-width, tried-moved, tried-refused, tried-done, tried-stands}
 
 -- ---- a call that is refused for itself, and one that is not
 called-refused : {m : List ℕ} {k : Call} {n : ℕ} → Kept m → refusal (rowsOf m) (stateOf m .now) k ≡ n → (n ≡ 0 → ⊥) → Called k m m n
@@ -44,11 +45,17 @@ module _ {m : List ℕ} (kept : Kept m) where
   narrow : widthWord m ≤ 256
   narrow = kept .book .narrow
 
+  state-timely : {clock : ℕ} → clock ≡ clockOf m → Timely m clock
+  state-timely ec = record { kept = kept; clock = rw ec (kept .clock) }
+
   -- ---- a time call
-  pub old-bytes : Bytes (atomsOf m) (widthWord m)
+  old-same : (i : ℕ) → i < widthWord m → getD m (ATOMS + i) 0 ≡ getD (atomsOf m) i 0
+  old-same i h = sym (listed-at (atomAt m) 0 256 i (omega (arith, narrow)))
+
+  old-bytes : Bytes (atomsOf m) (widthWord m)
   old-bytes = record {
     long = listed-length (atomAt m) 256;
-    bits = λ i h. rw (listed-at (atomAt m) 0 256 i (omega (arith, narrow))) (kept .atoms i h);
+    bits = λ i h. rw (sym (old-same i h)) (kept .atoms i h);
   }
 
   old-atoms : map isOne (take (widthWord m) (atomsOf m)) ≡ listed (λ i. isOne (atomAt m i)) (widthWord m)
@@ -61,7 +68,7 @@ module _ {m : List ℕ} (kept : Kept m) where
       (λ i lt.
       let h : i < w = omega arith in
       List·getD-map isOne bytes i 0
-      ∙ ap isOne (getD-take w (atomsOf m) i 0 h ∙ listed-at (atomAt m) 0 256 i (omega (arith, narrow)))
+      ∙ ap isOne (getD-take w (atomsOf m) i 0 h ∙ sym (old-same i h))
       ∙ sym (listed-at f false w i h))
 
   module _ {t clock : ℕ} (ec : clock ≡ clockOf m) where
@@ -74,14 +81,18 @@ module _ {m : List ℕ} (kept : Kept m) where
     time-late h k = called-refused kept (let e = le-ltb t (clockOf m) (omega arith) in rw (e, lt-ltb H t k)) (omega arith)
 
     module _ (h : clock ≤ t) (k : t ≤ H) where
-      pub time-timely : Timely m t
+      time-timely : Timely m t
       time-timely = record { kept = kept; clock = k }
 
-      pub time-played : {atoms m′ : List ℕ} {r : ℕ} → atoms ≡ atomsOf m → Advanced m (snapOf t atoms (widthWord m) ∷ []) m′ r → Called (time t) m m′ r
+      time-played : {m′ : List ℕ} {r : ℕ} → Advanced m (snapOf t (atomsOf m) (widthWord m) ∷ []) m′ r → Called (time t) m m′ r
       unfolding refusal stateOf
-      time-played {atoms} ea a =
-          called-played (let e = le-ltb t (clockOf m) (omega arith) in rw (e, le-ltb H t k))
-          (ap (λ (bs : List Bool). record { clock = t; atoms = bs } ∷ []) (ap (λ (xs : List ℕ). map isOne (take (widthWord m) xs)) ea ∙ old-atoms)) a
+      time-played a =
+          called-played (let e = le-ltb t (clockOf m) (omega arith) in rw (e, le-ltb H t k)) (ap (λ (bs : List Bool). record { clock = t; atoms = bs } ∷ []) old-atoms) a
+
+      pub time-tried : {atoms here m′ : List ℕ} {r : ℕ} → atoms ≡ atomsOf m → Tried m t atoms here m′ r → Called (time t) m m′ r × (r ≡ 0 → Here m′ here)
+      time-tried {atoms} {here} {m′} {r} ea tried =
+          let p = tried-stands time-timely (subst (λ (xs : List ℕ). Tried m t xs here m′ r) ea tried) old-bytes old-same in
+          (time-played (p .0), p .1)
 
   -- ---- a state call
   module _ (s : List ℕ) where
@@ -102,22 +113,33 @@ module _ {m : List ℕ} (kept : Kept m) where
         unfolding refusal
         state-other e = called-refused kept (rw (le-ltb WIDEST (length s) h, width, le-ltb (length s) w k, ← eb, e)) (omega arith)
 
-        pub new-narrow : w ≤ 256
+        new-narrow : w ≤ 256
         new-narrow = omega (arith, narrow)
 
         module _ (e : b ≡ false) where
           bit-each : (i : ℕ) → i < length s → getD s i 0 ≤ 1
           bit-each i lt = ltb-false 1 (getD s i 0) (fails-by (ltb 1 (getD s i 0)) (λ z. true≢false (sym (some-hit (ltb 1) 0 s i lt z) ∙ sym eb ∙ e)))
 
-          pub new-bytes : {atoms : List ℕ} → atoms ≡ firstBytes s w → Bytes atoms (widthWord m)
+          new-bytes : {atoms : List ℕ} → atoms ≡ firstBytes s w → Bytes atoms (widthWord m)
           new-bytes ea = rw (ea, ← ew) (first-bytes w s k new-narrow (λ i lt. bit-each i (omega arith)))
 
-          pub state-played : {atoms m′ : List ℕ} {r clock : ℕ} → clock ≡ clockOf m → atoms ≡ firstBytes s w → Advanced m (snapOf clock atoms (widthWord m) ∷ []) m′ r → Called (state s) m m′ r
+          state-played : {atoms m′ : List ℕ} {r clock : ℕ} → clock ≡ clockOf m → atoms ≡ firstBytes s w → Advanced m (snapOf clock atoms (widthWord m) ∷ []) m′ r → Called (state s) m m′ r
           unfolding refusal stateOf
           state-played {atoms} ec ea a =
               called-played (rw (le-ltb WIDEST (length s) h, width, le-ltb (length s) w k, ← eb, e))
               (ap₂ (λ (c : ℕ) (xs : List ℕ). record { clock = c; atoms = map isOne xs } ∷ []) ec
               (ap₂ (λ (n : ℕ) (xs : List ℕ). take n xs) (sym ew) ea ∙ first-take w s k new-narrow ∙ ap (λ (n : ℕ). take n s) (sym width))) a
 
-        pub state-timely : {clock : ℕ} → clock ≡ clockOf m → Timely m clock
-        state-timely ec = record { kept = kept; clock = rw ec (kept .clock) }
+          module _ {atoms here m₁ : List ℕ} {r clock : ℕ} (ec : clock ≡ clockOf m) (ea : atoms ≡ firstBytes s w) (tried : Tried m clock atoms here m₁ r) where
+            pub state-full : (r ≡ 0 → ⊥) → Called (state s) m m₁ r
+            state-full ne = state-played ec ea (tried-refused (state-timely ec) tried ne)
+
+            pub state-roomy : r ≡ 0 → (length m₁ ≡ SIZE) × (length atoms ≡ 256) × (widthWord m₁ ≤ 256)
+            state-roomy z =
+                let v = tried-moved (state-timely ec) tried z in
+                (v .long, new-bytes ea .long, omega (arith, narrow, moved-width v))
+
+            pub state-done : {m₂ : List ℕ} → r ≡ 0 → Atoms m₁ atoms (widthWord m₁) m₂ → Called (state s) m m₂ 0 × Here m₂ here
+            state-done z a =
+                let p = tried-done (state-timely ec) tried (new-bytes ea) z a in
+                (state-played ec ea (p .0), p .1)

@@ -1,9 +1,9 @@
 -- Private steps of the calls: what a call plans, and the words that it then changes. No public contract cites these. Definitions only.
 use Prim.Native.Nat.{ℕ, _+_, _≤_, _<_}
 use mathlib.Core.Path.{_≡_}
-use mathlib.Core.Bool.{Bool, true, not}
+use mathlib.Core.Bool.{Bool, true, false, not}
 use mathlib.Core.List.{List, map}
-use lib.ListN.{length, getD, take, replicate}
+use lib.ListN.{length, getD, set, take, replicate}
 use lib.Seq.{paste}
 use Rattle.numset.specs.Runs.{MAX, Runs, runs, Good, has, fits, pack}
 use Rattle.pmtl.specs.Book.{H, Range, start, stop, mapRow}
@@ -72,14 +72,25 @@ pub record Atoms (m atoms : List ℕ) (n : ℕ) (m′ : List ℕ) : Type 0 where
   pub below : (i : ℕ) → i < ATOMS → getD m′ i 0 ≡ getD m i 0
   pub above : (i : ℕ) → ATOMS + n ≤ i → getD m′ i 0 ≡ getD m i 0
 
--- m′ is m with begun, the clock and the atoms anew
-pub record Headed (m : List ℕ) (c : ℕ) (atoms m′ : List ℕ) : Type 0 where
+-- m with begun set, and the clock
+abbrev pub clocked : List ℕ → ℕ → List ℕ
+clocked m c = set (set m 1 1) 2 c
+
+-- m′ is m after a call at clock c and atoms, with the atoms still those of m; here says which sets contain the clock
+pub record Moved (m : List ℕ) (c : ℕ) (atoms here m′ : List ℕ) : Type 0 where
   pub long : length m′ ≡ SIZE
   pub begun : begunWord m′ ≡ 1
   pub clock : clockOf m′ ≡ c
-  pub new : (i : ℕ) → i < widthWord m → getD m′ (ATOMS + i) 0 ≡ getD atoms i 0
-  pub below : (i : ℕ) → (i ≡ 1 → ⊥) → (i ≡ 2 → ⊥) → i < ATOMS → getD m′ i 0 ≡ getD m i 0
-  pub above : (i : ℕ) → ATOMS + widthWord m ≤ i → getD m′ i 0 ≡ getD m i 0
+  pub below : (i : ℕ) → (i ≡ 1 → ⊥) → (i ≡ 2 → ⊥) → i < SETS → getD m′ i 0 ≡ getD m i 0
+  pub new : (j : ℕ) → j < temporals m → setWords m′ j ≡ pack SET (setAt (stepOf m c atoms) (ownerAt m j))
+  pub good : (j : ℕ) → j < temporals m → Good (setWords m′ j)
+  pub old : (j : ℕ) → temporals m ≤ j → j < 32 → setWords m′ j ≡ setWords m j
+  pub here-right : (j : ℕ) → j < temporals m → hereIn here (ownerAt m j) ≡ has (setAt (stepOf m c atoms) (ownerAt m j)) c
+
+-- a call tried: every set has room, r is 0 and m is moved to m′; or one lacks it, r is 11 and m′ is m
+pub record Tried (m : List ℕ) (c : ℕ) (atoms here m′ : List ℕ) (r : ℕ) : Type 0 where
+  pub room : crowded (stepOf m c atoms) ≡ false → (r ≡ 0) × Moved m c atoms here m′
+  pub full : crowded (stepOf m c atoms) ≡ true → (r ≡ 11) × (m′ ≡ m)
 
 -- a row whose range can be counted from clock c: no sum wraps
 pub record Bounded (m : List ℕ) (c r : ℕ) : Type 0 where

@@ -1,7 +1,6 @@
 // The calls of a monitor: planned, reading only, and then carried out in place. A call that is refused changes nothing.
 ghost use mathlib.Core.Path.{_≡_};
 ghost use mathlib.Core.Bool.{true};
-ghost use mathlib.Core.List.{[], _∷_};
 ghost use Prim.Native.Nat.{_+_, _*_, _≤_, _<_};
 ghost use lib.ListN.{length, getD, set};
 ghost use lib.Dec.{ltb};
@@ -13,7 +12,7 @@ ghost use Rattle.rows.specs.Memory.{SET, SIZE, rowCount, widthWord, temporals, 
 ghost use Rattle.book.specs.Kept.{Kept};
 ghost use Rattle.verdicts.specs.Steps.{Here};
 ghost use Rattle.change.specs.Change.{changed};
-ghost use Rattle.oracle.specs.Steps.{firstBytes, Bytes, snapOf, rangeAt, modeAt, setAfter, rowPlan, Bounded, Slot, Planned, Timely, Roomy, Fit, Fitting, Written, Headed, Advanced};
+ghost use Rattle.oracle.specs.Steps.{firstBytes, rangeAt, modeAt, setAfter, rowPlan, clocked, Bounded, Slot, Planned, Timely, Roomy, Fit, Fitting, Written, Atoms, Tried};
 ghost use Rattle.oracle.specs.Oracle.{Called};
 use rows::MOST_ATOMS;
 use rows::MOST_ROWS;
@@ -206,10 +205,19 @@ fn wide(x: u8) -> u64
     x as u64
 }
 
-// Sets the atoms, the clock, and that a call was accepted.
-fn put_head(monitor: &mut [u64; SIZE], clock: u64, atoms: &[u8; MOST_ATOMS])
+// Sets the clock, and that a call was accepted.
+fn put_clock(monitor: &mut [u64; SIZE], clock: u64)
+    requires { ⌜ length (now monitor) ≡ SIZE ⌝ }
+    ensures { λ _. ⌜ now (monitor .exit) ≡ clocked (now (monitor .entry)) clock ⌝ }
+{
+    monitor[rows::BEGUN] = 1;
+    monitor[rows::CLOCK] = clock;
+}
+
+// Sets the atoms.
+fn put_atoms(monitor: &mut [u64; SIZE], atoms: &[u8; MOST_ATOMS])
     requires { ⌜ (length (now monitor) ≡ SIZE) × (length (now atoms) ≡ 256) × (widthWord (now monitor) ≤ 256) ⌝ }
-    ensures { λ _. ⌜ Headed (now (monitor .entry)) clock (now (atoms .entry)) (now (monitor .exit)) ⌝ }
+    ensures { λ _. ⌜ Atoms (now (monitor .entry)) (now (atoms .entry)) (widthWord (now (monitor .entry))) (now (monitor .exit)) ⌝ }
 {
     let count = rows::width(monitor);
     let mut i = 0;
@@ -217,11 +225,10 @@ fn put_head(monitor: &mut [u64; SIZE], clock: u64, atoms: &[u8; MOST_ATOMS])
         monitor[rows::ATOMS + i] = wide(atoms[i]);
         i += 1;
     }
-    monitor[rows::BEGUN] = 1;
-    monitor[rows::CLOCK] = clock;
 }
 
-// A call at a clock and atoms: planned, and then carried out. Where a set lacks room, nothing is.
+// A call at a clock and atoms: planned, and then carried out, all but the atoms, which a time call leaves as they are. Where a set
+// lacks room, nothing is.
 fn advance(
     monitor: &mut [u64; SIZE],
     clock: u64,
@@ -229,15 +236,14 @@ fn advance(
     here: &mut [u8; MOST_ROWS],
 ) -> u64
     requires { ⌜ Timely (now monitor) clock ⌝ }
-    requires { ⌜ Bytes (now atoms) (widthWord (now monitor)) ⌝ }
-    ensures { λ r. ⌜ Advanced (now (monitor .entry)) (snapOf clock (now (atoms .entry)) (widthWord (now (monitor .entry))) ∷ []) (now (monitor .exit)) r × (r ≡ 0 → Here (now (monitor .exit)) (now (here .exit))) ⌝ }
+    ensures { λ r. ⌜ Tried (now (monitor .entry)) clock (now (atoms .entry)) (now (here .exit)) (now (monitor .exit)) r ⌝ }
 {
     let plan = plan_call(monitor, clock, atoms, here);
     let room = plan.room;
     if room {
         let modes = plan.modes;
         commit(monitor, clock, &modes);
-        put_head(monitor, clock, atoms);
+        put_clock(monitor, clock);
         return ACCEPTED;
     }
     NO_ROOM
@@ -303,5 +309,10 @@ pub fn state_call(monitor: &mut [u64; SIZE], state: &[u8], here: &mut [u8; MOST_
     }
     let atoms = new_atoms(state, count);
     let clock = rows::clock(monitor);
-    advance(monitor, clock, &atoms, here)
+    let number = advance(monitor, clock, &atoms, here);
+    if number != ACCEPTED {
+        return number;
+    }
+    put_atoms(monitor, &atoms);
+    ACCEPTED
 }

@@ -1,5 +1,5 @@
 -- `oracle::calls::state_call` meets its contract: refused for itself, or played. Assumes nothing.
-use Rattle.oracle.proofs.Public.{state-wide, state-short, state-other, new-narrow, new-bytes, state-timely, state-played}
+use Rattle.oracle.proofs.Public.{state-wide, state-short, state-other, state-full, state-roomy, state-done}
 use native.Mathlib.Omega.{arith}
 use borrow.Author.Needs.{needs}
 use Rattle.oracle.proofs.calls.state_call.Statement.{statement}
@@ -21,16 +21,22 @@ returns-3 : tie.Need-returns-3
 returns-3 c = let s = c .before .before .before .before .before .before .before in (state-other (s .pre) (s .args .state .now) (c .before .before .before .before .before .if1 .left) (c .before .before .before .width .ensures) (c .before .before .if2 .left) (c .before .has-other .ensures) (c .if3 .taken), λ e. absurd (omega arith))
 
 new-atoms-requires : tie.Need-new-atoms-requires
-new-atoms-requires c κs = let s = c .before .before .before .before .before .before .before in (c .before .before .if2 .left, new-narrow (s .pre) (s .args .state .now) (c .before .before .before .before .before .if1 .left) (c .before .before .before .width .ensures) (c .before .before .if2 .left) (c .before .has-other .ensures))
+new-atoms-requires c κs = search needs
 
 clock-requires : tie.Need-clock-requires
 clock-requires c κs = search needs
 
 advance-requires : tie.Need-advance-requires
-advance-requires c κs = let s = c .before .before .before .before .before .before .before .before .before .before .before .before .before in (state-timely (s .pre) (s .args .state .now) (c .before .before .before .before .before .before .before .before .before .before .before .if1 .left) (c .before .before .before .before .before .before .before .before .before .width .ensures) (c .before .before .before .before .before .before .before .before .if2 .left) (c .before .before .before .before .before .before .before .has-other .ensures) (c .before .before .before .clock .ensures), new-bytes (s .pre) (s .args .state .now) (c .before .before .before .before .before .before .before .before .before .before .before .if1 .left) (c .before .before .before .before .before .before .before .before .before .width .ensures) (c .before .before .before .before .before .before .before .before .if2 .left) (c .before .before .before .before .before .before .before .has-other .ensures) (c .before .before .before .before .before .before .if3 .left) (c .before .before .before .before .before .new-atoms .ensures))
+advance-requires c κs = search needs
 
 returns-4 : tie.Need-returns-4
-returns-4 c = let s = c .before .before .before .before .before .before .before .before .before .before .before .before .before .before in let a = c .advance .ensures in (state-played (s .pre) (s .args .state .now) (c .before .before .before .before .before .before .before .before .before .before .before .before .if1 .left) (c .before .before .before .before .before .before .before .before .before .before .width .ensures) (c .before .before .before .before .before .before .before .before .before .if2 .left) (c .before .before .before .before .before .before .before .before .has-other .ensures) (c .before .before .before .before .before .before .before .if3 .left) (c .before .before .before .before .clock .ensures) (c .before .before .before .before .before .before .new-atoms .ensures) (a .0), a .1)
+returns-4 c = let a = c .before in let k = a .before .before .before .before in let n = k .before .before in let o = n .before .before in let w = o .before .before in let s = w .before .before .before .before in (state-full (s .pre) (s .args .state .now) (w .before .before .if1 .left) (w .width .ensures) (o .before .if2 .left) (o .has-other .ensures) (n .before .if3 .left) (k .clock .ensures) (n .new-atoms .ensures) (a .advance .ensures) (c .if4 .taken), λ e. absurd (c .if4 .taken e))
+
+put-atoms-requires : tie.Need-put-atoms-requires
+put-atoms-requires c κs = let a = c .before .before .before in let k = a .before .before .before .before in let n = k .before .before in let o = n .before .before in let w = o .before .before in let s = w .before .before .before .before in state-roomy (s .pre) (s .args .state .now) (w .before .before .if1 .left) (w .width .ensures) (o .before .if2 .left) (o .has-other .ensures) (n .before .if3 .left) (k .clock .ensures) (n .new-atoms .ensures) (a .advance .ensures) (c .before .before .if4 .left)
+
+returns-5 : tie.Need-returns-5
+returns-5 c = let a = c .before .before .before .before in let k = a .before .before .before .before in let n = k .before .before in let o = n .before .before in let w = o .before .before in let s = w .before .before .before .before in let d = state-done (s .pre) (s .args .state .now) (w .before .before .if1 .left) (w .width .ensures) (o .before .if2 .left) (o .has-other .ensures) (n .before .if3 .left) (k .clock .ensures) (n .new-atoms .ensures) (a .advance .ensures) (c .before .before .before .if4 .left) (c .put-atoms .ensures) in (d .0, λ e. d .1)
 
 pub state-call-spec : {M : Type 1} → statement M
 state-call-spec =
@@ -44,4 +50,6 @@ state-call-spec =
     new-atoms-requires
     clock-requires
     advance-requires
-    returns-4)
+    returns-4
+    put-atoms-requires
+    returns-5)

@@ -1,5 +1,5 @@
 -- `oracle::calls::time_call` meets its contract: refused for itself, or played. Assumes nothing.
-use Rattle.oracle.proofs.Public.{old-bytes, time-early, time-late, time-timely, time-played}
+use Rattle.oracle.proofs.Public.{time-early, time-late, time-tried}
 use native.Mathlib.Omega.{arith}
 use borrow.Author.Needs.{needs}
 use Rattle.oracle.proofs.calls.time_call.Statement.{statement}
@@ -18,10 +18,10 @@ read-atoms-requires : tie.Need-read-atoms-requires
 read-atoms-requires c κs = search needs
 
 advance-requires : tie.Need-advance-requires
-advance-requires c κs = let s = c .before .before .before .before .before .before .before .before .before in (time-timely (s .pre) (c .before .before .before .before .before .before .before .clock .ensures) (c .before .before .before .before .before .before .if1 .left) (c .before .before .before .before .before .if2 .left), rw (c .before .before .before .read-atoms .ensures) (old-bytes (s .pre)))
+advance-requires c κs = search needs
 
 returns-3 : tie.Need-returns-3
-returns-3 c = let s = c .before .before .before .before .before .before .before .before .before .before in let a = c .advance .ensures in (time-played (s .pre) (c .before .before .before .before .before .before .before .before .clock .ensures) (c .before .before .before .before .before .before .before .if1 .left) (c .before .before .before .before .before .before .if2 .left) (c .before .before .before .before .read-atoms .ensures) (a .0), a .1)
+returns-3 c = let s = c .before .before .before .before .before .before .before .before .before .before in time-tried (s .pre) (c .before .before .before .before .before .before .before .before .clock .ensures) (c .before .before .before .before .before .before .before .if1 .left) (c .before .before .before .before .before .before .if2 .left) (c .before .before .before .before .read-atoms .ensures) (c .advance .ensures)
 
 pub time-call-spec : {M : Type 1} → statement M
 time-call-spec =

@@ -1,19 +1,19 @@
--- `oracle::calls::put_head` meets its contract. The invariant: the atoms passed are written. Assumes nothing.
-use Rattle.oracle.proofs.Heads.{atoms-start, atoms-more, headed}
+-- `oracle::calls::put_atoms` meets its contract. The invariant: the atoms passed are written. Assumes nothing.
+use Rattle.oracle.proofs.Heads.{atoms-start, atoms-more}
 use Rattle.oracle.specs.Steps.{Atoms}
 use Rattle.rows.specs.Memory.{widthWord}
 use mathlib.Core.Path.{_≡_}
 use Prim.Native.Nat.{_≤_, _-_}
 use native.Mathlib.Omega.{arith}
 use borrow.Author.Needs.{needs}
-use Rattle.oracle.proofs.calls.put_head.Statement.{statement}
-use Rattle.oracle.proofs.calls.put_head.Tie as tie
+use Rattle.oracle.proofs.calls.put_atoms.Statement.{statement}
+use Rattle.oracle.proofs.calls.put_atoms.Tie as tie
 
 abbrev Inv-loop : tie.InvT-loop
-Inv-loop monitor₀ clock atoms count i₀ monitor i = (i ≤ count) × (count ≡ widthWord monitor₀) × Atoms monitor₀ atoms i monitor
+Inv-loop monitor₀ atoms count i₀ monitor i = (i ≤ count) × (count ≡ widthWord monitor₀) × Atoms monitor₀ atoms i monitor
 
 abbrev μ-loop : tie.MeasureT-loop
-μ-loop monitor₀ clock atoms count i₀ monitor i = count - i
+μ-loop monitor₀ atoms count i₀ monitor i = count - i
 
 width-requires : tie.Need-width-requires Inv-loop μ-loop
 width-requires c κs = search needs
@@ -45,17 +45,11 @@ loop-less c = search needs
 loop-again : tie.Need-loop-again Inv-loop μ-loop
 loop-again c = let s = c .before .before .before .before .before .before in let l = c .before .before .before .loop in let e = l .inv .1 in let k = s .pre in (omega arith, e, atoms-more (l .inv .2) (omega arith) (c .wide .ensures))
 
-element-write-monitor-2 : tie.Need-element-write-monitor-2 Inv-loop μ-loop
-element-write-monitor-2 c = search needs
-
-element-write-monitor-3 : tie.Need-element-write-monitor-3 Inv-loop μ-loop
-element-write-monitor-3 c = search needs
-
 returns : tie.Need-returns Inv-loop μ-loop
-returns c = let s = c .before .before .before .before in let l = c .before .loop in headed (l .inv .2) (let e = l .inv .1 in let q = l .inv .0 in omega arith)
+returns c = let s = c .before .before .before .before in let l = c .before .loop in let e : l .i ≡ widthWord (s .args .monitor .now) = let q = l .inv .1 in omega arith in rw e at (l .inv .2)
 
-pub put-head-spec : {M : Type 1} → statement M
-put-head-spec =
+pub put-atoms-spec : {M : Type 1} → statement M
+put-atoms-spec =
     tie.close
     (tie.spec
     Inv-loop
@@ -70,6 +64,4 @@ put-head-spec =
     add-i
     loop-less
     loop-again
-    element-write-monitor-2
-    element-write-monitor-3
     returns)
