@@ -1,4 +1,5 @@
 # What the commands of this repository share: the kit, and how a program of it is run. Sourced, from the repository's root.
+# shellcheck shell=bash
 
 # The kit must be there; another kit than the pinned one is only said.
 need_kit() {
@@ -12,16 +13,18 @@ need_kit() {
     fi
 }
 
-# The folder of the kit's tools for this processor, found from where rt stands, as rt itself does.
-kit_tools() {
+# The kit's folder, found from where rt stands, as rt itself does.
+kit_home() {
     self=$(command -v rt)
     while [ -L "$self" ]; do
         link=$(readlink "$self")
         case $link in /*) self=$link ;; *) self=$(dirname "$self")/$link ;; esac
     done
-    home=${RATTLE_HOME:-$(cd "$(dirname "$self")/.." && pwd -P)}
-    echo "$home/on/$(uname -m)/toolchain"
+    (cd "${RATTLE_HOME:-$(dirname "$self")/..}" && pwd -P)
 }
+
+# The folder of the kit's tools for this processor.
+kit_tools() { echo "$(kit_home)/on/$(uname -m)/toolchain"; }
 
 # Runs a program for x86-64 with the kit's loader and C library, on another processor under the kit's emulator.
 run_program() { # PROGRAM WORDS..
