@@ -16,23 +16,20 @@ pub use board::ask;
 pub use board::renew;
 pub use board::values;
 use pmtl::Answer;
+use rows::GONE;
 use rows::MOST_ATOMS;
+use rows::MOST_ROWS;
 use rows::SIZE;
 use rows::bit;
 use rows::set_at;
 
-// The most rows and the most properties.
-const MOST_ROWS: usize = 128;
-
+// The most properties.
 pub const MOST_PROPERTIES: usize = 32;
 
 // What asking for all answers hands back: they are in the list, or the list is too short.
 const DONE: u64 = 0;
 
 const TOO_SHORT: u64 = 12;
-
-// What the rows are told of an empty set: it is gone.
-const GONE: u8 = 4;
 
 // The answers of a property.
 pub struct Verdict {
@@ -65,7 +62,7 @@ fn fact_about(set: &[u64], clock: u64) -> u8
     here + 2 * covers + GONE * bit(gone(set))
 }
 
-// What the rows are told of their sets. A row that is not temporal has the empty set.
+// What the rows are told of their sets. A row that is not temporal has the empty set, which is gone.
 fn read_facts(monitor: &[u64; SIZE]) -> [u8; MOST_ROWS]
     requires { ⌜ Kept (now monitor) ⌝ }
     ensures { λ r. ⌜ r ≡ factsOf (now (monitor .entry)) ⌝ }
