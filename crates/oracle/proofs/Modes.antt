@@ -4,12 +4,12 @@ use mathlib.Core.Path.{_≡_, refl, sym, ap, ap₂, _∙_, subst⁻¹}
 use mathlib.Core.Bool.{Bool, true, not}
 use mathlib.Core.List.{List}
 use native.Mathlib.Omega.{arith}
-use lib.ListN.{length, getD, drop}
+use lib.ListN.{getD, drop}
 use lib.Dec.{lit<}
 use borrow.Author.Tests.{eq-eqb, ne-eqb}
 use Rattle.numset.specs.Runs.{MAX}
 use Rattle.pmtl.specs.Book.{Row, mapRow, Range, stop}
-use Rattle.rows.specs.Memory.{OPERANDS, SIZE, rowCount, kindAt, argAt, lowerAt, upperAt, startAt, operandsOf, rowFrom, countOf, rowOf, BookKept}
+use Rattle.rows.specs.Memory.{OPERANDS, rowCount, kindAt, argAt, lowerAt, upperAt, startAt, operandsOf, rowFrom, countOf, rowOf, BookKept}
 use Rattle.rows.specs.Walk.{Span}
 use Rattle.rows.proofs.Kept.{Read, span-read, span-as, first-inside, second-inside, first-is, second-is, first-below, second-below}
 use Rattle.change.specs.Change.{modeOf, modeIn}
@@ -38,7 +38,7 @@ module _ {m : List ℕ} {r kind start : ℕ} (kept : BookKept m) (inside : r < r
   one : 0 < countOf kind (argAt m r)
   one = some-operand kind (argAt m r) (omega arith) (omega (arith, few))
 
-  pub first-place : (length m ≡ SIZE) × (start < 128)
+  pub first-place : start < 128
   first-place = first-inside read refl one
 
   pub first-row : {x : ℕ} → x ≡ getD m (OPERANDS + start) 0 → x < rowCount m
@@ -52,7 +52,7 @@ module _ {m : List ℕ} {r kind start : ℕ} (kept : BookKept m) (inside : r < r
   unfolding countOf
   two p q = span-as read (past p q)
 
-  pub second-place : (kind ≡ 7 → ⊥) → (kind ≡ 8 → ⊥) → (length m ≡ SIZE) × (start + 1 < 128)
+  pub second-place : (kind ≡ 7 → ⊥) → (kind ≡ 8 → ⊥) → start + 1 < 128
   unfolding countOf
   second-place p q = second-inside read (past p q) (lit< tt)
 

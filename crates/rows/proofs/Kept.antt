@@ -197,11 +197,8 @@ pub past-eight : {m : List ℕ} {r kind arg start : ℕ} → Read m r kind arg s
 past-eight e n = ⊎-elim (λ k. absurd (n .1 k)) (λ k. k) (past-seven e (n .0))
 
 -- ---- what the accessors ask
-pub row-inside : {m : List ℕ} {r : ℕ} → BookKept m → r < rowCount m → (length m ≡ SIZE) × (r < 128)
-row-inside kept h = (kept .long, below-128 kept h)
+pub first-inside : {m : List ℕ} {r kind arg start : ℕ} → Read m r kind arg start → {k : ℕ} → kind ≡ k → 0 < countOf k arg → start < 128
+first-inside e ek h = omega (arith, span-as e ek .inside)
 
-pub first-inside : {m : List ℕ} {r kind arg start : ℕ} → Read m r kind arg start → {k : ℕ} → kind ≡ k → 0 < countOf k arg → (length m ≡ SIZE) × (start < 128)
-first-inside e ek h = (e .kept .long, omega (arith, span-as e ek .inside))
-
-pub second-inside : {m : List ℕ} {r kind arg start : ℕ} → Read m r kind arg start → {k : ℕ} → kind ≡ k → 1 < countOf k arg → (length m ≡ SIZE) × (start + 1 < 128)
-second-inside e ek h = (e .kept .long, omega (arith, span-as e ek .inside))
+pub second-inside : {m : List ℕ} {r kind arg start : ℕ} → Read m r kind arg start → {k : ℕ} → kind ≡ k → 1 < countOf k arg → start + 1 < 128
+second-inside e ek h = omega (arith, span-as e ek .inside)

@@ -2,7 +2,7 @@
 ghost use mathlib.Core.Path.{_≡_};
 ghost use mathlib.Core.List.{map};
 ghost use Prim.Native.Nat.{_+_, _<_};
-ghost use lib.ListN.{length, getD};
+ghost use lib.ListN.{getD};
 ghost use Rattle.rows.specs.Memory.{SIZE, OPERANDS, BookKept, rowCount, begunWord, clockOf, widthWord, temporals, assumeCount, guaranteeCount, kindAt, argAt, lowerAt, upperAt, startAt, slotAt, ownerAt, setWords};
 ghost use Rattle.rows.specs.Facts.{hereIn, coversIn, goneIn, outputOf, valuationOf, settledOf};
 ghost use Rattle.rows.specs.Walk.{Span, operandAt, operandsFrom, rangeAt, joined, earlySoFar, settledSoFar, coversAlone};
@@ -115,7 +115,6 @@ pub fn word(monitor: &[u64; SIZE], at: usize) -> u64
 
 // How many rows the book has.
 pub fn row_count(monitor: &[u64; SIZE]) -> usize
-    requires { ⌜ length (now monitor) ≡ SIZE ⌝ }
     ensures { λ r. ⌜ r ≡ rowCount (now (monitor .entry)) ⌝ }
 {
     monitor[ROW_COUNT] as usize
@@ -123,7 +122,6 @@ pub fn row_count(monitor: &[u64; SIZE]) -> usize
 
 // 1 once a call was accepted.
 pub fn begun(monitor: &[u64; SIZE]) -> u64
-    requires { ⌜ length (now monitor) ≡ SIZE ⌝ }
     ensures { λ r. ⌜ r ≡ begunWord (now (monitor .entry)) ⌝ }
 {
     monitor[BEGUN]
@@ -131,7 +129,6 @@ pub fn begun(monitor: &[u64; SIZE]) -> u64
 
 // The time of the last accepted time call.
 pub fn clock(monitor: &[u64; SIZE]) -> u64
-    requires { ⌜ length (now monitor) ≡ SIZE ⌝ }
     ensures { λ r. ⌜ r ≡ clockOf (now (monitor .entry)) ⌝ }
 {
     monitor[CLOCK]
@@ -139,7 +136,6 @@ pub fn clock(monitor: &[u64; SIZE]) -> u64
 
 // The largest atom plus 1.
 pub fn width(monitor: &[u64; SIZE]) -> usize
-    requires { ⌜ length (now monitor) ≡ SIZE ⌝ }
     ensures { λ r. ⌜ r ≡ widthWord (now (monitor .entry)) ⌝ }
 {
     monitor[WIDTH] as usize
@@ -147,7 +143,6 @@ pub fn width(monitor: &[u64; SIZE]) -> usize
 
 // How many rows are temporal.
 pub fn temporal_count(monitor: &[u64; SIZE]) -> usize
-    requires { ⌜ length (now monitor) ≡ SIZE ⌝ }
     ensures { λ r. ⌜ r ≡ temporals (now (monitor .entry)) ⌝ }
 {
     monitor[TEMPORALS] as usize
@@ -155,7 +150,6 @@ pub fn temporal_count(monitor: &[u64; SIZE]) -> usize
 
 // How many properties are assumed.
 pub fn assume_count(monitor: &[u64; SIZE]) -> usize
-    requires { ⌜ length (now monitor) ≡ SIZE ⌝ }
     ensures { λ r. ⌜ r ≡ assumeCount (now (monitor .entry)) ⌝ }
 {
     monitor[ASSUMES] as usize
@@ -163,7 +157,6 @@ pub fn assume_count(monitor: &[u64; SIZE]) -> usize
 
 // How many properties are guaranteed.
 pub fn guarantee_count(monitor: &[u64; SIZE]) -> usize
-    requires { ⌜ length (now monitor) ≡ SIZE ⌝ }
     ensures { λ r. ⌜ r ≡ guaranteeCount (now (monitor .entry)) ⌝ }
 {
     monitor[GUARANTEES] as usize
@@ -171,7 +164,6 @@ pub fn guarantee_count(monitor: &[u64; SIZE]) -> usize
 
 // The words of a row.
 pub fn kind_at(monitor: &[u64; SIZE], row: usize) -> u64
-    requires { ⌜ length (now monitor) ≡ SIZE ⌝ }
     requires { ⌜ row < 128 ⌝ }
     ensures { λ r. ⌜ r ≡ kindAt (now (monitor .entry)) row ⌝ }
 {
@@ -179,7 +171,6 @@ pub fn kind_at(monitor: &[u64; SIZE], row: usize) -> u64
 }
 
 pub fn arg_at(monitor: &[u64; SIZE], row: usize) -> usize
-    requires { ⌜ length (now monitor) ≡ SIZE ⌝ }
     requires { ⌜ row < 128 ⌝ }
     ensures { λ r. ⌜ r ≡ argAt (now (monitor .entry)) row ⌝ }
 {
@@ -187,7 +178,6 @@ pub fn arg_at(monitor: &[u64; SIZE], row: usize) -> usize
 }
 
 pub fn lower_at(monitor: &[u64; SIZE], row: usize) -> u64
-    requires { ⌜ length (now monitor) ≡ SIZE ⌝ }
     requires { ⌜ row < 128 ⌝ }
     ensures { λ r. ⌜ r ≡ lowerAt (now (monitor .entry)) row ⌝ }
 {
@@ -195,7 +185,6 @@ pub fn lower_at(monitor: &[u64; SIZE], row: usize) -> u64
 }
 
 pub fn upper_at(monitor: &[u64; SIZE], row: usize) -> u64
-    requires { ⌜ length (now monitor) ≡ SIZE ⌝ }
     requires { ⌜ row < 128 ⌝ }
     ensures { λ r. ⌜ r ≡ upperAt (now (monitor .entry)) row ⌝ }
 {
@@ -203,7 +192,6 @@ pub fn upper_at(monitor: &[u64; SIZE], row: usize) -> u64
 }
 
 pub fn start_at(monitor: &[u64; SIZE], row: usize) -> usize
-    requires { ⌜ length (now monitor) ≡ SIZE ⌝ }
     requires { ⌜ row < 128 ⌝ }
     ensures { λ r. ⌜ r ≡ startAt (now (monitor .entry)) row ⌝ }
 {
@@ -211,7 +199,6 @@ pub fn start_at(monitor: &[u64; SIZE], row: usize) -> usize
 }
 
 pub fn slot_at(monitor: &[u64; SIZE], row: usize) -> usize
-    requires { ⌜ length (now monitor) ≡ SIZE ⌝ }
     requires { ⌜ row < 128 ⌝ }
     ensures { λ r. ⌜ r ≡ slotAt (now (monitor .entry)) row ⌝ }
 {
@@ -220,7 +207,6 @@ pub fn slot_at(monitor: &[u64; SIZE], row: usize) -> usize
 
 // The operand at a place of the operand section.
 pub fn operand_at(monitor: &[u64; SIZE], place: usize) -> usize
-    requires { ⌜ length (now monitor) ≡ SIZE ⌝ }
     requires { ⌜ place < 128 ⌝ }
     ensures { λ r. ⌜ r ≡ getD (now (monitor .entry)) (OPERANDS + place) 0 ⌝ }
 {
@@ -229,7 +215,6 @@ pub fn operand_at(monitor: &[u64; SIZE], place: usize) -> usize
 
 // The row that a set belongs to.
 pub fn owner_at(monitor: &[u64; SIZE], slot: usize) -> usize
-    requires { ⌜ length (now monitor) ≡ SIZE ⌝ }
     requires { ⌜ slot < 32 ⌝ }
     ensures { λ r. ⌜ r ≡ ownerAt (now (monitor .entry)) slot ⌝ }
 {
@@ -238,7 +223,7 @@ pub fn owner_at(monitor: &[u64; SIZE], slot: usize) -> usize
 
 // The set of a slot.
 pub fn set_at(monitor: &[u64; SIZE], slot: usize) -> &[u64]
-    requires { ⌜ (length (now monitor) ≡ SIZE) × (slot < 32) ⌝ }
+    requires { ⌜ slot < 32 ⌝ }
     ensures { λ r. ⌜ now r ≡ setWords (now (monitor .entry)) slot ⌝ }
 {
     let from = SETS + SET * slot;
@@ -342,7 +327,6 @@ fn operand_output<'a>(
 
 // Whether a row's lower bound is 0.
 fn from_now(monitor: &[u64; SIZE], row: usize) -> bool
-    requires { ⌜ length (now monitor) ≡ SIZE ⌝ }
     requires { ⌜ row < 128 ⌝ }
     ensures { λ r. ⌜ r ≡ eqb (lowerAt (now (monitor .entry)) row) 0 ⌝ }
 {

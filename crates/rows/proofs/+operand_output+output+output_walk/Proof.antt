@@ -10,7 +10,7 @@ use Rattle.pmtl.specs.Book.Row.{neg, implies}
 use Rattle.pmtl.specs.Monitor.{valueRule}
 use Rattle.rows.specs.Memory.{rowCount, argAt, startAt, rowFrom, countOf, isOne, BookKept}
 use Rattle.rows.specs.Walk.{joined}
-use Rattle.rows.proofs.Kept.{Read, span-as, row-inside, first-inside, second-inside, first-below, second-below, span-rest, walk-cons, answer-read, answer-one, answer-two, past-seven, atom-as, some-left}
+use Rattle.rows.proofs.Kept.{Read, span-as, below-128, first-inside, second-inside, first-below, second-below, span-rest, walk-cons, answer-read, answer-one, answer-two, past-seven, atom-as, some-left}
 use Rattle.rows.proofs.Values.{joined-nil, joined-stop, joined-on}
 use Prim.Native.Nat.{ℕ, _≤_, _<_, _+_, _-_, _*_, _^_}
 use borrow.Fn.Kinds.{In}
@@ -96,22 +96,22 @@ told : (t : ℕ) (p : Leaf t) → let s = p .before in
 told t p = let s = p .before in record { kept = s .pre .1 .0; inside = s .pre .1 .1; kind-is = p .kind-at .ensures; arg-is = refl; start-is = refl }
 
 operand-output-kind-at-requires : (t : ℕ) → operand-output-lts.Need-kind-at-requires (operand-output-calls t) (operand-output-at t) operand-output.Post
-operand-output-kind-at-requires t c κs = row-inside (c .pre .1 .0) (c .pre .1 .1)
+operand-output-kind-at-requires t c κs = below-128 (c .pre .1 .0) (c .pre .1 .1)
 
 operand-output-arg-at-requires : (t : ℕ) → operand-output-lts.Need-arg-at-requires (operand-output-calls t) (operand-output-at t) operand-output.Post
-operand-output-arg-at-requires t c κs = let s = c .before .before in row-inside (s .pre .1 .0) (s .pre .1 .1)
+operand-output-arg-at-requires t c κs = let s = c .before .before in below-128 (s .pre .1 .0) (s .pre .1 .1)
 
 operand-output-element-copy-out-result : (t : ℕ) → operand-output-lts.Need-element-copy-out-result (operand-output-calls t) (operand-output-at t) operand-output.Post
 operand-output-element-copy-out-result t c = rw (c .arg-at .ensures) (atom-as (told t (c .before .before)) (c .before .match .keys1))
 
 operand-output-here-at-requires : (t : ℕ) → operand-output-lts.Need-here-at-requires (operand-output-calls t) (operand-output-at t) operand-output.Post
-operand-output-here-at-requires t c κs = let s = c .before .before in row-inside (s .pre .1 .0) (s .pre .1 .1) .1
+operand-output-here-at-requires t c κs = let s = c .before .before in below-128 (s .pre .1 .0) (s .pre .1 .1)
 
 operand-output-here-at-requires-2 : (t : ℕ) → operand-output-lts.Need-here-at-requires-2 (operand-output-calls t) (operand-output-at t) operand-output.Post
-operand-output-here-at-requires-2 t c κs = let s = c .before .before in row-inside (s .pre .1 .0) (s .pre .1 .1) .1
+operand-output-here-at-requires-2 t c κs = let s = c .before .before in below-128 (s .pre .1 .0) (s .pre .1 .1)
 
 operand-output-here-at-requires-3 : (t : ℕ) → operand-output-lts.Need-here-at-requires-3 (operand-output-calls t) (operand-output-at t) operand-output.Post
-operand-output-here-at-requires-3 t c κs = let s = c .before .before in row-inside (s .pre .1 .0) (s .pre .1 .1) .1
+operand-output-here-at-requires-3 t c κs = let s = c .before .before in below-128 (s .pre .1 .0) (s .pre .1 .1)
 
 operand-output-output-requires : (t : ℕ) → operand-output-lts.Need-output-requires (operand-output-calls t) (operand-output-at t) operand-output.Post
 operand-output-output-requires t c κs = let s = c .before .before in (omega (arith, s .pre .0), s .pre .1)
@@ -156,13 +156,13 @@ asks t p lt =
     (row-falls (s .pre .0) lt, (s .pre .1 .0, lt-trans lt (s .pre .1 .1)))
 
 output-kind-at-requires : (t : ℕ) → output-lts.Need-kind-at-requires (output-calls t) (output-at t) output.Post
-output-kind-at-requires t c κs = let s = c in row-inside (s .pre .1 .0) (s .pre .1 .1)
+output-kind-at-requires t c κs = let s = c in below-128 (s .pre .1 .0) (s .pre .1 .1)
 
 output-arg-at-requires : (t : ℕ) → output-lts.Need-arg-at-requires (output-calls t) (output-at t) output.Post
-output-arg-at-requires t c κs = let s = c .before in row-inside (s .pre .1 .0) (s .pre .1 .1)
+output-arg-at-requires t c κs = let s = c .before in below-128 (s .pre .1 .0) (s .pre .1 .1)
 
 output-start-at-requires : (t : ℕ) → output-lts.Need-start-at-requires (output-calls t) (output-at t) output.Post
-output-start-at-requires t c κs = let s = c .before .before in row-inside (s .pre .1 .0) (s .pre .1 .1)
+output-start-at-requires t c κs = let s = c .before .before in below-128 (s .pre .1 .0) (s .pre .1 .1)
 
 output-element-copy-out-result : (t : ℕ) → output-lts.Need-element-copy-out-result (output-calls t) (output-at t) output.Post
 output-element-copy-out-result t c = atom-as (seen t (c .before)) (c .match .keys3)
@@ -199,7 +199,7 @@ output-operand-output-requires-2 t c κs = asks t (c .before .before) (first-bel
 
 output-add-operand-at : (t : ℕ) → output-lts.Need-add-operand-at (output-calls t) (output-at t) output.Post
 unfolding countOf
-output-add-operand-at t c = omega (arith, second-inside (seen t (c .before .before .before .before)) (c .before .before .before .match .keys7) (lit< tt) .1)
+output-add-operand-at t c = omega (arith, second-inside (seen t (c .before .before .before .before)) (c .before .before .before .match .keys7) (lit< tt))
 
 output-operand-at-requires-3 : (t : ℕ) → output-lts.Need-operand-at-requires-3 (output-calls t) (output-at t) output.Post
 unfolding countOf
@@ -210,10 +210,10 @@ unfolding countOf
 output-operand-output-requires-3 t c κs = asks t (c .before .before .before .before .before) (second-below (span-as (seen t (c .before .before .before .before .before)) (c .before .before .before .before .match .keys7)) (lit< tt) (c .operand-at3 .ensures))
 
 output-here-at-requires : (t : ℕ) → output-lts.Need-here-at-requires (output-calls t) (output-at t) output.Post
-output-here-at-requires t c κs = let s = c .before .before .before .before in row-inside (s .pre .1 .0) (s .pre .1 .1) .1
+output-here-at-requires t c κs = let s = c .before .before .before .before in below-128 (s .pre .1 .0) (s .pre .1 .1)
 
 output-here-at-requires-2 : (t : ℕ) → output-lts.Need-here-at-requires-2 (output-calls t) (output-at t) output.Post
-output-here-at-requires-2 t c κs = let s = c .before .before .before .before in row-inside (s .pre .1 .0) (s .pre .1 .1) .1
+output-here-at-requires-2 t c κs = let s = c .before .before .before .before in below-128 (s .pre .1 .0) (s .pre .1 .1)
 
 output-returns : (t : ℕ) → output-lts.Need-returns (output-calls t) (output-at t) output.Post
 unfolding valueRule rowFrom countOf
@@ -264,7 +264,7 @@ output-walk-returns : (t : ℕ) → output-walk-lts.Need-returns (output-walk-ca
 output-walk-returns t c = let s = c .before in rw (c .if1 .taken) (joined-nil (s .args .stop))
 
 output-walk-operand-at-requires : (t : ℕ) → output-walk-lts.Need-operand-at-requires (output-walk-calls t) (output-walk-at t) output-walk.Post
-output-walk-operand-at-requires t c κs = let s = c .before in (s .pre .1 .0 .long, omega (arith, s .pre .1 .1 .1 .inside, c .if1 .left))
+output-walk-operand-at-requires t c κs = let s = c .before in omega (arith, s .pre .1 .1 .1 .inside, c .if1 .left)
 
 output-walk-operand-output-requires : (t : ℕ) → output-walk-lts.Need-operand-output-requires (output-walk-calls t) (output-walk-at t) output-walk.Post
 output-walk-operand-output-requires t c κs =

@@ -13,7 +13,7 @@ use Rattle.pmtl.specs.Book.Row.{neg, implies, historically, once, since}
 use Rattle.pmtl.specs.Settled.{settledTrue, settledFalse}
 use Rattle.rows.specs.Memory.{rowCount, rowFrom, countOf, BookKept}
 use Rattle.rows.specs.Walk.{rangeAt, operandAt, settledSoFar, settledHistorically, settledOnce, settledLeft}
-use Rattle.rows.proofs.Kept.{Read, span-as, first-below, second-below, span-rest, walk-cons, answer-read, answer-one, answer-two, walk-falls, row-falls, operand-falls, rest-falls, past-eight, some-left, row-inside, first-inside, second-inside}
+use Rattle.rows.proofs.Kept.{Read, span-as, first-below, second-below, span-rest, walk-cons, answer-read, answer-one, answer-two, walk-falls, row-falls, operand-falls, rest-falls, past-eight, some-left, below-128, first-inside, second-inside}
 use Rattle.rows.proofs.Settleds.{settled-and, settled-or, settled-stop, settled-on, settled-not, implies-true, historically-false, once-true, once-asked, since-left, since-right}
 use Prim.Native.Nat.{ℕ, _<_, _+_, _*_, _^_}
 use borrow.Fn.Kinds.{In}
@@ -116,13 +116,13 @@ asks t p lt =
     (row-falls (s .pre .0) lt, (s .pre .1 .0, lt-trans lt (s .pre .1 .1)))
 
 settled-kind-at-requires : (t : ℕ) → settled-lts.Need-kind-at-requires (settled-calls t) (settled-at t) settled.Post
-settled-kind-at-requires t c κs = let s = c in row-inside (s .pre .1 .0) (s .pre .1 .1)
+settled-kind-at-requires t c κs = let s = c in below-128 (s .pre .1 .0) (s .pre .1 .1)
 
 settled-arg-at-requires : (t : ℕ) → settled-lts.Need-arg-at-requires (settled-calls t) (settled-at t) settled.Post
-settled-arg-at-requires t c κs = let s = c .before in row-inside (s .pre .1 .0) (s .pre .1 .1)
+settled-arg-at-requires t c κs = let s = c .before in below-128 (s .pre .1 .0) (s .pre .1 .1)
 
 settled-start-at-requires : (t : ℕ) → settled-lts.Need-start-at-requires (settled-calls t) (settled-at t) settled.Post
-settled-start-at-requires t c κs = let s = c .before .before in row-inside (s .pre .1 .0) (s .pre .1 .1)
+settled-start-at-requires t c κs = let s = c .before .before in below-128 (s .pre .1 .0) (s .pre .1 .1)
 
 settled-settled-walk-requires : (t : ℕ) → settled-lts.Need-settled-walk-requires (settled-calls t) (settled-at t) settled.Post
 unfolding countOf
@@ -151,7 +151,7 @@ settled-negated-requires t c κs = search needs
 
 settled-add-operand-at : (t : ℕ) → settled-lts.Need-add-operand-at (settled-calls t) (settled-at t) settled.Post
 unfolding countOf
-settled-add-operand-at t c = omega (arith, second-inside (seen t (c .before)) (c .match .keys7) (lit< tt) .1)
+settled-add-operand-at t c = omega (arith, second-inside (seen t (c .before)) (c .match .keys7) (lit< tt))
 
 settled-operand-at-requires-2 : (t : ℕ) → settled-lts.Need-operand-at-requires-2 (settled-calls t) (settled-at t) settled.Post
 unfolding countOf
@@ -183,7 +183,7 @@ settled-implied-requires : (t : ℕ) → settled-lts.Need-implied-requires (sett
 settled-implied-requires t c κs = search needs
 
 settled-covers-alone-requires : (t : ℕ) → settled-lts.Need-covers-alone-requires (settled-calls t) (settled-at t) settled.Post
-settled-covers-alone-requires t c κs = let s = c .before .before .before .before in row-inside (s .pre .1 .0) (s .pre .1 .1) .1
+settled-covers-alone-requires t c κs = let s = c .before .before .before .before in below-128 (s .pre .1 .0) (s .pre .1 .1)
 
 settled-returns-2 : (t : ℕ) → settled-lts.Need-returns-2 (settled-calls t) (settled-at t) settled.Post
 unfolding rowFrom countOf
@@ -200,19 +200,19 @@ unfolding countOf
 settled-settled-requires-4 t c κs = asks t (c .before .before .before .before) (first-below (span-as (seen t (c .before .before .before .before)) (c .before .before .before .match .keys8)) (lit< tt) (c .operand-at4 .ensures))
 
 settled-from-now-requires : (t : ℕ) → settled-lts.Need-from-now-requires (settled-calls t) (settled-at t) settled.Post
-settled-from-now-requires t c κs = let s = c .before .before .before .before .before .before .before .before in row-inside (s .pre .1 .0) (s .pre .1 .1)
+settled-from-now-requires t c κs = let s = c .before .before .before .before .before .before .before .before in below-128 (s .pre .1 .0) (s .pre .1 .1)
 
 settled-covers-at-requires : (t : ℕ) → settled-lts.Need-covers-at-requires (settled-calls t) (settled-at t) settled.Post
-settled-covers-at-requires t c κs = let s = c .before .before .before .before .before .before .before .before .before in row-inside (s .pre .1 .0) (s .pre .1 .1) .1
+settled-covers-at-requires t c κs = let s = c .before .before .before .before .before .before .before .before .before in below-128 (s .pre .1 .0) (s .pre .1 .1)
 
 settled-gone-at-requires : (t : ℕ) → settled-lts.Need-gone-at-requires (settled-calls t) (settled-at t) settled.Post
-settled-gone-at-requires t c κs = let s = c .before .before .before .before .before .before .before .before .before .before in row-inside (s .pre .1 .0) (s .pre .1 .1) .1
+settled-gone-at-requires t c κs = let s = c .before .before .before .before .before .before .before .before .before .before in below-128 (s .pre .1 .0) (s .pre .1 .1)
 
 settled-settled-historically-requires : (t : ℕ) → settled-lts.Need-settled-historically-requires (settled-calls t) (settled-at t) settled.Post
 settled-settled-historically-requires t c κs = search needs
 
 settled-covers-at-requires-2 : (t : ℕ) → settled-lts.Need-covers-at-requires-2 (settled-calls t) (settled-at t) settled.Post
-settled-covers-at-requires-2 t c κs = let s = c .before .before .before .before in row-inside (s .pre .1 .0) (s .pre .1 .1) .1
+settled-covers-at-requires-2 t c κs = let s = c .before .before .before .before in below-128 (s .pre .1 .0) (s .pre .1 .1)
 
 settled-returns-3 : (t : ℕ) → settled-lts.Need-returns-3 (settled-calls t) (settled-at t) settled.Post
 unfolding rowFrom countOf
@@ -229,10 +229,10 @@ unfolding countOf
 settled-settled-requires-5 t c κs = asks t (c .before .before .before .before) (first-below (span-as (seen t (c .before .before .before .before)) (c .before .before .before .match .keys9)) (lit< tt) (c .operand-at5 .ensures))
 
 settled-from-now-requires-2 : (t : ℕ) → settled-lts.Need-from-now-requires-2 (settled-calls t) (settled-at t) settled.Post
-settled-from-now-requires-2 t c κs = let s = c .before .before .before .before .before .before .before .before in row-inside (s .pre .1 .0) (s .pre .1 .1)
+settled-from-now-requires-2 t c κs = let s = c .before .before .before .before .before .before .before .before in below-128 (s .pre .1 .0) (s .pre .1 .1)
 
 settled-gone-at-requires-2 : (t : ℕ) → settled-lts.Need-gone-at-requires-2 (settled-calls t) (settled-at t) settled.Post
-settled-gone-at-requires-2 t c κs = let s = c .before .before .before .before .before .before .before .before .before in row-inside (s .pre .1 .0) (s .pre .1 .1) .1
+settled-gone-at-requires-2 t c κs = let s = c .before .before .before .before .before .before .before .before .before in below-128 (s .pre .1 .0) (s .pre .1 .1)
 
 settled-settled-once-requires : (t : ℕ) → settled-lts.Need-settled-once-requires (settled-calls t) (settled-at t) settled.Post
 settled-settled-once-requires t c κs = search needs
@@ -317,7 +317,7 @@ left-is t p =
     ∙ ap (λ x. settledLeft (fromNow (range s)) (coversIn (s .args .facts .now) (s .args .row)) x) (left .ensures ∙ ap (answers s) (p .before .before .before .before .operand-at .ensures))
 
 settled-since-operand-at-requires : (t : ℕ) → settled-since-lts.Need-operand-at-requires (settled-since-calls t) (settled-since-at t) settled-since.Post
-settled-since-operand-at-requires t c κs = let s = c in (s .pre .1 .0 .long, omega (arith, s .pre .1 .1 .1 .inside))
+settled-since-operand-at-requires t c κs = let s = c in omega (arith, s .pre .1 .1 .1 .inside)
 
 settled-since-settled-requires : (t : ℕ) → settled-since-lts.Need-settled-requires (settled-since-calls t) (settled-since-at t) settled-since.Post
 settled-since-settled-requires t c κs =
@@ -326,10 +326,10 @@ settled-since-settled-requires t c κs =
     (operand-falls (s .pre .0) lt (lit< tt), (s .pre .1 .0, lt-trans lt (s .pre .1 .1 .0)))
 
 settled-since-from-now-requires : (t : ℕ) → settled-since-lts.Need-from-now-requires (settled-since-calls t) (settled-since-at t) settled-since.Post
-settled-since-from-now-requires t c κs = let s = c .before .before in row-inside (s .pre .1 .0) (s .pre .1 .1 .0)
+settled-since-from-now-requires t c κs = let s = c .before .before in below-128 (s .pre .1 .0) (s .pre .1 .1 .0)
 
 settled-since-covers-at-requires : (t : ℕ) → settled-since-lts.Need-covers-at-requires (settled-since-calls t) (settled-since-at t) settled-since.Post
-settled-since-covers-at-requires t c κs = let s = c .before .before .before in row-inside (s .pre .1 .0) (s .pre .1 .1 .0) .1
+settled-since-covers-at-requires t c κs = let s = c .before .before .before in below-128 (s .pre .1 .0) (s .pre .1 .1 .0)
 
 settled-since-settled-left-requires : (t : ℕ) → settled-since-lts.Need-settled-left-requires (settled-since-calls t) (settled-since-at t) settled-since.Post
 settled-since-settled-left-requires t c κs = search needs
@@ -341,7 +341,7 @@ settled-since-add-operand-at : (t : ℕ) → settled-since-lts.Need-add-operand-
 settled-since-add-operand-at t c = let s = c .before .before .before .before .before .before .before in omega (arith, s .pre .1 .1 .1 .inside)
 
 settled-since-operand-at-requires-2 : (t : ℕ) → settled-since-lts.Need-operand-at-requires-2 (settled-since-calls t) (settled-since-at t) settled-since.Post
-settled-since-operand-at-requires-2 t c κs = let s = c .before .before .before .before .before .before .before in (s .pre .1 .0 .long, omega (arith, s .pre .1 .1 .1 .inside))
+settled-since-operand-at-requires-2 t c κs = let s = c .before .before .before .before .before .before .before in omega (arith, s .pre .1 .1 .1 .inside)
 
 settled-since-settled-requires-2 : (t : ℕ) → settled-since-lts.Need-settled-requires-2 (settled-since-calls t) (settled-since-at t) settled-since.Post
 settled-since-settled-requires-2 t c κs =
@@ -350,10 +350,10 @@ settled-since-settled-requires-2 t c κs =
     (operand-falls (s .pre .0) lt (lit< tt), (s .pre .1 .0, lt-trans lt (s .pre .1 .1 .0)))
 
 settled-since-from-now-requires-2 : (t : ℕ) → settled-since-lts.Need-from-now-requires-2 (settled-since-calls t) (settled-since-at t) settled-since.Post
-settled-since-from-now-requires-2 t c κs = let s = c .before .before .before .before .before .before .before .before .before in row-inside (s .pre .1 .0) (s .pre .1 .1 .0)
+settled-since-from-now-requires-2 t c κs = let s = c .before .before .before .before .before .before .before .before .before in below-128 (s .pre .1 .0) (s .pre .1 .1 .0)
 
 settled-since-gone-at-requires : (t : ℕ) → settled-since-lts.Need-gone-at-requires (settled-since-calls t) (settled-since-at t) settled-since.Post
-settled-since-gone-at-requires t c κs = let s = c .before .before .before .before .before .before .before .before .before .before in row-inside (s .pre .1 .0) (s .pre .1 .1 .0) .1
+settled-since-gone-at-requires t c κs = let s = c .before .before .before .before .before .before .before .before .before .before in below-128 (s .pre .1 .0) (s .pre .1 .1 .0)
 
 settled-since-settled-once-requires : (t : ℕ) → settled-since-lts.Need-settled-once-requires (settled-since-calls t) (settled-since-at t) settled-since.Post
 settled-since-settled-once-requires t c κs = search needs
@@ -377,7 +377,7 @@ unfolding settledSoFar
 settled-walk-returns t c = rw (c .if1 .taken)
 
 settled-walk-operand-at-requires : (t : ℕ) → settled-walk-lts.Need-operand-at-requires (settled-walk-calls t) (settled-walk-at t) settled-walk.Post
-settled-walk-operand-at-requires t c κs = let s = c .before in (s .pre .1 .0 .long, omega (arith, s .pre .1 .1 .1 .inside, c .if1 .left))
+settled-walk-operand-at-requires t c κs = let s = c .before in omega (arith, s .pre .1 .1 .1 .inside, c .if1 .left)
 
 settled-walk-settled-requires : (t : ℕ) → settled-walk-lts.Need-settled-requires (settled-walk-calls t) (settled-walk-at t) settled-walk.Post
 settled-walk-settled-requires t c κs =

@@ -9,7 +9,7 @@ use Rattle.pmtl.specs.Book.Row.{neg, implies, historically, once, since}
 use Rattle.pmtl.specs.Early.{earlyRule}
 use Rattle.rows.specs.Memory.{rowCount, lowerAt, upperAt, rowFrom, countOf, BookKept}
 use Rattle.rows.specs.Walk.{earlySoFar, earlyHistorically, earlyOnce, earlyCovered}
-use Rattle.rows.proofs.Kept.{Read, span-as, first-below, second-below, span-rest, walk-cons, answer-read, answer-one, answer-two, walk-falls, row-falls, operand-falls, rest-falls, past-eight, some-left, row-inside, first-inside, second-inside}
+use Rattle.rows.proofs.Kept.{Read, span-as, first-below, second-below, span-rest, walk-cons, answer-read, answer-one, answer-two, walk-falls, row-falls, operand-falls, rest-falls, past-eight, some-left, below-128, first-inside, second-inside}
 use Rattle.rows.proofs.Earlies.{early-and, early-or, early-stop, early-on, implies-true, since-false, since-open, since-covered}
 use Prim.Native.Nat.{ℕ, _<_, _+_, _*_, _^_}
 use borrow.Fn.Kinds.{In}
@@ -99,13 +99,13 @@ range t p =
     record { lower = lowerAt (s .args .monitor .now) (s .args .row); upper = upperAt (s .args .monitor .now) (s .args .row) }
 
 valuation-kind-at-requires : (t : ℕ) → valuation-lts.Need-kind-at-requires (valuation-calls t) (valuation-at t) valuation.Post
-valuation-kind-at-requires t c κs = let s = c in row-inside (s .pre .1 .0) (s .pre .1 .1)
+valuation-kind-at-requires t c κs = let s = c in below-128 (s .pre .1 .0) (s .pre .1 .1)
 
 valuation-arg-at-requires : (t : ℕ) → valuation-lts.Need-arg-at-requires (valuation-calls t) (valuation-at t) valuation.Post
-valuation-arg-at-requires t c κs = let s = c .before in row-inside (s .pre .1 .0) (s .pre .1 .1)
+valuation-arg-at-requires t c κs = let s = c .before in below-128 (s .pre .1 .0) (s .pre .1 .1)
 
 valuation-start-at-requires : (t : ℕ) → valuation-lts.Need-start-at-requires (valuation-calls t) (valuation-at t) valuation.Post
-valuation-start-at-requires t c κs = let s = c .before .before in row-inside (s .pre .1 .0) (s .pre .1 .1)
+valuation-start-at-requires t c κs = let s = c .before .before in below-128 (s .pre .1 .0) (s .pre .1 .1)
 
 valuation-valuation-walk-requires : (t : ℕ) → valuation-lts.Need-valuation-walk-requires (valuation-calls t) (valuation-at t) valuation.Post
 unfolding countOf
@@ -134,7 +134,7 @@ valuation-negated-requires t c κs = search needs
 
 valuation-add-operand-at : (t : ℕ) → valuation-lts.Need-add-operand-at (valuation-calls t) (valuation-at t) valuation.Post
 unfolding countOf
-valuation-add-operand-at t c = omega (arith, second-inside (seen t (c .before)) (c .match .keys7) (lit< tt) .1)
+valuation-add-operand-at t c = omega (arith, second-inside (seen t (c .before)) (c .match .keys7) (lit< tt))
 
 valuation-operand-at-requires-2 : (t : ℕ) → valuation-lts.Need-operand-at-requires-2 (valuation-calls t) (valuation-at t) valuation.Post
 unfolding countOf
@@ -174,10 +174,10 @@ unfolding countOf
 valuation-valuation-requires-4 t c κs = asks t (c .before .before) (first-below (span-as (seen t (c .before .before)) (c .before .match .keys8)) (lit< tt) (c .operand-at4 .ensures))
 
 valuation-from-now-requires : (t : ℕ) → valuation-lts.Need-from-now-requires (valuation-calls t) (valuation-at t) valuation.Post
-valuation-from-now-requires t c κs = let s = c .before .before .before .before .before .before in row-inside (s .pre .1 .0) (s .pre .1 .1)
+valuation-from-now-requires t c κs = let s = c .before .before .before .before .before .before in below-128 (s .pre .1 .0) (s .pre .1 .1)
 
 valuation-covers-at-requires : (t : ℕ) → valuation-lts.Need-covers-at-requires (valuation-calls t) (valuation-at t) valuation.Post
-valuation-covers-at-requires t c κs = let s = c .before .before .before .before .before .before .before in row-inside (s .pre .1 .0) (s .pre .1 .1) .1
+valuation-covers-at-requires t c κs = let s = c .before .before .before .before .before .before .before in below-128 (s .pre .1 .0) (s .pre .1 .1)
 
 valuation-early-historically-requires : (t : ℕ) → valuation-lts.Need-early-historically-requires (valuation-calls t) (valuation-at t) valuation.Post
 valuation-early-historically-requires t c κs = search needs
@@ -191,17 +191,17 @@ unfolding countOf
 valuation-valuation-requires-5 t c κs = asks t (c .before .before) (first-below (span-as (seen t (c .before .before)) (c .before .match .keys9)) (lit< tt) (c .operand-at5 .ensures))
 
 valuation-from-now-requires-2 : (t : ℕ) → valuation-lts.Need-from-now-requires-2 (valuation-calls t) (valuation-at t) valuation.Post
-valuation-from-now-requires-2 t c κs = let s = c .before .before .before .before .before .before in row-inside (s .pre .1 .0) (s .pre .1 .1)
+valuation-from-now-requires-2 t c κs = let s = c .before .before .before .before .before .before in below-128 (s .pre .1 .0) (s .pre .1 .1)
 
 valuation-covers-at-requires-2 : (t : ℕ) → valuation-lts.Need-covers-at-requires-2 (valuation-calls t) (valuation-at t) valuation.Post
-valuation-covers-at-requires-2 t c κs = let s = c .before .before .before .before .before .before .before in row-inside (s .pre .1 .0) (s .pre .1 .1) .1
+valuation-covers-at-requires-2 t c κs = let s = c .before .before .before .before .before .before .before in below-128 (s .pre .1 .0) (s .pre .1 .1)
 
 valuation-early-once-requires : (t : ℕ) → valuation-lts.Need-early-once-requires (valuation-calls t) (valuation-at t) valuation.Post
 valuation-early-once-requires t c κs = search needs
 
 valuation-add-operand-at-2 : (t : ℕ) → valuation-lts.Need-add-operand-at-2 (valuation-calls t) (valuation-at t) valuation.Post
 unfolding countOf
-valuation-add-operand-at-2 t c = omega (arith, second-inside (seen t (c .before)) (past-eight (seen t (c .before)) (c .match .rest)) (lit< tt) .1)
+valuation-add-operand-at-2 t c = omega (arith, second-inside (seen t (c .before)) (past-eight (seen t (c .before)) (c .match .rest)) (lit< tt))
 
 valuation-operand-at-requires-6 : (t : ℕ) → valuation-lts.Need-operand-at-requires-6 (valuation-calls t) (valuation-at t) valuation.Post
 unfolding countOf
@@ -223,7 +223,7 @@ valuation-returns-2 t c =
     ∙ since-false _ (range t (c .before .before .before .before .before)) _ (right .result) (sym (c .before .is-false .ensures) ∙ c .if2 .taken))
 
 valuation-covers-at-requires-3 : (t : ℕ) → valuation-lts.Need-covers-at-requires-3 (valuation-calls t) (valuation-at t) valuation.Post
-valuation-covers-at-requires-3 t c κs = let s = c .before .before .before .before .before .before .before .before in row-inside (s .pre .1 .0) (s .pre .1 .1) .1
+valuation-covers-at-requires-3 t c κs = let s = c .before .before .before .before .before .before .before .before in below-128 (s .pre .1 .0) (s .pre .1 .1)
 
 valuation-operand-at-requires-7 : (t : ℕ) → valuation-lts.Need-operand-at-requires-7 (valuation-calls t) (valuation-at t) valuation.Post
 unfolding countOf
@@ -234,7 +234,7 @@ unfolding countOf
 valuation-valuation-requires-7 t c κs = asks t (c .before .before .before .before .before .before .before .before) (first-below (span-as (seen t (c .before .before .before .before .before .before .before .before)) (past-eight (seen t (c .before .before .before .before .before .before .before .before)) (c .before .before .before .before .before .before .before .match .rest))) (lit< tt) (c .operand-at7 .ensures))
 
 valuation-from-now-requires-3 : (t : ℕ) → valuation-lts.Need-from-now-requires-3 (valuation-calls t) (valuation-at t) valuation.Post
-valuation-from-now-requires-3 t c κs = let s = c .before .before .before .before .before .before .before .before .before .before .before .before in row-inside (s .pre .1 .0) (s .pre .1 .1)
+valuation-from-now-requires-3 t c κs = let s = c .before .before .before .before .before .before .before .before .before .before .before .before in below-128 (s .pre .1 .0) (s .pre .1 .1)
 
 valuation-early-covered-requires : (t : ℕ) → valuation-lts.Need-early-covered-requires (valuation-calls t) (valuation-at t) valuation.Post
 valuation-early-covered-requires t c κs = search needs
@@ -307,7 +307,7 @@ unfolding earlySoFar
 valuation-walk-returns t c = rw (c .if1 .taken)
 
 valuation-walk-operand-at-requires : (t : ℕ) → valuation-walk-lts.Need-operand-at-requires (valuation-walk-calls t) (valuation-walk-at t) valuation-walk.Post
-valuation-walk-operand-at-requires t c κs = let s = c .before in (s .pre .1 .0 .long, omega (arith, s .pre .1 .1 .1 .inside, c .if1 .left))
+valuation-walk-operand-at-requires t c κs = let s = c .before in omega (arith, s .pre .1 .1 .1 .inside, c .if1 .left)
 
 valuation-walk-valuation-requires : (t : ℕ) → valuation-walk-lts.Need-valuation-requires (valuation-walk-calls t) (valuation-walk-at t) valuation-walk.Post
 valuation-walk-valuation-requires t c κs =

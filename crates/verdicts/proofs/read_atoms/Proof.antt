@@ -16,7 +16,7 @@ abbrev μ-loop : tie.MeasureT-loop
 μ-loop monitor count atoms₀ i₀ atoms i = count - i
 
 width-requires : tie.Need-width-requires Inv-loop μ-loop
-width-requires c κs = c .pre .book .long
+width-requires c κs = tt
 
 loop-holds : tie.Need-loop-holds Inv-loop μ-loop
 loop-holds c = (omega arith, c .width .ensures, filled-start _ 0 256)

@@ -16,19 +16,19 @@ abbrev μ-loop : tie.MeasureT-loop
 μ-loop monitor clock count facts₀ slot₀ facts slot = count - slot
 
 clock-requires : tie.Need-clock-requires Inv-loop μ-loop
-clock-requires c κs = c .pre .book .long
+clock-requires c κs = tt
 
 temporal-count-requires : tie.Need-temporal-count-requires Inv-loop μ-loop
-temporal-count-requires c κs = c .before .pre .book .long
+temporal-count-requires c κs = tt
 
 loop-holds : tie.Need-loop-holds Inv-loop μ-loop
 loop-holds c = (omega arith, c .temporal-count .ensures, c .before .clock .ensures, told-start _)
 
 owner-at-requires : tie.Need-owner-at-requires Inv-loop μ-loop
-owner-at-requires c κs = let k = c .before .before .before .before .pre .book in let l = c .before .loop .inv .1 in let few = k .temporal-few in (k .long, omega arith)
+owner-at-requires c κs = let k = c .before .before .before .before .pre .book in let l = c .before .loop .inv .1 in let few = k .temporal-few in omega arith
 
 set-at-requires : tie.Need-set-at-requires Inv-loop μ-loop
-set-at-requires c κs = let k = c .before .before .before .before .before .pre .book in let l = c .before .before .loop .inv .1 in let few = k .temporal-few in (k .long, omega arith)
+set-at-requires c κs = let k = c .before .before .before .before .before .pre .book in let l = c .before .before .loop .inv .1 in let few = k .temporal-few in omega arith
 
 fact-about-requires : tie.Need-fact-about-requires Inv-loop μ-loop
 fact-about-requires c κs = let k = c .before .before .before .before .before .before .pre in let l = c .before .before .before .loop in let e = l .inv .1 in let few = k .book .temporal-few in subst Good (sym (c .set-at .ensures)) (k .sets (l .slot) (omega arith))

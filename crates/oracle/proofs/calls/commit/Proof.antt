@@ -17,7 +17,7 @@ abbrev μ-loop : tie.MeasureT-loop
 μ-loop monitor₀ clock modes count slot₀ monitor slot = count - slot
 
 temporal-count-requires : tie.Need-temporal-count-requires Inv-loop μ-loop
-temporal-count-requires c κs = c .before .pre .timely .kept .book .long
+temporal-count-requires c κs = tt
 
 loop-holds : tie.Need-loop-holds Inv-loop μ-loop
 loop-holds c = let s = c .before .before in (omega arith, c .temporal-count .ensures, written-start (s .args .monitor .now) _ (s .pre .timely .kept .book .long))

@@ -14,13 +14,13 @@ abbrev μ-loop : tie.MeasureT-loop
 μ-loop monitor clock atoms here₀ count modes₀ slot₀ here modes slot = count - slot
 
 temporal-count-requires : tie.Need-temporal-count-requires Inv-loop μ-loop
-temporal-count-requires c κs = c .pre .kept .book .long
+temporal-count-requires c κs = tt
 
 loop-holds : tie.Need-loop-holds Inv-loop μ-loop
 loop-holds c = let s = c .before in (omega arith, c .temporal-count .ensures, going-start (s .args .monitor .now) (s .pre .kept .book) (s .args .clock) (s .args .atoms .now))
 
 owner-at-requires : tie.Need-owner-at-requires Inv-loop μ-loop
-owner-at-requires c κs = let s = c .before .before .before in let l = c .before .loop in let e = l .inv .1 in let f = s .pre .kept .book .temporal-few in (s .pre .kept .book .long, omega arith)
+owner-at-requires c κs = let s = c .before .before .before in let l = c .before .loop in let e = l .inv .1 in let f = s .pre .kept .book .temporal-few in omega arith
 
 plan-row-requires : tie.Need-plan-row-requires Inv-loop μ-loop
 plan-row-requires c κs = let s = c .before .before .before .before .before in let l = c .before .before .before .loop in record { timely = s .pre; inside = (let e = l .inv .1 in omega arith); owner = c .before .owner-at .ensures }

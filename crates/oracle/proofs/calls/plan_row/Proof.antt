@@ -14,7 +14,7 @@ stop-of-requires : tie.Need-stop-of-requires
 stop-of-requires c κs = slot-bounded (c .before .before .pre)
 
 set-at-requires : tie.Need-set-at-requires
-set-at-requires c κs = let p = c .before .before .before .pre in (p .timely .kept .book .long, slot-small p)
+set-at-requires c κs = slot-small (c .before .before .before .pre)
 
 room-for-requires : tie.Need-room-for-requires
 room-for-requires c κs = let p = c .before .before .before .before .pre in (slot-good p (c .set-at .ensures), slot-long p (c .set-at .ensures))
