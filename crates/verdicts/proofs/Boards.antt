@@ -20,17 +20,16 @@ use Rattle.pmtl.specs.Answer.{bitOf, digitOf}
 use Rattle.pmtl.specs.Sets.{gone}
 use Rattle.pmtl.specs.Monitor.{setAt, value}
 use Rattle.pmtl.proofs.Bools.{and-left, and-right}
-use Rattle.rows.specs.Memory.{ATOMS, PROPERTIES, rowCount, assumeCount, guaranteeCount, begunWord, clockOf, widthWord, temporals, kindAt, slotAt, ownerAt, setWords, bookOf, stateOf, isOne}
+use Rattle.rows.specs.Memory.{PROPERTIES, rowCount, assumeCount, guaranteeCount, begunWord, clockOf, temporals, kindAt, slotAt, ownerAt, setWords, bookOf, stateOf, isOne}
 use Rattle.rows.specs.Facts.{hereIn, coversIn, goneIn, outputOf, valuationOf, settledOf}
-use Rattle.rows.proofs.Listed.{listed-at}
 use Rattle.rows.proofs.Facts.{fact-covers, fact-gone, facts-value, facts-early, facts-settled}
 use Rattle.book.specs.Kept.{Kept}
 use Rattle.verdicts.specs.Verdict.{propertyAt, verdictIn, verdictOf, propertiesIn}
-use Rattle.verdicts.specs.Steps.{atomAt, atomsOf, steps, Here}
+use Rattle.verdicts.specs.Steps.{atomsOf, steps, Here}
 use Rattle.verdicts.specs.Board.{toldAbout, toldOf, retold, agrees, earlyBy, settledBy, Board}
 use Rattle.verdicts.proofs.Filled.{steps-length, steps-at}
 use Rattle.verdicts.proofs.Read.{owner-set}
-use Rattle.verdicts.proofs.Bridge.{property-is, properties-length}
+use Rattle.verdicts.proofs.Bridge.{atom-is, property-is, properties-length}
 
 -- what is so adds nothing
 pub and-with : (a : Bool) {b : Bool} → b ≡ true → (a && b) ≡ a
@@ -149,11 +148,7 @@ module _ {m atoms here : List ℕ} (kept : Kept m) (atoms-are : atoms ≡ atomsO
   unfolding verdictIn bookOf stateOf
   value-of i =
       ap bitOf
-      (facts-value m (stateOf m) here (propertyAt (bookOf m) i) atoms
-      (λ a h.
-      let w : a < widthWord m = let e = kept .book .width in omega arith in
-      let few : a < 256 = let n = kept .book .narrow in omega arith in
-      ap (λ l. isOne (getD l a 0)) atoms-are ∙ ap isOne (listed-at (atomAt m) 0 256 a few) ∙ sym (listed-at (λ j. isOne (getD m (ATOMS + j) 0)) false (widthWord m) a w))
+      (facts-value m (stateOf m) here (propertyAt (bookOf m) i) atoms (atom-is kept atoms-are)
       (λ o l h k. here-said o h k))
 
   pub value-said : {i row : ℕ} → i < assumeCount m + guaranteeCount m → row ≡ getD m (PROPERTIES + i) 0 → {v : Bool} {d : ℕ} → v ≡ outputOf m atoms here row → d ≡ bitOf v

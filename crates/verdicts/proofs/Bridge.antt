@@ -4,62 +4,41 @@ use native.Mathlib.Omega.{arith}
 use native.Mathlib.Decide.{decLt}
 use mathlib.Core.Path.{_≡_, refl, sym, ap, ap₂, _∙_}
 use mathlib.Core.Bool.{Bool, false, cond}
-use mathlib.Core.List.{List, _++_, map}
-use lib.ListN.{length, getD, take, drop, List·getD-map, List·getD-eq-default, length-take, length-drop}
+use mathlib.Core.List.{List, _++_}
+use lib.ListN.{length, getD, take, drop, List·getD-eq-default, length-take, length-drop}
 use lib.Seq.{getD-take, getD-drop, take-add, drop-drop}
 use borrow.Author.Tests.{ne-eqb, lt-ltb, le-ltb}
 use Rattle.numset.specs.Runs.{has, covers}
 use Rattle.pmtl.specs.declared.Answer.{Answer}
 use Rattle.pmtl.specs.declared.Answer.the-variants.{Open}
-use Rattle.pmtl.specs.Book.{Row, rowAt, mapRow, properties}
-use Rattle.pmtl.specs.Book.Row.{never, always, atom, conj, disj, neg, implies, historically, once, since}
+use Rattle.pmtl.specs.Book.{rowAt, mapRow, widthOf, properties}
+use Rattle.pmtl.specs.Book.Row.{atom}
 use Rattle.pmtl.specs.Sets.{gone}
-use Rattle.pmtl.specs.Monitor.{setAt, valueRule, value}
-use Rattle.pmtl.specs.Early.{earlyRule, early}
+use Rattle.pmtl.specs.Monitor.{setAt, value}
+use Rattle.pmtl.specs.Early.{early}
 use Rattle.pmtl.specs.Settled.{settledRule, settled}
 use Rattle.pmtl.proofs.Table.{answer-local}
 use Rattle.pmtl.proofs.Steps.{value-out, early-out, settled-out}
 use Rattle.rows.specs.Memory.{PROPERTIES, ATOMS, part, rowCount, begunWord, clockOf, widthWord, assumeCount, guaranteeCount, isOne, listed, rowsOf, bookOf, stateOf}
 use Rattle.rows.specs.Facts.{hereIn, coversIn, goneIn, outputOf, valuationOf, settledOf}
-use Rattle.rows.proofs.Listed.{listed-at, listed-out}
-use Rattle.rows.proofs.Facts.{fact-here, fact-covers, fact-gone}
+use Rattle.rows.proofs.Listed.{listed-at}
+use Rattle.rows.proofs.Facts.{fact-here, fact-covers, fact-gone, facts-value, facts-early}
 use Rattle.book.specs.Kept.{Kept}
 use Rattle.verdicts.specs.declared.Verdict.{Verdict}
 use Rattle.verdicts.specs.Verdict.{propertyAt, verdictIn, verdictOf, propertiesIn, answersNumber, answersList}
 use Rattle.verdicts.proofs.Filled.{any-default, steps-is}
 use Rattle.verdicts.specs.Steps.{steps, absent, blank, factAt, atomAt, atomsOf, Seen, Answered}
 
--- a value by other atoms of the same numbers
-atoms-same : (xs ys : List Bool) → ((a : ℕ) → getD xs a false ≡ getD ys a false) → (here : Bool) (row : Row Bool) → valueRule xs here row ≡ valueRule ys here row
-unfolding valueRule
-atoms-same xs ys e here never = refl
-atoms-same xs ys e here always = refl
-atoms-same xs ys e here (atom a) = e a
-atoms-same xs ys e here (conj vs) = refl
-atoms-same xs ys e here (disj vs) = refl
-atoms-same xs ys e here (neg v) = refl
-atoms-same xs ys e here (implies l r) = refl
-atoms-same xs ys e here (historically g v) = refl
-atoms-same xs ys e here (once g v) = refl
-atoms-same xs ys e here (since g l r) = refl
-
 -- ---- the answers of a row
-module _ {m atoms facts : List ℕ} (seen : Seen m atoms facts) where
-  atom-is : (a : ℕ) → getD (map isOne atoms) a false ≡ getD (stateOf m .now .atoms) a false
-  unfolding stateOf
-  atom-is a = List·getD-map isOne atoms a 0 ∙ ap (λ l. isOne (getD l a 0)) (seen .atoms-are) ∙ go (decLt a (widthWord m)) (decLt a 256)
-    where
-      go : Dec (a < widthWord m) → Dec (a < 256) → isOne (getD (atomsOf m) a 0) ≡ getD (listed (λ i. isOne (getD m (ATOMS + i) 0)) (widthWord m)) a false
-      go (yes h) few =
-          let narrow = seen .kept .book .narrow in
-          ap isOne (listed-at (atomAt m) 0 256 a (omega arith)) ∙ sym (listed-at (λ i. isOne (getD m (ATOMS + i) 0)) false (widthWord m) a h)
-      go (no h) (yes few) =
-          ap isOne (listed-at (atomAt m) 0 256 a few ∙ seen .kept .tidy .atoms-rest a (omega arith) few)
-          ∙ sym (listed-out (λ i. isOne (getD m (ATOMS + i) 0)) false (widthWord m) a (omega arith))
-      go (no h) (no far) =
-          ap isOne (listed-out (atomAt m) 0 256 a (omega arith))
-          ∙ sym (listed-out (λ i. isOne (getD m (ATOMS + i) 0)) false (widthWord m) a (omega arith))
+-- an atom that the book names, as a byte
+pub atom-is : {m atoms : List ℕ} → Kept m → atoms ≡ atomsOf m → (a : ℕ) → a < widthOf (rowsOf m) → isOne (getD atoms a 0) ≡ getD (stateOf m .now .atoms) a false
+unfolding stateOf
+atom-is {m} kept is a h =
+    let w : a < widthWord m = let e = kept .book .width in omega arith in
+    let few : a < 256 = let n = kept .book .narrow in omega arith in
+    ap (λ l. isOne (getD l a 0)) is ∙ ap isOne (listed-at (atomAt m) 0 256 a few) ∙ sym (listed-at (λ i. isOne (getD m (ATOMS + i) 0)) false (widthWord m) a w)
 
+module _ {m atoms facts : List ℕ} (seen : Seen m atoms facts) where
   fact-is : (r : ℕ) → r < 128 → getD facts r 0 ≡ factAt m r
   fact-is r h = ap (λ l. getD l r 0) (seen .facts-are) ∙ listed-at (factAt m) 0 128 r h
 
@@ -88,14 +67,12 @@ module _ {m atoms facts : List ℕ} (seen : Seen m atoms facts) where
     below o h = let few = seen .kept .book .few in omega arith
 
     pub value-is : outputOf m atoms facts r ≡ value (rowsOf m) (stateOf m) r
-    unfolding value stateOf
-    value-is = answer-local (rowsOf m) false _ _ r (λ o h f.
-        ap (λ x. valueRule (map isOne atoms) x (mapRow f (rowAt (rowsOf m) o))) (here-is o (below o h))
-        ∙ atoms-same (map isOne atoms) (stateOf m .now .atoms) atom-is _ (mapRow f (rowAt (rowsOf m) o)))
+    unfolding stateOf
+    value-is = facts-value m (stateOf m) facts r atoms (atom-is (seen .kept) (seen .atoms-are)) (λ o l h k. here-is o (below o l))
 
     pub early-is : valuationOf m facts r ≡ early (rowsOf m) (stateOf m) r
-    unfolding early stateOf
-    early-is = answer-local (rowsOf m) Open _ _ r (λ o h f. ap (λ x. earlyRule x (mapRow f (rowAt (rowsOf m) o))) (covers-is o (below o h)))
+    unfolding stateOf
+    early-is = facts-early m (stateOf m) facts r (λ o l h k. covers-is o (below o l))
 
     pub settled-is : cond (isOne (begunWord m)) (settledOf m facts r) Open ≡ settled (rowsOf m) (stateOf m) r
     unfolding settled stateOf
