@@ -1,13 +1,12 @@
 -- Laws of a report's lines. Assumes nothing.
 use Prim.Native.Nat.{ℕ, zero, suc, _+_, _-_, _≤_, _<_}
 use mathlib.Core.Path.{_≡_, refl, sym, ap, subst, _∙_}
-use mathlib.Core.Bool.{Bool, true, false}
 use mathlib.Core.List.{List, [], _∷_, _++_, append-nil}
 use native.Mathlib.Omega.{arith}
 use native.Mathlib.Numerals.{add-one}
 use native.Mathlib.Decide.{ℕ-discrete}
 use lib.Dec.{lit≤}
-use lib.ListN.{length, getD, take, drop, length-append, length-take}
+use lib.ListN.{length, getD}
 use borrow.Author.Tests.{eq-eqb, ne-eqb}
 use Rattle.text.specs.Words.{space, lineFeed, badWord, nextWord, supplyFrom}
 use Rattle.text.specs.declared.words.Read.the-variants.{Word, Refused}
@@ -15,11 +14,13 @@ use Rattle.text.specs.Decimals.{decimal}
 use Rattle.text.proofs.Supplies.{word, refused as ended}
 use Rattle.pmtl.specs.declared.Answer.{Answer}
 use Rattle.pmtl.specs.declared.Answer.the-variants.{False, True, Open}
-use Rattle.pmtl.specs.Answer.{bitOf, digitOf}
+use Rattle.pmtl.specs.Answer.{digitOf}
 use Rattle.pmtl.specs.Book.{properties}
-use Rattle.rows.specs.Memory.{PROPERTIES, assumeCount, guaranteeCount, bookOf, stateOf}
+use Rattle.rows.specs.Memory.{bookOf, stateOf}
 use Rattle.book.specs.Kept.{Kept}
 use Rattle.verdicts.specs.Verdict.{verdictOf, propertiesIn}
+use Rattle.verdicts.proofs.Read.{bit-small}
+use Rattle.verdicts.proofs.Bridge.{few-properties}
 use Rattle.writer.specs.Buffer.{Handed}
 use Rattle.writer.specs.Finish.{finish, Wrote}
 use Rattle.writer.proofs.Writes.{and-then}
@@ -44,13 +45,6 @@ module _ (input : List ℕ) (cursor : ℕ) where
   last-end {n} e f = rw (ended input cursor e, ne-eqb n badWord f)
 
 -- ---- the words of the properties
-pub few-properties : {m : List ℕ} → Kept m → length (properties (bookOf m)) ≤ 32
-unfolding bookOf
-few-properties {m} k =
-    let a = length-take (assumeCount m) (drop PROPERTIES m) in
-    let g = length-take (guaranteeCount m) (drop (PROPERTIES + assumeCount m) m) in
-    omega (arith, length-append (take (assumeCount m) (drop PROPERTIES m)) (take (guaranteeCount m) (drop (PROPERTIES + assumeCount m) m)), k .book .assumes-few, k .book .guarantees-few)
-
 -- the words of the first i properties are written
 pub record Wording (values early settled : List ℕ) (count : ℕ) (out₀ : List ℕ) (at : ℕ) (out : List ℕ) (p i : ℕ) : Type 0 where
   pub low : i ≤ count
@@ -86,17 +80,13 @@ digit-small False = lit≤ tt
 digit-small True = lit≤ tt
 digit-small Open = lit≤ tt
 
-bit-small : (b : Bool) → bitOf b ≤ 2
-bit-small true = lit≤ tt
-bit-small false = lit≤ tt
-
 module _ {m values early settled : List ℕ} (said : Said m values early settled) where
   pub said-digits : Kept m → {n : ℕ} → n ≡ propertiesIn m → Digits n values early settled
   said-digits kept e = record {
-    few = let n = few-properties kept in omega arith;
+    few = let n = few-properties m kept in omega arith;
     small = λ i h.
         let l : i < propertiesIn m = omega arith in (
-          subst (λ x. x ≤ 2) (sym (said .values-are i l)) (bit-small (verdictOf m i .value)),
+          (let e = said .values-are i l in let b = bit-small (verdictOf m i .value) in omega arith),
           subst (λ x. x ≤ 2) (sym (said .early-are i l)) (digit-small (verdictOf m i .early)),
           subst (λ x. x ≤ 2) (sym (said .settled-are i l)) (digit-small (verdictOf m i .settled)),
         );

@@ -18,11 +18,10 @@ use Rattle.verdicts.specs.Verdict.{verdictOf, propertiesIn}
 use Rattle.verdicts.specs.Steps.{steps}
 use Rattle.verdicts.specs.Board.{retold, Board}
 use Rattle.verdicts.proofs.Filled.{steps-at}
-use Rattle.verdicts.proofs.Bridge.{properties-length}
+use Rattle.verdicts.proofs.Bridge.{properties-length, few-properties}
 use Rattle.verdicts.proofs.Boards.{early-told, settled-told}
 use Rattle.oracle.specs.Oracle.{Called}
 use Rattle.report.specs.Steps.{Said}
-use Rattle.report.proofs.Lasting.{few-properties}
 
 -- ---- an accepted call has begun
 module _ (b : Rows) (old st : State) (n : Snap) where
@@ -61,7 +60,7 @@ module _ {m : List ℕ} (kept : Kept m) (begun : begunWord m ≡ 1) (told₀ val
       → told ≡ retold m told₀ (temporals m) → Board (bookOf m) told early settled → values ≡ steps (λ i. bitOf (verdictOf m i .value)) values₀ (propertiesIn m)
       → Said m values early settled
   said-now tl vl is board vs = record {
-    values-are = λ i h. ap (λ l. getD l i 0) vs ∙ steps-at (λ j. bitOf (verdictOf m j .value)) values₀ 0 (propertiesIn m) i h (let n = few-properties kept in omega arith);
+    values-are = λ i h. ap (λ l. getD l i 0) vs ∙ steps-at (λ j. bitOf (verdictOf m j .value)) values₀ 0 (propertiesIn m) i h (let n = few-properties m kept in omega arith);
     early-are = λ i h. board .early-are i h ∙ early-told kept told₀ tl is i;
     settled-are = λ i h. board .settled-are i h ∙ settled-told kept told₀ tl is begun i;
   }

@@ -3,7 +3,7 @@ ghost use mathlib.Core.Path.{_≡_};
 ghost use mathlib.Core.List.{map};
 ghost use Prim.Native.Nat.{_+_, _<_};
 ghost use lib.ListN.{getD};
-ghost use Rattle.rows.specs.Memory.{SIZE, OPERANDS, BookKept, rowCount, begunWord, clockOf, widthWord, temporals, assumeCount, guaranteeCount, kindAt, argAt, lowerAt, upperAt, startAt, slotAt, ownerAt, setWords};
+ghost use Rattle.rows.specs.Memory.{SIZE, OPERANDS, BookKept, rowCount, begunWord, clockOf, widthWord, temporals, assumeCount, guaranteeCount, kindAt, argAt, lowerAt, upperAt, startAt, ownerAt, setWords};
 ghost use Rattle.rows.specs.Facts.{hereIn, coversIn, goneIn, outputOf, valuationOf, settledOf};
 ghost use Rattle.rows.specs.Walk.{Span, operandAt, operandsFrom, rangeAt, joined, earlySoFar, settledSoFar, coversAlone};
 ghost use Rattle.pmtl.specs.Book.Row.{since};
@@ -113,13 +113,6 @@ pub fn word(monitor: &[u64; SIZE], at: usize) -> u64
     monitor[at]
 }
 
-// How many rows the book has.
-pub fn row_count(monitor: &[u64; SIZE]) -> usize
-    ensures { λ r. ⌜ r ≡ rowCount (now (monitor .entry)) ⌝ }
-{
-    monitor[ROW_COUNT] as usize
-}
-
 // 1 once a call was accepted.
 pub fn begun(monitor: &[u64; SIZE]) -> u64
     ensures { λ r. ⌜ r ≡ begunWord (now (monitor .entry)) ⌝ }
@@ -196,13 +189,6 @@ pub fn start_at(monitor: &[u64; SIZE], row: usize) -> usize
     ensures { λ r. ⌜ r ≡ startAt (now (monitor .entry)) row ⌝ }
 {
     monitor[ROWS + ROW * row + START] as usize
-}
-
-pub fn slot_at(monitor: &[u64; SIZE], row: usize) -> usize
-    requires { ⌜ row < 128 ⌝ }
-    ensures { λ r. ⌜ r ≡ slotAt (now (monitor .entry)) row ⌝ }
-{
-    monitor[ROWS + ROW * row + SLOT] as usize
 }
 
 // The operand at a place of the operand section.

@@ -29,7 +29,7 @@ use Rattle.verdicts.specs.Steps.{atomsOf, steps, Here}
 use Rattle.verdicts.specs.Board.{toldAbout, toldOf, retold, agrees, earlyBy, settledBy, Board}
 use Rattle.verdicts.proofs.Filled.{steps-length, steps-at}
 use Rattle.verdicts.proofs.Read.{owner-set}
-use Rattle.verdicts.proofs.Bridge.{atom-is, property-is, properties-length}
+use Rattle.verdicts.proofs.Bridge.{atom-is, property-is, few-properties}
 
 -- what is so adds nothing
 pub and-with : (a : Bool) {b : Bool} → b ≡ true → (a && b) ≡ a
@@ -157,17 +157,14 @@ module _ {m atoms here : List ℕ} (kept : Kept m) (atoms-are : atoms ≡ atomsO
 
 -- ---- the digits kept, asked again or not
 module _ {m : List ℕ} (kept : Kept m) where
-  few : propertiesIn m ≤ 32
-  few = let e = properties-length m kept in let a = kept .book .assumes-few in let g = kept .book .guarantees-few in omega arith
-
   pub board-asked : (told early′ settled′ : List ℕ) {early settled : List ℕ} → length told ≡ 128 → length early′ ≡ 32 → length settled′ ≡ 32
       → early ≡ steps (earlyBy (bookOf m) told) early′ (propertiesIn m) → settled ≡ steps (settledBy (bookOf m) told) settled′ (propertiesIn m) → Board (bookOf m) told early settled
   board-asked told early′ settled′ lt le ls ee es = record {
     told-long = lt;
     early-long = ap length ee ∙ steps-length (earlyBy (bookOf m) told) early′ (propertiesIn m) ∙ le;
     settled-long = ap length es ∙ steps-length (settledBy (bookOf m) told) settled′ (propertiesIn m) ∙ ls;
-    early-are = λ i h. ap (λ l. getD l i 0) ee ∙ steps-at (earlyBy (bookOf m) told) early′ 0 (propertiesIn m) i h (let n = few in omega arith);
-    settled-are = λ i h. ap (λ l. getD l i 0) es ∙ steps-at (settledBy (bookOf m) told) settled′ 0 (propertiesIn m) i h (let n = few in omega arith);
+    early-are = λ i h. ap (λ l. getD l i 0) ee ∙ steps-at (earlyBy (bookOf m) told) early′ 0 (propertiesIn m) i h (let n = few-properties m kept in omega arith);
+    settled-are = λ i h. ap (λ l. getD l i 0) es ∙ steps-at (settledBy (bookOf m) told) settled′ 0 (propertiesIn m) i h (let n = few-properties m kept in omega arith);
   }
 
 -- where the rows are told nothing new, they stay

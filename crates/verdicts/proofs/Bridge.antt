@@ -136,7 +136,7 @@ verdict-in {m} seen i h {row} is ev ee es =
     (ap (settled (rowsOf m) (stateOf m)) p ∙ sym (es ∙ settled-is seen row inside))
 
 -- ---- all answers into a lent list
-few-properties : (m : List ℕ) → Kept m → propertiesIn m ≤ 32
+pub few-properties : (m : List ℕ) → Kept m → propertiesIn m ≤ 32
 few-properties m kept = let e = properties-length m kept in let a = kept .book .assumes-few in let g = kept .book .guarantees-few in omega arith
 
 module _ (m : List ℕ) {room count : ℕ} {list : List Verdict} (count-is : count ≡ propertiesIn m) (list-is : list ≡ listed (verdictOf m) 32) where

@@ -1,4 +1,4 @@
--- The answers of all properties as digits, as whoever follows the calls keeps them: by what the rows are told of their sets. Definitions only.
+-- The answers of all properties as digits, as whoever follows the calls keeps them: by what the rows are told of their sets. No entry's contract cites these. Definitions only.
 use Prim.Native.Nat.{ℕ, zero, suc, _<_}
 use mathlib.Core.Path.{_≡_}
 use mathlib.Core.Bool.{Bool, true, false, _&&_}
