@@ -10,12 +10,11 @@ use lib.ListN.{length, getD, length-append, List·getD-append}
 use lib.Seq.{getD-append-add}
 use lib.Dec.{leb, ltb, eqb, lit<}
 use borrow.Author.Tests.{ltb-true, leb-true, leb-false, eqb-true, lt-leb, ne-eqb}
-use Rattle.numset.proofs.Laws.{lt-or-ge}
-use Rattle.numset.specs.Runs.{MAX}
-use Rattle.pmtl.proofs.Bools.{and-left, and-right}
-use Rattle.pmtl.specs.Book.{H, every}
+use Rattle.lists.proofs.Tests.{lt-or-ge, and-left, and-right}
+use Rattle.numbers.specs.Limits.{MAX, LAST-TIME}
+use Rattle.pmtl.specs.Book.{every}
 use Rattle.pmtl.specs.Answer.{bitOf}
-use Rattle.rows.specs.Memory.{temporal, countOf}
+use Rattle.book.specs.Rows.{temporal, countOf}
 use Rattle.book.specs.Reading.{Sections}
 use Rattle.book.specs.Judging.{kindIn, argIn, lowerIn, upperIn, rowsIn, temporalsIn, startIn, firstTo, allTo, argGood, formGood, rangeGood, rowNumber, operandsGood, linksGood, timesIn, usesOf, usedOnce, judged}
 use Rattle.book.proofs.Tests.{passed, after-passed, not-held, first-none, then-none}
@@ -75,17 +74,17 @@ bounds-none kind arg lower upper l h =
 -- ---- what a good range says
 pub range-ordered : (lower upper : ℕ) → rangeGood lower upper ≡ true → lower ≤ upper
 unfolding rangeGood
-range-ordered lower upper h = leb-true _ _ (and-left _ _ (and-left (leb lower upper && leb lower H) _ h))
+range-ordered lower upper h = leb-true _ _ (and-left _ _ (and-left (leb lower upper && leb lower LAST-TIME) _ h))
 
-pub lower-small : (lower upper : ℕ) → rangeGood lower upper ≡ true → lower ≤ H
+pub lower-small : (lower upper : ℕ) → rangeGood lower upper ≡ true → lower ≤ LAST-TIME
 unfolding rangeGood
-lower-small lower upper h = leb-true _ _ (and-right (leb lower upper) _ (and-left (leb lower upper && leb lower H) _ h))
+lower-small lower upper h = leb-true _ _ (and-right (leb lower upper) _ (and-left (leb lower upper && leb lower LAST-TIME) _ h))
 
-pub upper-small : (lower upper : ℕ) → rangeGood lower upper ≡ true → (upper ≡ MAX → ⊥) → upper ≤ H
+pub upper-small : (lower upper : ℕ) → rangeGood lower upper ≡ true → (upper ≡ MAX → ⊥) → upper ≤ LAST-TIME
 unfolding rangeGood
-upper-small lower upper h finite = leb-true _ _ (other _ _ finite (and-right (leb lower upper && leb lower H) _ h))
+upper-small lower upper h finite = leb-true _ _ (other _ _ finite (and-right (leb lower upper && leb lower LAST-TIME) _ h))
   where
-    other : (a b : ℕ) → (a ≡ b → ⊥) → (eqb a b || leb a H) ≡ true → leb a H ≡ true
+    other : (a b : ℕ) → (a ≡ b → ⊥) → (eqb a b || leb a LAST-TIME) ≡ true → leb a LAST-TIME ≡ true
     other a b differ h = rw (ne-eqb a b differ) at h
 
 -- ---- the first operands of a row are those after the rows' before it

@@ -10,10 +10,10 @@ use native.Mathlib.Omega.{arith}
 use lib.ListN.{length, getD}
 use lib.Dec.{ltb}
 use borrow.Author.Tests.{lt-ltb, le-ltb}
-use Rattle.pmtl.proofs.Bools.{and-intro, and-no-left, and-no-right}
+use Rattle.lists.proofs.Tests.{and-intro, and-no-left, and-no-right}
 use Rattle.pmtl.specs.Book.{every}
 use Rattle.book.specs.Judging.{allTo}
-use Rattle.book.specs.Steps.{allBelow}
+use Rattle.book.specs.Private.{allBelow}
 use Rattle.book.proofs.Tests.{Answers, due, undue}
 
 module _ (f : ℕ → Bool) where

@@ -8,12 +8,11 @@ use native.Mathlib.Omega.{arith}
 use lib.ListN.{getD}
 use lib.Dec.{leb, eqb, lit<, leb·zero, leb·suc-zero, leb·suc-suc, eqb·zero-suc, eqb·suc-zero, eqb·suc-suc}
 use borrow.Author.Tests.{le-leb, lt-leb, eq-eqb, ne-eqb}
-use Rattle.numset.specs.Runs.{MAX}
-use Rattle.pmtl.proofs.Bools.{fails-by, and-intro, and-no-left, and-no-right}
-use Rattle.pmtl.specs.Book.{H}
-use Rattle.rows.specs.Memory.{temporal}
+use Rattle.numbers.specs.Limits.{MAX, LAST-TIME}
+use Rattle.lists.proofs.Tests.{fails-by, and-intro, and-no-left, and-no-right}
+use Rattle.book.specs.Rows.{temporal}
 use Rattle.book.specs.Judging.{kindIn, argIn, lowerIn, upperIn, temporalsIn, argGood, formGood, rangeGood, rowNumber}
-use Rattle.book.specs.Steps.{refusal, leastArgs, largestArgs}
+use Rattle.book.specs.Private.{numberUnless, leastArgs, largestArgs}
 use Rattle.book.proofs.Tests.{Answers, due, undue, good, stands, carried, goes-on}
 use Rattle.book.proofs.Accepted.{arg-kind}
 
@@ -87,21 +86,21 @@ module _ (lower upper : ℕ) where
   unfolding rangeGood
   upside-down l = due (rangeGood lower upper) 4 (rw (lt-leb lower upper l))
 
-  pub late : lower ≤ upper → H < lower → Answers 4 4 (rangeGood lower upper)
+  pub late : lower ≤ upper → LAST-TIME < lower → Answers 4 4 (rangeGood lower upper)
   unfolding rangeGood
-  late l m = due (rangeGood lower upper) 4 (rw (le-leb lower upper l, lt-leb lower H m))
+  late l m = due (rangeGood lower upper) 4 (rw (le-leb lower upper l, lt-leb lower LAST-TIME m))
 
-  pub unbounded : lower ≤ upper → lower ≤ H → upper ≡ MAX → Answers 0 4 (rangeGood lower upper)
+  pub unbounded : lower ≤ upper → lower ≤ LAST-TIME → upper ≡ MAX → Answers 0 4 (rangeGood lower upper)
   unfolding rangeGood
-  unbounded l m e = undue (rangeGood lower upper) 4 (rw (le-leb lower upper l, le-leb lower H m, eq-eqb upper MAX e))
+  unbounded l m e = undue (rangeGood lower upper) 4 (rw (le-leb lower upper l, le-leb lower LAST-TIME m, eq-eqb upper MAX e))
 
-  pub far : lower ≤ upper → lower ≤ H → (upper ≡ MAX → ⊥) → H < upper → Answers 4 4 (rangeGood lower upper)
+  pub far : lower ≤ upper → lower ≤ LAST-TIME → (upper ≡ MAX → ⊥) → LAST-TIME < upper → Answers 4 4 (rangeGood lower upper)
   unfolding rangeGood
-  far l m e u = due (rangeGood lower upper) 4 (rw (le-leb lower upper l, le-leb lower H m, ne-eqb upper MAX e, lt-leb upper H u))
+  far l m e u = due (rangeGood lower upper) 4 (rw (le-leb lower upper l, le-leb lower LAST-TIME m, ne-eqb upper MAX e, lt-leb upper LAST-TIME u))
 
-  pub finite : lower ≤ upper → lower ≤ H → (upper ≡ MAX → ⊥) → upper ≤ H → Answers 0 4 (rangeGood lower upper)
+  pub finite : lower ≤ upper → lower ≤ LAST-TIME → (upper ≡ MAX → ⊥) → upper ≤ LAST-TIME → Answers 0 4 (rangeGood lower upper)
   unfolding rangeGood
-  finite l m e u = undue (rangeGood lower upper) 4 (rw (le-leb lower upper l, le-leb lower H m, ne-eqb upper MAX e, le-leb upper H u))
+  finite l m e u = undue (rangeGood lower upper) 4 (rw (le-leb lower upper l, le-leb lower LAST-TIME m, ne-eqb upper MAX e, le-leb upper LAST-TIME u))
 
 -- ---- 2: room for one more temporal row
 module _ (kind temporals : ℕ) where
@@ -114,7 +113,7 @@ module _ (kind temporals : ℕ) where
   pub none-left : 7 ≤ kind → 32 ≤ temporals → Answers 2 2 (not (temporal kind && leb 32 temporals))
   none-left l m = due (not (temporal kind && leb 32 temporals)) 2 (rw (le-leb 7 kind l, le-leb 32 temporals m))
 
-twice-not : (b : Bool) → refusal 2 (not b) ≡ cond b 2 0
+twice-not : (b : Bool) → numberUnless 2 (not b) ≡ cond b 2 0
 twice-not true = refl
 twice-not false = refl
 

@@ -7,7 +7,7 @@ use lib.Dec.{lit<}
 use Rattle.book.specs.Reading.{Sections}
 use Rattle.book.specs.Judging.{rowsIn, firstTo, rowNumber, linksGood, usedOnce, judged, Loaded, loaded}
 use Rattle.book.specs.Placing.{partsOf, Placed}
-use Rattle.book.specs.Steps.{Told}
+use Rattle.book.specs.Private.{Counting}
 use Rattle.book.proofs.Tests.{Answers, good, stands, goes-on}
 use Rattle.book.proofs.Rows.{stays}
 use Rattle.book.proofs.Placing.{number-judged, loaded-from}
@@ -31,7 +31,7 @@ module _ (s : Sections) (w₁ : ℕ) (e₁ : w₁ ≡ firstTo (rowNumber (s .row
     by-uses z₂ w e = rw (← e₁, z₁) (goes-on (linksGood s) 5 _ w (linked z₂) e)
 
 -- ---- words placed: refused as they were read, refused as they were judged, accepted
-module _ (words : List ℕ) (number n o a g : ℕ) (t : Told words number n o a g) where
+module _ (words : List ℕ) (number n o a g : ℕ) (t : Counting words number n o a g) where
   pub unread : (number ≡ 0 → ⊥) → Placed words number n o a g
   unread wrong = record {
     number-is = sym (ap (λ (l : Loaded). l .number) (t .refused-with wrong));

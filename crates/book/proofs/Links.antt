@@ -9,12 +9,12 @@ use native.Mathlib.Omega.{arith}
 use lib.ListN.{length}
 use lib.Dec.{ltb, eqb, lit<}
 use borrow.Author.Tests.{eq-eqb, ne-eqb, eqb-true}
-use Rattle.pmtl.proofs.Bools.{and-intro, and-no-left, and-no-right}
+use Rattle.lists.proofs.Tests.{and-intro, and-no-left, and-no-right}
 use Rattle.pmtl.specs.Book.{every}
-use Rattle.rows.specs.Memory.{countOf}
+use Rattle.book.specs.Rows.{countOf}
 use Rattle.book.specs.Judging.{kindIn, argIn, startIn, firstTo, allTo, argGood, rowNumber, operandsGood, linksGood}
 use Rattle.book.specs.Placing.{sectionsOf}
-use Rattle.book.specs.Steps.{allBelow, operandsMet}
+use Rattle.book.specs.Private.{allBelow, operandsMet}
 use Rattle.book.proofs.Tests.{Answers, due, undue, good, carried}
 use Rattle.book.proofs.Accepted.{start-mono, first-each, row-form, form-arg, arg-kind}
 use Rattle.book.proofs.All.{all-fails, every-all, every-append}

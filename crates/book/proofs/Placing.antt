@@ -9,11 +9,11 @@ use lib.Seq.{length-take-le}
 use lib.Dec.{eqb}
 use borrow.Author.Tests.{eqb-true}
 use Rattle.pmtl.specs.Book.{Book}
-use Rattle.rows.specs.Memory.{part}
+use Rattle.lists.specs.Lists.{part}
 use Rattle.book.specs.Reading.{Read, got, refused, Sections, sections}
 use Rattle.book.specs.Judging.{rowsIn, judged, bookIn, Loaded, refusedWith, loadedFrom, whole, loaded}
 use Rattle.book.specs.Placing.{partsOf, Counted, Placed}
-use Rattle.book.specs.Steps.{Few}
+use Rattle.book.specs.Private.{Few}
 
 -- ---- what is loaded, by the number
 abbrev picked : Bool → ℕ → Book → Loaded

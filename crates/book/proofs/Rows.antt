@@ -6,7 +6,7 @@ use Prim.Native.Nat.{ℕ, zero, suc, _+_, _<_}
 use native.Mathlib.Nat.{le-of-suc-le-suc, not-suc-le-zero, eq-or-lt-of-le}
 use native.Mathlib.Numerals.{add-one}
 use Rattle.pmtl.specs.Answer.{bitOf}
-use Rattle.rows.specs.Memory.{temporal}
+use Rattle.book.specs.Rows.{temporal}
 use Rattle.book.specs.Judging.{kindIn, temporalsIn, firstOf, firstTo}
 
 -- the first that is not 0 stands

@@ -7,14 +7,14 @@ use native.Mathlib.Omega.{arith}
 use lib.ListN.{length, getD, drop, length-drop, drop-of-length-le}
 use lib.Seq.{drop-cons, drop-drop}
 use borrow.Author.Tests.{lt-ltb, le-ltb}
-use Rattle.rows.specs.Memory.{part}
-use Rattle.book.specs.Reading.{got, refused, section, next, sections}
+use Rattle.lists.specs.Lists.{part}
+use Rattle.book.specs.Reading.{got, refused, section, next, Sections, sections}
 use Rattle.book.specs.Judging.{refusedWith, whole, loaded}
 use Rattle.book.specs.Placing.{partsOf, sectionsOf}
-use Rattle.book.specs.Steps.{Told, SectionTold}
+use Rattle.book.specs.Private.{Counting, SectionCounting}
 
 module _ (words : List ℕ) (at limit size number count next : ℕ) where
-  refuses : (number ≡ 0 → ⊥) → next ≡ 0 → section 1 limit size (drop at words) ≡ refused number → SectionTold words at limit size number count next
+  refuses : (number ≡ 0 → ⊥) → next ≡ 0 → section 1 limit size (drop at words) ≡ refused number → SectionCounting words at limit size number count next
   refuses wrong start e = record {
     inside = omega arith;
     few = λ z. absurd (wrong z);
@@ -27,18 +27,18 @@ module _ (words : List ℕ) (at limit size number count next : ℕ) where
   at-count n e l = rw (add-one, drop-cons words at 0, e)
 
   -- no count
-  pub ended : number ≡ 1 → next ≡ 0 → length words ≤ at → SectionTold words at limit size number count next
+  pub ended : number ≡ 1 → next ≡ 0 → length words ≤ at → SectionCounting words at limit size number count next
   unfolding section
   ended z start l = refuses (omega arith) start (rw (drop-of-length-le words l, z))
 
   -- a count past its limit
-  pub too-many : number ≡ 2 → next ≡ 0 → (n : ℕ) → n ≡ getD words at 0 → at < length words → limit < n → SectionTold words at limit size number count next
+  pub too-many : number ≡ 2 → next ≡ 0 → (n : ℕ) → n ≡ getD words at 0 → at < length words → limit < n → SectionCounting words at limit size number count next
   unfolding section
   too-many z start n e l m = refuses (omega arith) start (rw (at-count n e l, lt-ltb limit n m, z))
 
   -- too few words after the count
   pub too-short : number ≡ 1 → next ≡ 0 → (n : ℕ) → n ≡ getD words at 0 → at < length words → n ≤ limit → length words < at + 1 + size * n
-      → SectionTold words at limit size number count next
+      → SectionCounting words at limit size number count next
   unfolding section
   too-short z start n e l m short =
       refuses (omega arith) start
@@ -46,7 +46,7 @@ module _ (words : List ℕ) (at limit size number count next : ℕ) where
 
 -- enough words
 pub enough : (words : List ℕ) (at limit size n : ℕ) → n ≡ getD words at 0 → at < length words → n ≤ limit → at + 1 + size * n ≤ length words
-    → SectionTold words at limit size 0 n (at + 1 + size * n)
+    → SectionCounting words at limit size 0 n (at + 1 + size * n)
 unfolding section
 enough words at limit size n e l m fits = record {
   inside = fits;
@@ -57,39 +57,39 @@ enough words at limit size n e l m fits = record {
   refused-with = λ w. absurd (w refl);
 }
 
--- ---- the four sections in turn: what is told where the reading ends in one of them
+-- ---- the four sections in turn: what is counted where the reading ends in one of them
 module _ (words : List ℕ) (k number n o a g : ℕ) (none : (number ≡ k) × (n ≡ 0) × (o ≡ 0) × (a ≡ 0) × (g ≡ 0)) where
-  told-refused : (k ≡ 0 → ⊥) → loaded words ≡ refusedWith k → Told words number n o a g
-  told-refused wrong e = record {
+  counting-refused : (k ≡ 0 → ⊥) → loaded words ≡ refusedWith k → Counting words number n o a g
+  counting-refused wrong e = record {
     counted = λ z. absurd (wrong (sym (none .0) ∙ z));
     refused-with = λ w. rw (none .0) e;
     none = λ w. (none .1, none .2, none .3, none .4);
   }
 
-  pub in-rows : {c₁ x₁ : ℕ} → SectionTold words 0 128 4 k c₁ x₁ → (k ≡ 0 → ⊥) → Told words number n o a g
+  pub in-rows : {c₁ x₁ : ℕ} → SectionCounting words 0 128 4 k c₁ x₁ → (k ≡ 0 → ⊥) → Counting words number n o a g
   unfolding loaded sections next whole
-  in-rows t₁ wrong = told-refused wrong (rw (t₁ .refused-with wrong))
+  in-rows t₁ wrong = counting-refused wrong (rw (t₁ .refused-with wrong))
 
-  module _ {k₁ c₁ x₁ : ℕ} (t₁ : SectionTold words 0 128 4 k₁ c₁ x₁) (z₁ : k₁ ≡ 0) where
-    pub in-operands : {c₂ x₂ : ℕ} → SectionTold words x₁ 128 1 k c₂ x₂ → (k ≡ 0 → ⊥) → Told words number n o a g
+  module _ {k₁ c₁ x₁ : ℕ} (t₁ : SectionCounting words 0 128 4 k₁ c₁ x₁) (z₁ : k₁ ≡ 0) where
+    pub in-operands : {c₂ x₂ : ℕ} → SectionCounting words x₁ 128 1 k c₂ x₂ → (k ≡ 0 → ⊥) → Counting words number n o a g
     unfolding loaded sections next whole
-    in-operands t₂ wrong = told-refused wrong (rw (t₁ .read z₁, t₂ .refused-with wrong))
+    in-operands t₂ wrong = counting-refused wrong (rw (t₁ .read z₁, t₂ .refused-with wrong))
 
-    module _ {k₂ c₂ x₂ : ℕ} (t₂ : SectionTold words x₁ 128 1 k₂ c₂ x₂) (z₂ : k₂ ≡ 0) where
-      pub in-assumes : {c₃ x₃ : ℕ} → SectionTold words x₂ 16 1 k c₃ x₃ → (k ≡ 0 → ⊥) → Told words number n o a g
+    module _ {k₂ c₂ x₂ : ℕ} (t₂ : SectionCounting words x₁ 128 1 k₂ c₂ x₂) (z₂ : k₂ ≡ 0) where
+      pub in-assumes : {c₃ x₃ : ℕ} → SectionCounting words x₂ 16 1 k c₃ x₃ → (k ≡ 0 → ⊥) → Counting words number n o a g
       unfolding loaded sections next whole
-      in-assumes t₃ wrong = told-refused wrong (rw (t₁ .read z₁, t₂ .read z₂, t₃ .refused-with wrong))
+      in-assumes t₃ wrong = counting-refused wrong (rw (t₁ .read z₁, t₂ .read z₂, t₃ .refused-with wrong))
 
-      module _ {k₃ c₃ x₃ : ℕ} (t₃ : SectionTold words x₂ 16 1 k₃ c₃ x₃) (z₃ : k₃ ≡ 0) where
-        pub in-guarantees : {c₄ x₄ : ℕ} → SectionTold words x₃ 16 1 k c₄ x₄ → (k ≡ 0 → ⊥) → Told words number n o a g
+      module _ {k₃ c₃ x₃ : ℕ} (t₃ : SectionCounting words x₂ 16 1 k₃ c₃ x₃) (z₃ : k₃ ≡ 0) where
+        pub in-guarantees : {c₄ x₄ : ℕ} → SectionCounting words x₃ 16 1 k c₄ x₄ → (k ≡ 0 → ⊥) → Counting words number n o a g
         unfolding loaded sections next whole
-        in-guarantees t₄ wrong = told-refused wrong (rw (t₁ .read z₁, t₂ .read z₂, t₃ .read z₃, t₄ .refused-with wrong))
+        in-guarantees t₄ wrong = counting-refused wrong (rw (t₁ .read z₁, t₂ .read z₂, t₃ .read z₃, t₄ .refused-with wrong))
 
         -- words are left over
-        pub left-over : {k₄ c₄ x₄ : ℕ} → SectionTold words x₃ 16 1 k₄ c₄ x₄ → k₄ ≡ 0 → k ≡ 1 → x₄ < length words → Told words number n o a g
+        pub left-over : {k₄ c₄ x₄ : ℕ} → SectionCounting words x₃ 16 1 k₄ c₄ x₄ → k₄ ≡ 0 → k ≡ 1 → x₄ < length words → Counting words number n o a g
         unfolding loaded sections next whole
         left-over {k₄} {c₄} {x₄} t₄ z₄ one l =
-            told-refused (omega arith)
+            counting-refused (omega arith)
             (rw (t₁ .read z₁, t₂ .read z₂, t₃ .read z₃, t₄ .read z₄, drop-cons words x₄ 0 l, one))
 
 -- ---- sections that stand where partsOf has them
@@ -101,17 +101,39 @@ pub in-place : (words : List ℕ) (n o a g : ℕ) {x₁ x₂ x₃ x₄ : List �
 unfolding partsOf
 in-place words n o a g p₂ p₃ p₄ e₁ e₂ e₃ e₄ q₂ q₃ q₄ = rw (e₁, e₂, e₃, e₄, q₂, q₃, q₄)
 
+-- ---- each section by itself, at a place that is worked out otherwise
+pub rows-at : (words : List ℕ) (n o a g : ℕ) {x : List ℕ} → x ≡ part 1 (4 * n) words → x ≡ partsOf words n o a g .rows
+unfolding partsOf
+rows-at words n o a g e = e
+
+module _ (words : List ℕ) (n o a g p : ℕ) {x : List ℕ} where
+  pub operands-at : x ≡ part p o words → p ≡ 4 * n + 2 → x ≡ partsOf words n o a g .operands
+  unfolding partsOf
+  operands-at e q = rw (e, q)
+
+  pub assumes-at : x ≡ part p a words → p ≡ 4 * n + o + 3 → x ≡ partsOf words n o a g .assumes
+  unfolding partsOf
+  assumes-at e q = rw (e, q)
+
+  pub guarantees-at : x ≡ part p g words → p ≡ 4 * n + o + a + 4 → x ≡ partsOf words n o a g .guarantees
+  unfolding partsOf
+  guarantees-at e q = rw (e, q)
+
+-- and the four together
+pub sections-are : {s : Sections} {x₁ x₂ x₃ x₄ : List ℕ} → x₁ ≡ s .rows → x₂ ≡ s .operands → x₃ ≡ s .assumes → x₄ ≡ s .guarantees → sectionsOf x₁ x₂ x₃ x₄ ≡ s
+sections-are e₁ e₂ e₃ e₄ = rw (e₁, e₂, e₃, e₄)
+
 -- ---- where all were read, to the last word
 module _
     (words : List ℕ)
     {k₁ c₁ x₁ k₂ c₂ x₂ k₃ c₃ x₃ k₄ c₄ x₄ : ℕ}
-    (t₁ : SectionTold words 0 128 4 k₁ c₁ x₁)
+    (t₁ : SectionCounting words 0 128 4 k₁ c₁ x₁)
     (z₁ : k₁ ≡ 0)
-    (t₂ : SectionTold words x₁ 128 1 k₂ c₂ x₂)
+    (t₂ : SectionCounting words x₁ 128 1 k₂ c₂ x₂)
     (z₂ : k₂ ≡ 0)
-    (t₃ : SectionTold words x₂ 16 1 k₃ c₃ x₃)
+    (t₃ : SectionCounting words x₂ 16 1 k₃ c₃ x₃)
     (z₃ : k₃ ≡ 0)
-    (t₄ : SectionTold words x₃ 16 1 k₄ c₄ x₄)
+    (t₄ : SectionCounting words x₃ 16 1 k₄ c₄ x₄)
     (z₄ : k₄ ≡ 0)
   where
     in-turn : sections 1 words ≡ got (sectionsOf (part (0 + 1) (4 * c₁) words) (part (x₁ + 1) (1 * c₂) words) (part (x₂ + 1) (1 * c₃) words) (part (x₃ + 1) (1 * c₄) words)) (drop x₄ words)
@@ -126,7 +148,7 @@ module _
         let once : (m : ℕ) → 1 * m ≡ m = λ m. omega arith in
         in-place words c₁ c₂ c₃ c₄ (x₁ + 1) (x₂ + 1) (x₃ + 1) refl (rw once) (rw once) (rw once) (omega arith) (omega arith) (omega arith)
 
-    pub to-the-last : length words ≤ x₄ → Told words 0 c₁ c₂ c₃ c₄
+    pub to-the-last : length words ≤ x₄ → Counting words 0 c₁ c₂ c₃ c₄
     to-the-last l = record {
       counted = λ z. record {
         rows-few = t₁ .few z₁;

@@ -4,9 +4,9 @@ use mathlib.Core.Bool.{Bool, true, false, cond, not, true≢false, false≢true}
 use Prim.Native.Nat.{ℕ, zero, suc, _<_}
 use native.Mathlib.Omega.{arith}
 use Rattle.book.specs.Judging.{firstOf}
-use Rattle.book.specs.Steps.{refusal}
+use Rattle.book.specs.Private.{numberUnless}
 
--- a refusal that did not come: its test passed, and what comes after it is 0
+-- a numberUnless that did not come: its test passed, and what comes after it is 0
 pub passed : (b : Bool) (n x : ℕ) → 0 < n → cond (not b) n x ≡ 0 → b ≡ true
 passed true n x p h = refl
 passed false n x p h = absurd (omega arith)
@@ -30,7 +30,7 @@ then-none (suc n) m h = absurd (omega arith)
 -- ---- refusals
 -- w is what the test refuses with
 abbrev pub Answers : ℕ → ℕ → Bool → Type 0
-Answers w n good = w ≡ refusal n good
+Answers w n good = w ≡ numberUnless n good
 
 pub due : (b : Bool) (n : ℕ) → b ≡ false → Answers n n b
 due true n h = absurd (true≢false h)

@@ -13,7 +13,7 @@ use borrow.Author.Tests.{eqb-true, eqb-false, eq-eqb, ne-eqb}
 use Rattle.pmtl.specs.Answer.{bitOf}
 use Rattle.book.specs.Reading.{Sections}
 use Rattle.book.specs.Judging.{rowsIn, allTo, timesIn, usesOf, usedOnce}
-use Rattle.book.specs.Steps.{refusal, Countable, Tallied, Linked}
+use Rattle.book.specs.Private.{numberUnless, Countable, Tallied, Linked}
 use Rattle.book.proofs.Tests.{Answers}
 use Rattle.book.proofs.Accepted.{linked-operand, linked-assume, linked-guarantee}
 use Rattle.book.proofs.All.{one-fails, all-more, all-same}
@@ -115,4 +115,4 @@ module _ (s : Sections) (ok : Linked s) where
         pub once : (w : ℕ) → Answers w 6 (allTo (λ r. eqb (getD t₃ r 0) 1) (rowsIn s)) → Answers w 6 (usedOnce s)
         unfolding usedOnce
         once w e =
-            e ∙ ap (refusal 6) (all-same (λ r. eqb (getD t₃ r 0) 1) (λ r. eqb (timesIn r (usesOf s)) 1) (rowsIn s) (λ r l. ap (λ n. eqb n 1) (all-tallied r (omega (arith, ok .few .rows)))))
+            e ∙ ap (numberUnless 6) (all-same (λ r. eqb (getD t₃ r 0) 1) (λ r. eqb (timesIn r (usesOf s)) 1) (rowsIn s) (λ r l. ap (λ n. eqb n 1) (all-tallied r (omega (arith, ok .few .rows)))))

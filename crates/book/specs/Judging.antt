@@ -1,31 +1,33 @@
 -- 01, "Numbers that calls hand back": what a book is refused with, and the book that its words say. Definitions only.
-use Prim.Native.Nat.{ℕ, zero, suc, _+_, _*_, _/_}
+use Prim.Native.Nat.{ℕ, zero, suc, _+_, _*_, _-_, _/_}
 use mathlib.Core.Bool.{Bool, true, false, cond, not, _&&_, _||_}
 use mathlib.Core.List.{List, [], _∷_, _++_}
-use lib.ListN.{length, getD, take, drop}
+use lib.ListN.{length, getD, drop}
 use lib.Dec.{leb, ltb, eqb}
-use Rattle.numset.specs.Runs.{MAX}
-use Rattle.pmtl.specs.Book.{H, Row, Rows, Book, emptyBook, every}
+use Rattle.numbers.specs.Limits.{MAX, LAST-TIME, ROW-WORDS, MOST-ATOMS, MOST-OPERANDS, MOST-TEMPORALS}
+use Rattle.pmtl.specs.Book.{Row, Book, emptyBook, every}
 use Rattle.pmtl.specs.Answer.{bitOf}
-use Rattle.rows.specs.Memory.{rowFrom, countOf, temporal, listed}
-use Rattle.book.specs.Reading.{Read, got, refused, GIVEN, Sections, sections}
+use Rattle.book.specs.Rows.{rowFrom, countOf, temporal}
+use Rattle.lists.specs.Lists.{listed}
+use Rattle.book.specs.Reading.{Read, got, refused, Sections, sections}
+use Rattle.numbers.specs.Refusals.{ACCEPTED, PAST-LIMIT, WRONG-FORM, WRONG-LENGTH, WRONG-LINK, WRONG-RANGE, WRONG-USE}
 
 -- ---- the words of row r of a section of rows
 abbrev pub kindIn : List ℕ → ℕ → ℕ
-kindIn ws r = getD ws (GIVEN * r) 0
+kindIn ws r = getD ws (ROW-WORDS * r) 0
 
 abbrev pub argIn : List ℕ → ℕ → ℕ
-argIn ws r = getD ws (GIVEN * r + 1) 0
+argIn ws r = getD ws (ROW-WORDS * r + 1) 0
 
 abbrev pub lowerIn : List ℕ → ℕ → ℕ
-lowerIn ws r = getD ws (GIVEN * r + 2) 0
+lowerIn ws r = getD ws (ROW-WORDS * r + 2) 0
 
 abbrev pub upperIn : List ℕ → ℕ → ℕ
-upperIn ws r = getD ws (GIVEN * r + 3) 0
+upperIn ws r = getD ws (ROW-WORDS * r + 3) 0
 
 -- how many rows there are
 abbrev pub rowsIn : Sections → ℕ
-rowsIn s = length (s .rows) / GIVEN
+rowsIn s = length (s .rows) / ROW-WORDS
 
 -- how many of the first n are temporal, and how many operands they take
 unfoldable pub temporalsIn : List ℕ → ℕ → ℕ
@@ -56,21 +58,21 @@ allTo f (suc n) = allTo f n && f n
 unfoldable pub argGood : ℕ → ℕ → Bool
 argGood kind arg =
     getD
-    (eqb arg 0 ∷ eqb arg 0 ∷ leb arg 255 ∷ leb arg 128 ∷ leb arg 128 ∷ eqb arg 1 ∷ eqb arg 2 ∷ eqb arg 1 ∷ eqb arg 1 ∷ eqb arg 2 ∷ [])
+    (eqb arg 0 ∷ eqb arg 0 ∷ leb arg (MOST-ATOMS - 1) ∷ leb arg MOST-OPERANDS ∷ leb arg MOST-OPERANDS ∷ eqb arg 1 ∷ eqb arg 2 ∷ eqb arg 1 ∷ eqb arg 1 ∷ eqb arg 2 ∷ [])
     kind
     false
 
 unfoldable pub formGood : ℕ → ℕ → ℕ → ℕ → Bool
 formGood kind arg lower upper = argGood kind arg && (temporal kind || eqb lower 0 && eqb upper 0)
 
--- 4: lower above upper, lower above H, finite upper above H
+-- 4: lower above upper, lower above LAST-TIME, finite upper above LAST-TIME
 unfoldable pub rangeGood : ℕ → ℕ → Bool
-rangeGood lower upper = leb lower upper && leb lower H && (eqb upper MAX || leb upper H)
+rangeGood lower upper = leb lower upper && leb lower LAST-TIME && (eqb upper MAX || leb upper LAST-TIME)
 
 unfoldable pub rowNumber : List ℕ → ℕ → ℕ
 rowNumber ws r =
-    cond (not (formGood (kindIn ws r) (argIn ws r) (lowerIn ws r) (upperIn ws r))) 3
-    (cond (not (rangeGood (lowerIn ws r) (upperIn ws r))) 4 (cond (temporal (kindIn ws r) && leb 32 (temporalsIn ws r)) 2 0))
+    cond (not (formGood (kindIn ws r) (argIn ws r) (lowerIn ws r) (upperIn ws r))) WRONG-FORM
+    (cond (not (rangeGood (lowerIn ws r) (upperIn ws r))) WRONG-RANGE (cond (temporal (kindIn ws r) && leb MOST-TEMPORALS (temporalsIn ws r)) PAST-LIMIT ACCEPTED))
 
 -- ---- 5: operand count is not what the rows need; operand not below its owner; property not below the row count
 unfoldable pub operandsGood : Sections → ℕ → Bool
@@ -95,7 +97,7 @@ usedOnce s = allTo (λ r. eqb (timesIn r (usesOf s)) 1) (rowsIn s)
 
 -- ---- what the sections are refused with, 0 if nothing is wrong, and the book that they say
 unfoldable pub judged : Sections → ℕ
-judged s = firstOf (firstTo (rowNumber (s .rows)) (rowsIn s)) (cond (not (linksGood s)) 5 (cond (not (usedOnce s)) 6 0))
+judged s = firstOf (firstTo (rowNumber (s .rows)) (rowsIn s)) (cond (not (linksGood s)) WRONG-LINK (cond (not (usedOnce s)) WRONG-USE ACCEPTED))
 
 unfoldable pub rowIn : Sections → ℕ → Row ℕ
 rowIn s r =
@@ -113,13 +115,13 @@ abbrev pub refusedWith : ℕ → Loaded
 refusedWith n = record { number = n; book = emptyBook }
 
 unfoldable pub loadedFrom : Sections → Loaded
-loadedFrom s = elim (eqb (judged s) 0) [ true ↦ record { number = 0; book = bookIn s } | false ↦ refusedWith (judged s) ]
+loadedFrom s = elim (eqb (judged s) ACCEPTED) [ true ↦ record { number = ACCEPTED; book = bookIn s } | false ↦ refusedWith (judged s) ]
 
--- a book handed over as words: words left over are 1
+-- a book handed over as words: none may be left over
 unfoldable pub whole : Read Sections → Loaded
 whole (got s []) = loadedFrom s
-whole (got s (w ∷ ws)) = refusedWith 1
+whole (got s (w ∷ ws)) = refusedWith WRONG-LENGTH
 whole (refused n) = refusedWith n
 
 unfoldable pub loaded : List ℕ → Loaded
-loaded words = whole (sections 1 words)
+loaded words = whole (sections WRONG-LENGTH words)

@@ -1,5 +1,5 @@
 pub mod Reading
 pub mod Judging
 pub mod Placing
-pub mod Steps
-pub mod Kept
+pub mod Private
+pub mod Rows

@@ -3,17 +3,19 @@ use Prim.Native.Nat.{ℕ, _+_, _*_, _≤_}
 use mathlib.Core.Path.{_≡_}
 use mathlib.Core.List.{List, []}
 use lib.ListN.{length}
-use Rattle.rows.specs.Memory.{part}
-use Rattle.book.specs.Reading.{got, GIVEN, Sections, sections}
+use Rattle.lists.specs.Lists.{part}
+use Rattle.book.specs.Reading.{got, Sections, sections}
+use Rattle.numbers.specs.Limits.{ROW-WORDS, MOST-ASSUMES, MOST-GUARANTEES, MOST-OPERANDS, MOST-ROWS}
 use Rattle.book.specs.Judging.{loaded}
+use Rattle.numbers.specs.Refusals.{ACCEPTED, WRONG-LENGTH}
 
 -- the sections, from how many rows, operands, assumes and guarantees there are: each stands after its count
 unfoldable pub partsOf : List ℕ → ℕ → ℕ → ℕ → ℕ → Sections
 partsOf words n o a g = record {
-  rows = part 1 (GIVEN * n) words;
-  operands = part (GIVEN * n + 2) o words;
-  assumes = part (GIVEN * n + o + 3) a words;
-  guarantees = part (GIVEN * n + o + a + 4) g words;
+  rows = part 1 (ROW-WORDS * n) words;
+  operands = part (ROW-WORDS * n + 2) o words;
+  assumes = part (ROW-WORDS * n + o + 3) a words;
+  guarantees = part (ROW-WORDS * n + o + a + 4) g words;
 }
 
 -- the sections, each in words of its own
@@ -22,15 +24,15 @@ sectionsOf rows operands assumes guarantees = record { rows = rows; operands = o
 
 -- the words are these sections, and nothing is left over
 pub record Counted (words : List ℕ) (n o a g : ℕ) : Type 0 where
-  pub rows-few : n ≤ 128
-  pub operands-few : o ≤ 128
-  pub assumes-few : a ≤ 16
-  pub guarantees-few : g ≤ 16
-  pub long : length words ≡ GIVEN * n + o + a + g + 4
-  pub read : sections 1 words ≡ got (partsOf words n o a g) []
+  pub rows-few : n ≤ MOST-ROWS
+  pub operands-few : o ≤ MOST-OPERANDS
+  pub assumes-few : a ≤ MOST-ASSUMES
+  pub guarantees-few : g ≤ MOST-GUARANTEES
+  pub long : length words ≡ ROW-WORDS * n + o + a + g + 4
+  pub read : sections WRONG-LENGTH words ≡ got (partsOf words n o a g) []
 
 -- the number that the words are refused with, and the counts: all 0 where they are refused
 pub record Placed (words : List ℕ) (number n o a g : ℕ) : Type 0 where
   pub number-is : number ≡ loaded words .number
-  pub counted : number ≡ 0 → Counted words n o a g
-  pub none : (number ≡ 0 → ⊥) → (n ≡ 0) × (o ≡ 0) × (a ≡ 0) × (g ≡ 0)
+  pub counted : number ≡ ACCEPTED → Counted words n o a g
+  pub none : (number ≡ ACCEPTED → ⊥) → (n ≡ 0) × (o ≡ 0) × (a ≡ 0) × (g ≡ 0)

@@ -4,6 +4,8 @@ use mathlib.Core.Bool.{cond}
 use mathlib.Core.List.{List, [], _∷_}
 use lib.ListN.{length, take, drop}
 use lib.Dec.{ltb}
+use Rattle.numbers.specs.Limits.{MOST-ROWS, MOST-OPERANDS, MOST-ASSUMES, MOST-GUARANTEES, ROW-WORDS}
+use Rattle.numbers.specs.Refusals.{PAST-LIMIT}
 
 -- what reading gives: what was asked for and the words after it, or the refusal that ends the reading
 pub data Read (A : Type 0) : Type 0 where
@@ -14,7 +16,7 @@ pub data Read (A : Type 0) : Type 0 where
 unfoldable pub section : ℕ → ℕ → ℕ → List ℕ → Read (List ℕ)
 section ending limit size [] = refused ending
 section ending limit size (n ∷ ws) =
-    cond (ltb limit n) (refused 2) (cond (ltb (length ws) (size * n)) (refused ending) (got (take (size * n) ws) (drop (size * n) ws)))
+    cond (ltb limit n) (refused PAST-LIMIT) (cond (ltb (length ws) (size * n)) (refused ending) (got (take (size * n) ws) (drop (size * n) ws)))
 
 -- and then
 unfoldable pub next : {A B : Type 0} → Read A → (A → List ℕ → Read B) → Read B
@@ -28,15 +30,11 @@ pub record Sections : Type 0 where
   pub assumes : List ℕ
   pub guarantees : List ℕ
 
--- words of a row: kind, arg, lower, upper
-abbrev pub GIVEN : ℕ
-GIVEN = 4
-
--- rows (up to 128), operands (128), assumes (16), guarantees (16)
+-- rows, operands, assumes, guarantees
 unfoldable pub sections : ℕ → List ℕ → Read Sections
 sections ending words =
-    next (section ending 128 GIVEN words) λ rows ws.
-    next (section ending 128 1 ws) λ operands xs.
-    next (section ending 16 1 xs) λ assumes ys.
-    next (section ending 16 1 ys) λ guarantees zs.
+    next (section ending MOST-ROWS ROW-WORDS words) λ rows ws.
+    next (section ending MOST-OPERANDS 1 ws) λ operands xs.
+    next (section ending MOST-ASSUMES 1 xs) λ assumes ys.
+    next (section ending MOST-GUARANTEES 1 ys) λ guarantees zs.
     got (record { rows = rows; operands = operands; assumes = assumes; guarantees = guarantees }) zs

@@ -5,45 +5,39 @@ ghost use Prim.Native.Nat.{_+_, _/_, _≤_, _<_};
 ghost use lib.ListN.{length, getD};
 ghost use lib.Dec.{leb, eqb};
 ghost use Rattle.pmtl.specs.Answer.{bitOf};
-ghost use Rattle.rows.specs.Memory.{part, temporal, countOf};
+ghost use Rattle.book.specs.Rows.{temporal, countOf, KINDS};
 ghost use Rattle.book.specs.Judging.{kindIn, argIn, lowerIn, upperIn, temporalsIn, firstTo, allTo, argGood, formGood, rangeGood, rowNumber, linksGood, usedOnce, judged, loaded};
 ghost use Rattle.book.specs.Placing.{partsOf, sectionsOf, Counted, Placed};
-ghost use Rattle.book.specs.Steps.{refusal, leastArgs, largestArgs, allBelow, operandsMet, Countable, Tallied, Few, Linked, Told, SectionTold};
-use rows::AND;
-use rows::HISTORICALLY;
-use rows::MOST_ROWS;
-use rows::SINCE;
-
-// The numbers that a book is answered with.
-pub const ACCEPTED: u64 = 0;
-
-const WRONG_LENGTH: u64 = 1;
-
-const PAST_LIMIT: u64 = 2;
-
-const WRONG_FORM: u64 = 3;
-
-const WRONG_RANGE: u64 = 4;
-
-const WRONG_LINK: u64 = 5;
-
-const WRONG_USE: u64 = 6;
-
-// How many there may be.
-const MOST_OPERANDS: usize = 128;
-
-const MOST_PROPERTIES: usize = 16;
-
-const MOST_TEMPORALS: usize = 32;
+ghost use Rattle.book.specs.Private.{numberUnless, leastArgs, largestArgs, allBelow, operandsMet, Countable, Tallied, Few, Linked, Counting, SectionCounting};
+ghost use Rattle.numbers.specs.Limits.{MOST-ROWS, MOST-TEMPORALS, ROW-WORDS};
+ghost use Rattle.numbers.specs.Refusals.{PAST-LIMIT, WRONG-FORM, WRONG-LINK, WRONG-RANGE, WRONG-USE};
+use crate::AND;
+use crate::HISTORICALLY;
+use crate::KINDS;
+use crate::SINCE;
+use numbers::ACCEPTED;
+use numbers::LAST_TIME;
+use numbers::MAX;
+use numbers::MOST_ASSUMES;
+use numbers::MOST_ATOMS;
+use numbers::MOST_GUARANTEES;
+use numbers::MOST_OPERANDS;
+use numbers::MOST_ROWS;
+use numbers::MOST_TEMPORALS;
+use numbers::PAST_LIMIT;
+use numbers::ROW_WORDS;
+use numbers::WRONG_FORM;
+use numbers::WRONG_LENGTH;
+use numbers::WRONG_LINK;
+use numbers::WRONG_RANGE;
+use numbers::WRONG_USE;
 
 // A section's count takes a word, and so does an operand or a property.
-pub const COUNT_WORD: usize = 1;
+const COUNT_WORD: usize = 1;
 
 const NUMBER_WORDS: usize = 1;
 
-// A row's words: kind, arg, lower, upper.
-pub const ROW_WORDS: usize = 4;
-
+// Where a row's words stand in it, after its kind.
 const ARG: usize = 1;
 
 const LOWER: usize = 2;
@@ -51,14 +45,20 @@ const LOWER: usize = 2;
 const UPPER: usize = 3;
 
 // The least and the largest arg of each kind.
-const LEAST_ARGS: [u64; 10] = [0, 0, 0, 0, 0, 1, 2, 1, 1, 2];
+const LEAST_ARGS: [u64; KINDS] = [0, 0, 0, 0, 0, 1, 2, 1, 1, 2];
 
-const LARGEST_ARGS: [u64; 10] = [0, 0, 255, 128, 128, 1, 2, 1, 1, 2];
-
-// The largest lower and finite upper, and the upper of a range without end.
-const LAST_BOUND: u64 = 0x7fff_ffff_ffff_ffff;
-
-const UNBOUNDED: u64 = 0xffff_ffff_ffff_ffff;
+const LARGEST_ARGS: [u64; KINDS] = [
+    0,
+    0,
+    MOST_ATOMS as u64 - 1,
+    MOST_OPERANDS as u64,
+    MOST_OPERANDS as u64,
+    1,
+    2,
+    1,
+    1,
+    2,
+];
 
 // The number, and how many rows, operands, assumes and guarantees there are: none where the book is refused.
 pub struct Places {
@@ -104,8 +104,8 @@ fn broken(number: u64) -> Section
 
 // The section whose count stands at a place. The count is judged before what follows it.
 fn read_section(words: &[u64], at: usize, limit: usize, size: usize) -> Section
-    requires { ⌜ (at ≤ length (now words)) × (limit ≤ 128) × (size ≤ 4) ⌝ }
-    ensures { λ r. ⌜ SectionTold (now (words .entry)) at limit size (r .number) (r .count) (r .next) ⌝ }
+    requires { ⌜ (at ≤ length (now words)) × (limit ≤ MOST-ROWS) × (size ≤ ROW-WORDS) ⌝ }
+    ensures { λ r. ⌜ SectionCounting (now (words .entry)) at limit size (r .number) (r .count) (r .next) ⌝ }
 {
     if at == words.len() {
         return broken(WRONG_LENGTH);
@@ -141,7 +141,7 @@ fn refused(number: u64) -> Places
 
 // How many there are of everything, or what ends the reading.
 fn counts(words: &[u64]) -> Places
-    ensures { λ r. ⌜ Told (now (words .entry)) (r .number) (r .rows) (r .operands) (r .assumes) (r .guarantees) ⌝ }
+    ensures { λ r. ⌜ Counting (now (words .entry)) (r .number) (r .rows) (r .operands) (r .assumes) (r .guarantees) ⌝ }
 {
     let rows = read_section(words, 0, MOST_ROWS, ROW_WORDS);
     if rows.number != ACCEPTED {
@@ -151,11 +151,11 @@ fn counts(words: &[u64]) -> Places
     if operands.number != ACCEPTED {
         return refused(operands.number);
     }
-    let assumes = read_section(words, operands.next, MOST_PROPERTIES, NUMBER_WORDS);
+    let assumes = read_section(words, operands.next, MOST_ASSUMES, NUMBER_WORDS);
     if assumes.number != ACCEPTED {
         return refused(assumes.number);
     }
-    let guarantees = read_section(words, assumes.next, MOST_PROPERTIES, NUMBER_WORDS);
+    let guarantees = read_section(words, assumes.next, MOST_GUARANTEES, NUMBER_WORDS);
     if guarantees.number != ACCEPTED {
         return refused(guarantees.number);
     }
@@ -173,28 +173,28 @@ fn counts(words: &[u64]) -> Places
 
 // What the words of a row say.
 pub fn kind_in(rows: &[u64], row: usize) -> u64
-    requires { ⌜ row < length (now rows) / 4 ⌝ }
+    requires { ⌜ row < length (now rows) / ROW-WORDS ⌝ }
     ensures { λ r. ⌜ r ≡ kindIn (now (rows .entry)) row ⌝ }
 {
     rows[ROW_WORDS * row]
 }
 
 pub fn arg_in(rows: &[u64], row: usize) -> u64
-    requires { ⌜ row < length (now rows) / 4 ⌝ }
+    requires { ⌜ row < length (now rows) / ROW-WORDS ⌝ }
     ensures { λ r. ⌜ r ≡ argIn (now (rows .entry)) row ⌝ }
 {
     rows[ROW_WORDS * row + ARG]
 }
 
 pub fn lower_in(rows: &[u64], row: usize) -> u64
-    requires { ⌜ row < length (now rows) / 4 ⌝ }
+    requires { ⌜ row < length (now rows) / ROW-WORDS ⌝ }
     ensures { λ r. ⌜ r ≡ lowerIn (now (rows .entry)) row ⌝ }
 {
     rows[ROW_WORDS * row + LOWER]
 }
 
 pub fn upper_in(rows: &[u64], row: usize) -> u64
-    requires { ⌜ row < length (now rows) / 4 ⌝ }
+    requires { ⌜ row < length (now rows) / ROW-WORDS ⌝ }
     ensures { λ r. ⌜ r ≡ upperIn (now (rows .entry)) row ⌝ }
 {
     rows[ROW_WORDS * row + UPPER]
@@ -202,14 +202,14 @@ pub fn upper_in(rows: &[u64], row: usize) -> u64
 
 // The least and the largest arg of a kind.
 fn least_arg(kind: usize) -> u64
-    requires { ⌜ kind < 10 ⌝ }
+    requires { ⌜ kind < KINDS ⌝ }
     ensures { λ r. ⌜ r ≡ getD leastArgs kind 0 ⌝ }
 {
     LEAST_ARGS[kind]
 }
 
 fn largest_arg(kind: usize) -> u64
-    requires { ⌜ kind < 10 ⌝ }
+    requires { ⌜ kind < KINDS ⌝ }
     ensures { λ r. ⌜ r ≡ getD largestArgs kind 0 ⌝ }
 {
     LARGEST_ARGS[kind]
@@ -217,7 +217,7 @@ fn largest_arg(kind: usize) -> u64
 
 // Refuses what is no kind, Since being the last, and an arg that its kind does not take.
 fn arg_number(kind: u64, arg: u64) -> u64
-    ensures { λ r. ⌜ r ≡ refusal 3 (argGood kind arg) ⌝ }
+    ensures { λ r. ⌜ r ≡ numberUnless WRONG-FORM (argGood kind arg) ⌝ }
 {
     if SINCE < kind {
         return WRONG_FORM;
@@ -234,7 +234,7 @@ fn arg_number(kind: u64, arg: u64) -> u64
 
 // Refuses a wrong kind or arg, and bounds on a row that is not temporal.
 fn form_number(kind: u64, arg: u64, lower: u64, upper: u64) -> u64
-    ensures { λ r. ⌜ r ≡ refusal 3 (formGood kind arg lower upper) ⌝ }
+    ensures { λ r. ⌜ r ≡ numberUnless WRONG-FORM (formGood kind arg lower upper) ⌝ }
 {
     let wrong = arg_number(kind, arg);
     if wrong != ACCEPTED {
@@ -254,18 +254,18 @@ fn form_number(kind: u64, arg: u64, lower: u64, upper: u64) -> u64
 
 // Refuses a range that is no range, or that reaches too far.
 fn range_number(lower: u64, upper: u64) -> u64
-    ensures { λ r. ⌜ r ≡ refusal 4 (rangeGood lower upper) ⌝ }
+    ensures { λ r. ⌜ r ≡ numberUnless WRONG-RANGE (rangeGood lower upper) ⌝ }
 {
     if upper < lower {
         return WRONG_RANGE;
     }
-    if LAST_BOUND < lower {
+    if LAST_TIME < lower {
         return WRONG_RANGE;
     }
-    if upper == UNBOUNDED {
+    if upper == MAX {
         return ACCEPTED;
     }
-    if LAST_BOUND < upper {
+    if LAST_TIME < upper {
         return WRONG_RANGE;
     }
     ACCEPTED
@@ -273,7 +273,7 @@ fn range_number(lower: u64, upper: u64) -> u64
 
 // Refuses the temporal row that there is no set for.
 fn room_number(kind: u64, temporals: usize) -> u64
-    ensures { λ r. ⌜ r ≡ refusal 2 (not (temporal kind && leb 32 temporals)) ⌝ }
+    ensures { λ r. ⌜ r ≡ numberUnless PAST-LIMIT (not (temporal kind && leb MOST-TEMPORALS temporals)) ⌝ }
 {
     if kind < HISTORICALLY {
         return ACCEPTED;
@@ -286,7 +286,7 @@ fn room_number(kind: u64, temporals: usize) -> u64
 
 // What a row is refused with; so many before it are temporal.
 fn row_number(rows: &[u64], row: usize, temporals: usize) -> u64
-    requires { ⌜ (row < length (now rows) / 4) × (temporals ≡ temporalsIn (now rows) row) ⌝ }
+    requires { ⌜ (row < length (now rows) / ROW-WORDS) × (temporals ≡ temporalsIn (now rows) row) ⌝ }
     ensures { λ r. ⌜ r ≡ rowNumber (now (rows .entry)) row ⌝ }
 {
     let kind = kind_in(rows, row);
@@ -315,7 +315,7 @@ fn temporal_bit(kind: u64) -> usize
 
 // What the rows are refused with, in their order.
 fn rows_number(rows: &[u64]) -> u64
-    ensures { λ r. ⌜ r ≡ firstTo (rowNumber (now (rows .entry))) (length (now (rows .entry)) / 4) ⌝ }
+    ensures { λ r. ⌜ r ≡ firstTo (rowNumber (now (rows .entry))) (length (now (rows .entry)) / ROW-WORDS) ⌝ }
 {
     let mut temporals = 0;
     let mut row = 0;
@@ -333,7 +333,7 @@ fn rows_number(rows: &[u64]) -> u64
 // Refuses numbers that are not below a bound, so many from a place on.
 fn below_number(numbers: &[u64], from: usize, count: usize, bound: usize) -> u64
     requires { ⌜ from + count ≤ length (now numbers) ⌝ }
-    ensures { λ r. ⌜ r ≡ refusal 5 (allBelow (now (numbers .entry)) from count bound) ⌝ }
+    ensures { λ r. ⌜ r ≡ numberUnless WRONG-LINK (allBelow (now (numbers .entry)) from count bound) ⌝ }
 {
     let mut k = 0;
     while k < count {
@@ -358,8 +358,8 @@ pub fn taken_by(kind: u64, arg: u64) -> usize
 
 // Refuses operands that are not as many as the rows need, or not below their owners.
 fn operands_number<'a>(rows: &'a [u64], operands: &'a [u64]) -> u64
-    requires { ⌜ firstTo (rowNumber (now rows)) (length (now rows) / 4) ≡ 0 ⌝ }
-    ensures { λ r. ⌜ r ≡ refusal 5 (operandsMet (now (rows .entry)) (now (operands .entry))) ⌝ }
+    requires { ⌜ firstTo (rowNumber (now rows)) (length (now rows) / ROW-WORDS) ≡ 0 ⌝ }
+    ensures { λ r. ⌜ r ≡ numberUnless WRONG-LINK (operandsMet (now (rows .entry)) (now (operands .entry))) ⌝ }
 {
     let mut start = 0;
     let mut row = 0;
@@ -388,8 +388,8 @@ fn links_number<'a>(
     assumes: &'a [u64],
     guarantees: &'a [u64],
 ) -> u64
-    requires { ⌜ firstTo (rowNumber (now rows)) (length (now rows) / 4) ≡ 0 ⌝ }
-    ensures { λ r. ⌜ r ≡ refusal 5 (linksGood (sectionsOf (now (rows .entry)) (now (operands .entry)) (now (assumes .entry)) (now (guarantees .entry)))) ⌝ }
+    requires { ⌜ firstTo (rowNumber (now rows)) (length (now rows) / ROW-WORDS) ≡ 0 ⌝ }
+    ensures { λ r. ⌜ r ≡ numberUnless WRONG-LINK (linksGood (sectionsOf (now (rows .entry)) (now (operands .entry)) (now (assumes .entry)) (now (guarantees .entry)))) ⌝ }
 {
     let wrong = operands_number(rows, operands);
     if wrong != ACCEPTED {
@@ -419,7 +419,7 @@ fn tally(uses: &[u64], times: &mut [u8; MOST_ROWS])
 // Refuses rows that are not used exactly once.
 fn once_number(times: &[u8; MOST_ROWS], count: usize) -> u64
     requires { ⌜ (length (now times) ≡ 128) × (count ≤ 128) ⌝ }
-    ensures { λ r. ⌜ r ≡ refusal 6 (allTo (λ row. eqb (getD (now (times .entry)) row 0) 1) count) ⌝ }
+    ensures { λ r. ⌜ r ≡ numberUnless WRONG-USE (allTo (λ row. eqb (getD (now (times .entry)) row 0) 1) count) ⌝ }
 {
     let mut row = 0;
     while row < count {
@@ -439,7 +439,7 @@ fn uses_number<'a>(
     guarantees: &'a [u64],
 ) -> u64
     requires { ⌜ Linked (sectionsOf (now rows) (now operands) (now assumes) (now guarantees)) ⌝ }
-    ensures { λ r. ⌜ r ≡ refusal 6 (usedOnce (sectionsOf (now (rows .entry)) (now (operands .entry)) (now (assumes .entry)) (now (guarantees .entry)))) ⌝ }
+    ensures { λ r. ⌜ r ≡ numberUnless WRONG-USE (usedOnce (sectionsOf (now (rows .entry)) (now (operands .entry)) (now (assumes .entry)) (now (guarantees .entry)))) ⌝ }
 {
     let mut times = [0u8; MOST_ROWS];
     tally(operands, &mut times);
@@ -464,35 +464,50 @@ fn judge<'a>(rows: &'a [u64], operands: &'a [u64], assumes: &'a [u64], guarantee
     uses_number(rows, operands, assumes, guarantees)
 }
 
-// So many words from a place on.
-pub fn part_of(words: &[u64], from: usize, count: usize) -> &[u64]
-    requires { ⌜ from + count ≤ length (now words) ⌝ }
-    ensures { λ r. ⌜ now r ≡ part from count (now (words .entry)) ⌝ }
+// The sections that places tell of: each stands after its count, and that after the section before it.
+pub fn rows_part(words: &[u64], places: Places) -> &[u64]
+    requires { ⌜ Counted (now words) (places .rows) (places .operands) (places .assumes) (places .guarantees) ⌝ }
+    ensures { λ r. ⌜ now r ≡ partsOf (now (words .entry)) (places .rows) (places .operands) (places .assumes) (places .guarantees) .rows ⌝ }
 {
-    let end = from + count;
-    &words[from..end]
+    lists::part_of(words, COUNT_WORD, ROW_WORDS * places.rows)
 }
 
-// What words are refused with that are so many rows, operands, assumes and guarantees.
-fn judge_parts(
-    words: &[u64],
-    rows: usize,
-    operands: usize,
-    assumes: usize,
-    guarantees: usize,
-) -> u64
-    requires { ⌜ Counted (now words) rows operands assumes guarantees ⌝ }
-    ensures { λ r. ⌜ r ≡ judged (partsOf (now (words .entry)) rows operands assumes guarantees) ⌝ }
+pub fn operands_part(words: &[u64], places: Places) -> &[u64]
+    requires { ⌜ Counted (now words) (places .rows) (places .operands) (places .assumes) (places .guarantees) ⌝ }
+    ensures { λ r. ⌜ now r ≡ partsOf (now (words .entry)) (places .rows) (places .operands) (places .assumes) (places .guarantees) .operands ⌝ }
 {
-    let row_words = ROW_WORDS * rows;
-    let operands_at = COUNT_WORD + row_words + COUNT_WORD;
-    let assumes_at = operands_at + operands + COUNT_WORD;
-    let guarantees_at = assumes_at + assumes + COUNT_WORD;
+    let at = COUNT_WORD + ROW_WORDS * places.rows + COUNT_WORD;
+    lists::part_of(words, at, places.operands)
+}
+
+pub fn assumes_part(words: &[u64], places: Places) -> &[u64]
+    requires { ⌜ Counted (now words) (places .rows) (places .operands) (places .assumes) (places .guarantees) ⌝ }
+    ensures { λ r. ⌜ now r ≡ partsOf (now (words .entry)) (places .rows) (places .operands) (places .assumes) (places .guarantees) .assumes ⌝ }
+{
+    let operands_at = COUNT_WORD + ROW_WORDS * places.rows + COUNT_WORD;
+    let at = operands_at + places.operands + COUNT_WORD;
+    lists::part_of(words, at, places.assumes)
+}
+
+// The last section ends with the words.
+pub fn guarantees_part(words: &[u64], places: Places) -> &[u64]
+    requires { ⌜ Counted (now words) (places .rows) (places .operands) (places .assumes) (places .guarantees) ⌝ }
+    ensures { λ r. ⌜ now r ≡ partsOf (now (words .entry)) (places .rows) (places .operands) (places .assumes) (places .guarantees) .guarantees ⌝ }
+{
+    let at = words.len() - places.guarantees;
+    lists::part_of(words, at, places.guarantees)
+}
+
+// What words are refused with whose sections stand where places tell.
+fn judge_parts(words: &[u64], places: Places) -> u64
+    requires { ⌜ Counted (now words) (places .rows) (places .operands) (places .assumes) (places .guarantees) ⌝ }
+    ensures { λ r. ⌜ r ≡ judged (partsOf (now (words .entry)) (places .rows) (places .operands) (places .assumes) (places .guarantees)) ⌝ }
+{
     judge(
-        part_of(words, COUNT_WORD, row_words),
-        part_of(words, operands_at, operands),
-        part_of(words, assumes_at, assumes),
-        part_of(words, guarantees_at, guarantees),
+        rows_part(words, places),
+        operands_part(words, places),
+        assumes_part(words, places),
+        guarantees_part(words, places),
     )
 }
 
@@ -500,21 +515,15 @@ fn judge_parts(
 pub fn place(words: &[u64]) -> Places
     ensures { λ r. ⌜ Placed (now (words .entry)) (r .number) (r .rows) (r .operands) (r .assumes) (r .guarantees) ⌝ }
 {
-    let told = counts(words);
-    if told.number != ACCEPTED {
-        return told;
+    let places = counts(words);
+    if places.number != ACCEPTED {
+        return places;
     }
-    let wrong = judge_parts(
-        words,
-        told.rows,
-        told.operands,
-        told.assumes,
-        told.guarantees,
-    );
+    let wrong = judge_parts(words, places);
     if wrong != ACCEPTED {
         return refused(wrong);
     }
-    told
+    places
 }
 
 // What a book handed over as words is refused with: 0 if it is accepted.

@@ -1,5 +1,5 @@
 -- What is known of a book's words as they are put one after the other. Definitions only.
-use Prim.Native.Nat.{ℕ, _≤_}
+use Prim.Native.Nat.{_≤_}
 use mathlib.Core.Path.{_≡_}
 use lib.ListN.{length}
 use Rattle.cases.specs.declared.words.Words.{Words}

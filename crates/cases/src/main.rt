@@ -4,19 +4,19 @@ mod play;
 mod words;
 
 ghost use Rattle.cases.specs.Held.{Held};
-ghost use Rattle.book.specs.Kept.{Kept};
+ghost use Rattle.memory.specs.Kept.{Kept};
+use oracle::ATOM;
+use oracle::FALSE;
+use oracle::HISTORICALLY;
+use oracle::NOT;
+use oracle::ONCE;
+use oracle::SINCE;
+use oracle::SIZE;
+use oracle::TRUE;
 use play::load;
 use play::state;
 use play::text;
 use play::time;
-use rows::ATOM;
-use rows::FALSE;
-use rows::HISTORICALLY;
-use rows::NOT;
-use rows::ONCE;
-use rows::SINCE;
-use rows::SIZE;
-use rows::TRUE;
 use words::Words;
 
 // Unbounded.

@@ -1,11 +1,10 @@
 // A call, the number that it handed back and the answers of every property, on one line.
 use crate::words::Words;
 use libc::STDOUT_FILENO;
-use pmtl::Answer;
-use rows::SIZE;
-use verdicts::Verdict;
+use oracle::SIZE;
+use oracle::Verdict;
 ghost use Rattle.cases.specs.Held.{Held};
-ghost use Rattle.book.specs.Kept.{Kept};
+ghost use Rattle.memory.specs.Kept.{Kept};
 
 // The widest state, with one byte more.
 const TOO_WIDE: usize = 257;
@@ -18,27 +17,15 @@ fn number(n: u64) {
     io::print_decimal(STDOUT_FILENO, n);
 }
 
-fn bit(b: bool) -> u64 {
-    if b { 1 } else { 0 }
-}
-
-fn digit(a: Answer) -> u64 {
-    match a {
-        Answer::False => 0,
-        Answer::True => 1,
-        Answer::Open => 2,
-    }
-}
-
 // Value, early and settled.
 fn verdict(v: Verdict) {
     let value = v.value;
     let early = v.early;
     let settled = v.settled;
     text(b" ");
-    number(bit(value));
-    number(digit(early));
-    number(digit(settled));
+    number(oracle::bit(value) as u64);
+    number(oracle::digit(early) as u64);
+    number(oracle::digit(settled) as u64);
 }
 
 fn outcome(refusal: u64, monitor: &[u64; SIZE])
@@ -46,11 +33,11 @@ fn outcome(refusal: u64, monitor: &[u64; SIZE])
 {
     text(b": ");
     number(refusal);
-    let all = verdicts::all(monitor);
+    let all = oracle::all(monitor);
     let count = all.count;
     let mut i = 0;
     while i < count {
-        verdict(verdicts::of_property(monitor, i));
+        verdict(oracle::of_property(monitor, i));
         i += 1;
     }
     text(b"\n");
@@ -63,7 +50,7 @@ pub fn load(monitor: &mut [u64; SIZE], book: Words)
 {
     let words = book.list;
     let count = book.count;
-    let refusal = store::load(&words[..count], monitor);
+    let refusal = oracle::load(&words[..count], monitor);
     text(b"  load");
     outcome(refusal, monitor);
 }

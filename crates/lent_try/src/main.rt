@@ -1,12 +1,12 @@
 // Additions to a set that is lent, printed and compared with a stored output: P1 to P5, and a full set.
 use libc::STDOUT_FILENO;
+use numbers::MOST_RUNS;
 use numset::Added;
 use numset::NumSet;
-ghost use Prim.Native.Nat.{_<_, _≤_};
 ghost use Rattle.numset.specs.Runs.{Good};
 
 // As many runs as a set by value has room for.
-const FULL: u64 = 64;
+const FULL: u64 = MOST_RUNS as u64;
 
 fn text(bytes: &[u8]) {
     io::write_all(STDOUT_FILENO, bytes);

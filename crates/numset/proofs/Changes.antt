@@ -7,8 +7,9 @@ use mathlib.Core.List.{List, []}
 use native.Mathlib.Omega.{arith}
 use lib.ListN.{length}
 use borrow.Author.Tests.{lt-ltb, le-ltb, ltb-false}
-use Rattle.numset.specs.Runs.{MAX, Runs, runs, Under, Good, insert, union, fits, pack, addNumber, addWords, setNumber, setWords}
-use Rattle.numset.proofs.Laws.{lt-or-ge}
+use Rattle.numbers.specs.Limits.{MAX}
+use Rattle.numset.specs.Runs.{Runs, runs, Under, Good, insert, union, fits, pack, addNumber, addWords, setToNumber, setToWords}
+use Rattle.lists.proofs.Tests.{lt-or-ge}
 use Rattle.numset.proofs.Union.{union-none, union-some, union-under}
 use Rattle.numset.proofs.Packs.{length-pack, runs-pack, good-pack}
 
@@ -96,29 +97,29 @@ pub one-good : (size l u : ℕ) → 3 ≤ size → u ≤ MAX → Good (pack size
 one-good size l u h k = good-pack size (union l u []) (one-room size l u h) (one-under l u k)
 
 module _ (m : List ℕ) (l u : ℕ) where
-  pub set-full : (setNumber m l u ≡ 11) ↔ (length m ≤ 2 * length (union l u []))
-  unfolding setNumber
+  pub set-full : (setToNumber m l u ≡ 11) ↔ (length m ≤ 2 * length (union l u []))
+  unfolding setToNumber
   set-full = numbered-iff m (union l u [])
 
-  pub set-room : 2 * length (union l u []) < length m → setNumber m l u ≡ 0
-  unfolding setNumber
+  pub set-room : 2 * length (union l u []) < length m → setToNumber m l u ≡ 0
+  unfolding setToNumber
   set-room = numbered-room m (union l u [])
 
-  pub set-words : 2 * length (union l u []) < length m → setWords m l u ≡ pack (length m) (union l u [])
-  unfolding setWords
+  pub set-words : 2 * length (union l u []) < length m → setToWords m l u ≡ pack (length m) (union l u [])
+  unfolding setToWords
   set-words = left-room m (union l u [])
 
-  pub set-same : length m ≤ 2 * length (union l u []) → setWords m l u ≡ m
-  unfolding setWords
+  pub set-same : length m ≤ 2 * length (union l u []) → setToWords m l u ≡ m
+  unfolding setToWords
   set-same = left-full m (union l u [])
 
-  pub set-runs : 2 * length (union l u []) < length m → runs (setWords m l u) ≡ union l u []
+  pub set-runs : 2 * length (union l u []) < length m → runs (setToWords m l u) ≡ union l u []
   set-runs h = rw (set-words h) (runs-pack (length m) (union l u []))
 
-  pub set-good : Good m → u ≤ MAX → Good (setWords m l u)
-  unfolding setWords
+  pub set-good : Good m → u ≤ MAX → Good (setToWords m l u)
+  unfolding setToWords
   set-good g h = left-good m (union l u []) g (one-under l u h)
 
-  pub set-length : length (setWords m l u) ≡ length m
-  unfolding setWords
+  pub set-length : length (setToWords m l u) ≡ length m
+  unfolding setToWords
   set-length = left-length m (union l u [])

@@ -6,8 +6,10 @@ use mathlib.Core.Bool.{Bool, true, and-false, or-true, false≢true}
 use mathlib.Core.List.{[], _∷_}
 use native.Mathlib.Omega.{arith}
 use borrow.Author.Tests.{le-leb, lt-leb}
-use Rattle.numset.specs.Runs.{MAX, run, Runs, Canonical, has, Covers, covers}
-use Rattle.numset.proofs.Laws.{lt-or-ge, clash, same-test, canonical-older, newest-in, older-same, above-out, gap-out}
+use Rattle.numbers.specs.Limits.{MAX}
+use Rattle.numset.specs.Runs.{run, Runs, Canonical, has, Covers, covers}
+use Rattle.lists.proofs.Tests.{lt-or-ge, clash, same-test}
+use Rattle.numset.proofs.Laws.{canonical-older, newest-in, older-same, above-out, gap-out}
 
 module _ (from l u : ℕ) (rs : Runs) where
   -- the newest run holds all of them

@@ -8,8 +8,10 @@ use native.Mathlib.Omega.{arith}
 use lib.ListN.{getD}
 use lib.Dec.{eqb}
 use borrow.Author.Tests.{eq-eqb, ne-eqb}
-use Rattle.numset.specs.Runs.{MAX, run, Runs, Good, lo, hi, runsTo, runs, Under, Covers, covers}
-use Rattle.numset.proofs.Laws.{lt-or-ge, good-canonical}
+use Rattle.numbers.specs.Limits.{MAX}
+use Rattle.numset.specs.Runs.{run, Runs, Good, lo, hi, runsTo, runs, Under, Covers, covers}
+use Rattle.lists.proofs.Tests.{lt-or-ge}
+use Rattle.numset.proofs.Laws.{good-canonical}
 use Rattle.numset.proofs.Covering.{covers-here, covers-late, covers-short, covers-iff}
 use Rattle.numset.proofs.Words.{runs-pos, runs-none, newest}
 

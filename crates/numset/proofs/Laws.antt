@@ -1,29 +1,13 @@
 -- Membership, and runs in order: `within`, `has`, `Under`, `Canonical`. Assumes nothing.
 use Prim.Native.Nat.{ℕ, _+_, _^_, _≤_, _<_}
-use mathlib.Core.Path.{_≡_, refl, sym, _∙_}
-use mathlib.Core.Logic.{⊎-elim, _⊎_, inl, inr}
-use mathlib.Core.Bool.{Bool, true, false, and-false, true≢false}
+use mathlib.Core.Path.{_≡_, refl}
+use mathlib.Core.Logic.{⊎-elim}
+use mathlib.Core.Bool.{true, false, and-false}
 use mathlib.Core.List.{List, [], _∷_}
 use native.Mathlib.Omega.{arith}
-use lib.Dec.{ltb}
-use borrow.Author.Tests.{le-leb, lt-leb, ltb-true, ltb-false}
+use borrow.Author.Tests.{le-leb, lt-leb}
+use Rattle.lists.proofs.Tests.{lt-or-ge}
 use Rattle.numset.specs.Runs.{run, Runs, Under, Canonical, within, has, runs, Good}
-
--- ---- tests
-pub either : (b : Bool) → (b ≡ true) ⊎ (b ≡ false)
-either true = inl refl
-either false = inr refl
-
-pub lt-or-ge : (a b : ℕ) → (a < b) ⊎ (b ≤ a)
-lt-or-ge a b = ⊎-elim (λ e. inl (ltb-true a b e)) (λ e. inr (ltb-false a b e)) (either (ltb a b))
-
-pub clash : {b : Bool} → b ≡ true → b ≡ false → ⊥
-clash p q = let z : _≡_ {A = Bool} true false = sym p ∙ q in true≢false z
-
-pub same-test : (a b : Bool) → (a ≡ true → b ≡ true) → (b ≡ true → a ≡ true) → a ≡ b
-same-test true b f g = sym (f refl)
-same-test false true f g = g refl
-same-test false false f g = refl
 
 -- ---- one run
 pub inside : (l u t : ℕ) → l ≤ t → t ≤ u → within l u t ≡ true

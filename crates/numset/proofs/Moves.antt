@@ -6,22 +6,22 @@ use mathlib.Core.List.{List}
 use native.Mathlib.Omega.{arith}
 use lib.ListN.{length, getD, set}
 use lib.Seq.{getD-set-same, getD-set-other}
-use Rattle.numset.specs.Words.{Moved, Cleared}
-use Rattle.numset.proofs.Laws.{lt-or-ge}
+use Rattle.numset.specs.Private.{Shifted, Cleared}
+use Rattle.lists.proofs.Tests.{lt-or-ge}
 use Rattle.numset.proofs.Words.{at}
 
 pub put-here : (m : List ℕ) (i k v : ℕ) → k ≡ i → i < length m → getD (set m i v) k 0 ≡ v
 put-here m i k v e h = at (set m i v) k i e ∙ getD-set-same m i v 0 h
 
-pub moved-eq : {m m′ : List ℕ} {s s′ d d′ n n′ : ℕ} → Moved m m′ s d n → s ≡ s′ → d ≡ d′ → n ≡ n′ → Moved m m′ s′ d′ n′
+pub moved-eq : {m m′ : List ℕ} {s s′ d d′ n n′ : ℕ} → Shifted m m′ s d n → s ≡ s′ → d ≡ d′ → n ≡ n′ → Shifted m m′ s′ d′ n′
 moved-eq w p q r = rw (← p, ← q, ← r) w
 
-pub moved-none : (m : List ℕ) (src dst n : ℕ) → n ≡ 0 → Moved m m src dst n
+pub moved-none : (m : List ℕ) (src dst n : ℕ) → n ≡ 0 → Shifted m m src dst n
 moved-none m src dst n e = record { moved = λ d h. absurd (omega arith); below = λ k h. refl; above = λ k h. refl }
 
-module _ (m₀ m : List ℕ) (src dst n : ℕ) (w : Moved m₀ m src dst n) where
+module _ (m₀ m : List ℕ) (src dst n : ℕ) (w : Shifted m₀ m src dst n) where
   -- the word after those moved
-  pub append : (n′ : ℕ) → n′ ≡ n + 1 → dst ≤ src → dst + n < length m → Moved m₀ (set m (dst + n) (getD m (src + n) 0)) src dst n′
+  pub append : (n′ : ℕ) → n′ ≡ n + 1 → dst ≤ src → dst + n < length m → Shifted m₀ (set m (dst + n) (getD m (src + n) 0)) src dst n′
   append n′ e o r =
       record {
         moved = λ d h.
@@ -34,7 +34,7 @@ module _ (m₀ m : List ℕ) (src dst n : ℕ) (w : Moved m₀ m src dst n) wher
       }
 
   -- the word before those moved
-  pub prepend : (s d n′ : ℕ) → s + 1 ≡ src → d + 1 ≡ dst → n′ ≡ n + 1 → s ≤ d → d < length m → Moved m₀ (set m d (getD m s 0)) s d n′
+  pub prepend : (s d n′ : ℕ) → s + 1 ≡ src → d + 1 ≡ dst → n′ ≡ n + 1 → s ≤ d → d < length m → Shifted m₀ (set m d (getD m s 0)) s d n′
   prepend s t n′ es et en o r =
       record {
         moved = λ d h.

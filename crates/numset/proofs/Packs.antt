@@ -7,7 +7,8 @@ use native.Mathlib.Omega.{arith}
 use lib.ListN.{length, getD, take, drop, replicate, take-append-drop, length-append, length-drop, length-replicate, getD-replicate, List·getD-eq-default}
 use lib.Seq.{take-suc, ext-getD, getD-drop, getD-append-add, getD-at}
 use Rattle.numset.specs.Runs.{run, Runs, lo, hi, runsTo, runs, Under, Good, has, words, pack}
-use Rattle.numset.proofs.Laws.{lt-or-ge, good-canonical}
+use Rattle.lists.proofs.Tests.{lt-or-ge}
+use Rattle.numset.proofs.Laws.{good-canonical}
 use Rattle.numset.proofs.Unique.{unique}
 use Rattle.numset.proofs.Words.{at, length-runs}
 

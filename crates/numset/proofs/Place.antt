@@ -9,8 +9,8 @@ use lib.ListN.{length, getD, set, length-set}
 use lib.Seq.{getD-set-other}
 use borrow.Author.Tests.{lt-ltb, le-ltb}
 use Rattle.numset.specs.Runs.{run, lo, hi, runsTo, runs, Under, Good, insert, union, fits, pack, addNumber, addWords}
-use Rattle.numset.specs.Words.{Moved, Cleared, Placed, Spanned, stored}
-use Rattle.numset.proofs.Laws.{lt-or-ge}
+use Rattle.numset.specs.Private.{Shifted, Cleared, Replaced, Spanned, withRun}
+use Rattle.lists.proofs.Tests.{lt-or-ge}
 use Rattle.numset.proofs.Words.{at, runs-suc, length-runs, same-runs}
 use Rattle.numset.proofs.Packs.{packed}
 use Rattle.numset.proofs.Union.{insert-over, insert-under, union-none, union-some}
@@ -24,29 +24,29 @@ module _ (m : List ℕ) (s l u n : ℕ) (room : 2 * s + 2 < length m) where
   abbrev twice : List ℕ
   twice = set once (2 * s + 2) u
 
-  stored-other : (k : ℕ) → 0 < k → (k ≡ 2 * s + 1 → ⊥) → (k ≡ 2 * s + 2 → ⊥) → getD (stored m s l u n) k 0 ≡ getD m k 0
+  stored-other : (k : ℕ) → 0 < k → (k ≡ 2 * s + 1 → ⊥) → (k ≡ 2 * s + 2 → ⊥) → getD (withRun m s l u n) k 0 ≡ getD m k 0
   stored-other k h p q = getD-set-other twice 0 k n 0 (omega arith) ∙ getD-set-other once (2 * s + 2) k u 0 q ∙ getD-set-other m (2 * s + 1) k l 0 p
 
-  stored-count : getD (stored m s l u n) 0 0 ≡ n
+  stored-count : getD (withRun m s l u n) 0 0 ≡ n
   stored-count = put-here twice 0 0 n refl (simp length-set (omega arith))
 
-  stored-lower : lo (stored m s l u n) s ≡ l
+  stored-lower : lo (withRun m s l u n) s ≡ l
   stored-lower =
       getD-set-other twice 0 (2 * s + 1) n 0 (omega arith)
       ∙ getD-set-other once (2 * s + 2) (2 * s + 1) u 0 (omega arith)
       ∙ put-here m (2 * s + 1) (2 * s + 1) l refl (omega arith)
 
-  stored-upper : hi (stored m s l u n) s ≡ u
+  stored-upper : hi (withRun m s l u n) s ≡ u
   stored-upper = getD-set-other twice 0 (2 * s + 2) n 0 (omega arith) ∙ put-here once (2 * s + 2) (2 * s + 2) u refl (simp length-set room)
 
-  stored-below : (k : ℕ) → 0 < k → k < 2 * s + 1 → getD (stored m s l u n) k 0 ≡ getD m k 0
+  stored-below : (k : ℕ) → 0 < k → k < 2 * s + 1 → getD (withRun m s l u n) k 0 ≡ getD m k 0
   stored-below k h p = stored-other k h (omega arith) (omega arith)
 
-  stored-above : (k : ℕ) → 2 * s + 2 < k → getD (stored m s l u n) k 0 ≡ getD m k 0
+  stored-above : (k : ℕ) → 2 * s + 2 < k → getD (withRun m s l u n) k 0 ≡ getD m k 0
   stored-above k p = stored-other k (omega arith) (omega arith) (omega arith)
 
 module _ {m m₁ m′ : List ℕ} {s l u : ℕ} where
-  pub place-up : Moved m m₁ (2 * s + 1) (2 * s + 3) (2 * (getD m 0 0 - s)) → m′ ≡ stored m₁ s l u (s + 1 + (getD m 0 0 - s)) → Good m → s ≤ getD m 0 0 → 2 * s + 2 < length m₁ → Placed m m′ s s (getD m 0 0) l u
+  pub place-up : Shifted m m₁ (2 * s + 1) (2 * s + 3) (2 * (getD m 0 0 - s)) → m′ ≡ withRun m₁ s l u (s + 1 + (getD m 0 0 - s)) → Good m → s ≤ getD m 0 0 → 2 * s + 2 < length m₁ → Replaced m m′ s s (getD m 0 0) l u
   place-up w e g o r =
       let n = getD m 0 0 in
       rw e
@@ -60,7 +60,7 @@ module _ {m m₁ m′ : List ℕ} {s l u : ℕ} where
       })
 
 module _ {m m₁ m₂ m′ : List ℕ} {s e l u : ℕ} where
-  pub place-down : Moved m m₁ (2 * e + 1) (2 * s + 3) (2 * (getD m 0 0 - e)) → Cleared m₁ m₂ (2 * (s + 1 + (getD m 0 0 - e)) + 1) (2 * getD m 0 0 + 1) → m′ ≡ stored m₂ s l u (s + 1 + (getD m 0 0 - e)) → Good m → s < e → e ≤ getD m 0 0 → 2 * s + 2 < length m₂ → Placed m m′ s e (getD m 0 0) l u
+  pub place-down : Shifted m m₁ (2 * e + 1) (2 * s + 3) (2 * (getD m 0 0 - e)) → Cleared m₁ m₂ (2 * (s + 1 + (getD m 0 0 - e)) + 1) (2 * getD m 0 0 + 1) → m′ ≡ withRun m₂ s l u (s + 1 + (getD m 0 0 - e)) → Good m → s < e → e ≤ getD m 0 0 → 2 * s + 2 < length m₂ → Replaced m m′ s e (getD m 0 0) l u
   place-down w v q g o p r =
       let n = getD m 0 0 in
       rw q
@@ -88,7 +88,7 @@ module _ {m : List ℕ} {s e l u low up : ℕ} (x : Spanned m l u s e low up) wh
   insert-length (suc d) h =
       rw (insert-step d (e + suc d) (omega arith) (omega arith), insert-length d (omega arith)) (omega arith)
 
-  module _ {m′ : List ℕ} (z : Placed m m′ s e (getD m 0 0) low up) where
+  module _ {m′ : List ℕ} (z : Replaced m m′ s e (getD m 0 0) low up) where
     placed-runs : (d : ℕ) → e + d ≤ getD m 0 0 → runsTo m′ (s + 1 + d) ≡ insert l u (runsTo m (e + d))
     placed-runs zero h =
         let q : e + 0 ≡ e = omega arith in
@@ -133,7 +133,7 @@ module _ {m : List ℕ} {s e l u low up : ℕ} (x : Spanned m l u s e low up) (o
   pub added-full : length m ≤ 2 * (s + 1 + (getD m 0 0 - e)) → Adds m m l u 11
   added-full h = adds-full m l u (room-lacks h)
 
-  module _ {m′ : List ℕ} (g : Good m) (z : Placed m m′ s e (getD m 0 0) low up) (k : length m′ ≡ length m) (f : u < 2 ^ 64) (h : 2 * (s + 1 + (getD m 0 0 - e)) < length m) where
+  module _ {m′ : List ℕ} (g : Good m) (z : Replaced m m′ s e (getD m 0 0) low up) (k : length m′ ≡ length m) (f : u < 2 ^ 64) (h : 2 * (s + 1 + (getD m 0 0 - e)) < length m) where
     runs-now : runs m′ ≡ insert l u (runs m)
     runs-now =
         let q : e + (getD m 0 0 - e) ≡ getD m 0 0 = omega (arith, x .ended .few) in
@@ -150,5 +150,5 @@ module _ {m : List ℕ} {s e l u low up : ℕ} (x : Spanned m l u s e low up) (o
     pub added : Adds m m′ l u 0
     added = adds-room m l u (room-there h) (packed m′ good-now ∙ rw (k, runs-now, union-some l u (runs m) o))
 
-pub placed-eq : {m m′ : List ℕ} {s e n l u : ℕ} → Placed m m′ s s n l u → s ≡ e → Placed m m′ s e n l u
-placed-eq {m} {m′} {s} {e} {n} {l} {u} z q = subst (λ (k : ℕ). Placed m m′ s k n l u) q z
+pub placed-eq : {m m′ : List ℕ} {s e n l u : ℕ} → Replaced m m′ s s n l u → s ≡ e → Replaced m m′ s e n l u
+placed-eq {m} {m′} {s} {e} {n} {l} {u} z q = subst (λ (k : ℕ). Replaced m m′ s k n l u) q z

@@ -1,16 +1,17 @@
 -- Wiped words are the empty set, and an interval added to that is the set of that interval. Assumes nothing.
 use Prim.Native.Nat.{ℕ, _+_, _*_, _≤_, _<_}
-use mathlib.Core.Path.{_≡_, sym, ap, _∙_}
+use mathlib.Core.Path.{_≡_, refl, sym, ap, _∙_}
 use mathlib.Core.Logic.{⊎-elim}
-use mathlib.Core.List.{List, []}
+use mathlib.Core.List.{List, [], _∷_}
 use native.Mathlib.Omega.{arith}
 use lib.ListN.{length, getD, replicate, length-replicate}
 use lib.Seq.{ext-getD}
-use Rattle.numset.specs.Runs.{runs, Good, union, pack, addNumber, addWords, setNumber, setWords}
-use Rattle.numset.specs.Words.{Cleared}
-use Rattle.numset.proofs.Laws.{lt-or-ge}
+use borrow.Author.Tests.{lt-ltb}
+use Rattle.numset.specs.Runs.{runs, Good, union, pack, addNumber, addWords, setToNumber, setToWords, emptyNumber}
+use Rattle.numset.specs.Private.{Cleared}
+use Rattle.lists.proofs.Tests.{lt-or-ge}
 use Rattle.numset.proofs.Union.{union-none}
-use Rattle.numset.proofs.Packs.{getD-zeros, length-pack, runs-pack, zeros-pack}
+use Rattle.numset.proofs.Packs.{getD-zeros, length-pack, runs-pack, zeros-pack, good-zeros}
 use Rattle.numset.proofs.Changes.{added-room, added-words, one-lacks, one-room, set-full, set-room, set-words, set-same}
 
 pub wiped : {m m′ : List ℕ} {n : ℕ} → Cleared m m′ 0 n → length m′ ≡ length m → ((i : ℕ) → n ≤ i → i < length m → getD m i 0 ≡ 0) → m′ ≡ replicate (length m) 0
@@ -21,9 +22,28 @@ wiped {m} {m′} {n} w k r =
 pub cleared : {m m′ : List ℕ} → Good m → Cleared m m′ 0 (2 * getD m 0 0 + 1) → length m′ ≡ length m → m′ ≡ pack (length m) []
 cleared {m} g w k = let r = g .room in wiped w k (λ i p q. g .rest i (omega arith)) ∙ zeros-pack (length m) (omega arith)
 
+-- ---- what `empty` answers and leaves
+abbrev Empties : List ℕ → List ℕ → ℕ → Type 0
+Empties m m′ r = (r ≡ emptyNumber m) × (m′ ≡ replicate (length m) 0)
+
+pub empties-none : (m : List ℕ) → length m ≡ 0 → Empties m m 11
+unfolding emptyNumber
+empties-none [] h = (refl, refl)
+empties-none (x ∷ m) h = absurd (omega arith)
+
+pub empties : (m : List ℕ) {m′ : List ℕ} → (length m ≡ 0 → ⊥) → m′ ≡ replicate (length m) 0 → Empties m m′ 0
+unfolding emptyNumber
+empties m h e = (rw (lt-ltb 0 (length m) (omega arith)), e)
+
+-- where it answers 0 there is a set
+pub empty-good : (m : List ℕ) {m′ : List ℕ} → m′ ≡ replicate (length m) 0 → emptyNumber m ≡ 0 → Good m′
+unfolding emptyNumber
+empty-good [] _ e = absurd (let z : _≡_ {A = ℕ} 11 0 = e in omega arith)
+empty-good (x ∷ m) e _ = rw e (good-zeros (length (x ∷ m)) (omega arith))
+
 -- ---- what `set_to` answers and leaves
 abbrev Sets : List ℕ → List ℕ → ℕ → ℕ → ℕ → Type 0
-Sets m m′ l u r = (r ≡ setNumber m l u) × (m′ ≡ setWords m l u)
+Sets m m′ l u r = (r ≡ setToNumber m l u) × (m′ ≡ setToWords m l u)
 
 pub sets-none : (m : List ℕ) {m′ : List ℕ} {l u : ℕ} → 0 < length m → u < l → m′ ≡ pack (length m) [] → Sets m m′ l u 0
 sets-none m {m′} {l} {u} g h e =

@@ -7,7 +7,8 @@ use mathlib.Core.List.{[], _∷_}
 use native.Mathlib.Omega.{arith}
 use borrow.Author.Tests.{lt-ltb, le-ltb}
 use Rattle.numset.specs.Runs.{run, Runs, Under, Canonical, within, has, insert, union}
-use Rattle.numset.proofs.Laws.{lt-or-ge, inside, outside-above, outside-below, outside-none, in-or-out, under-mono, canonical, topOf, under-topOf}
+use Rattle.lists.proofs.Tests.{lt-or-ge}
+use Rattle.numset.proofs.Laws.{inside, outside-above, outside-below, outside-none, in-or-out, under-mono, canonical, topOf, under-topOf}
 
 -- ---- the three ways of `insert`
 module _ (l u a b : ℕ) (rs : Runs) where

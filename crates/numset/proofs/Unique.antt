@@ -5,7 +5,8 @@ use mathlib.Core.Logic.{⊎-elim}
 use mathlib.Core.List.{[], _∷_}
 use native.Mathlib.Omega.{arith}
 use Rattle.numset.specs.Runs.{run, Runs, Canonical, has}
-use Rattle.numset.proofs.Laws.{lt-or-ge, clash, under-has, canonical-older, newest-in, older-same, above-out, gap-out}
+use Rattle.lists.proofs.Tests.{lt-or-ge, clash}
+use Rattle.numset.proofs.Laws.{under-has, canonical-older, newest-in, older-same, above-out, gap-out}
 
 module _ (l u : ℕ) (rs : Runs) (w : Canonical (run l u ∷ rs)) (a b : ℕ) (qs : Runs) (v : Canonical (run a b ∷ qs)) (e : (t : ℕ) → has (run l u ∷ rs) t ≡ has (run a b ∷ qs) t) where
   uppers : b ≤ u

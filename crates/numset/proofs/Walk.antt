@@ -6,8 +6,8 @@ use mathlib.Core.List.{List, _∷_}
 use native.Mathlib.Omega.{arith}
 use lib.ListN.{getD}
 use Rattle.numset.specs.Runs.{run, Runs, lo, hi, runsTo, Under, Good, insert}
-use Rattle.numset.specs.Words.{Ended, Met, Spanned}
-use Rattle.numset.proofs.Laws.{lt-or-ge}
+use Rattle.numset.specs.Private.{Ended, Met, Spanned}
+use Rattle.lists.proofs.Tests.{lt-or-ge}
 use Rattle.numset.proofs.Words.{runs-pos, runs-none, newest}
 use Rattle.numset.proofs.Union.{insert-past, insert-join}
 

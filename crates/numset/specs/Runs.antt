@@ -5,10 +5,8 @@ use mathlib.Core.Bool.{Bool, true, false, cond, _&&_, _||_}
 use mathlib.Core.List.{List, [], _∷_, _++_}
 use lib.ListN.{length, getD, replicate}
 use lib.Dec.{leb, ltb}
-
--- the largest instant
-abbrev pub MAX : ℕ
-MAX = 18446744073709551615
+use Rattle.numbers.specs.Limits.{MAX, MOST-RUNS}
+use Rattle.numbers.specs.Refusals.{ACCEPTED, NO-ROOM}
 
 -- a run: the instants from its lower to its upper end, both in it
 pub data Run : Type 0 where
@@ -27,7 +25,7 @@ unfoldable pub has : Runs → ℕ → Bool
 has [] t = false
 has (run l u ∷ rs) t = within l u t || has rs t
 
--- every instant from `from` to MAX is in the set
+-- every instant from `from` to MAX is in the set (the original: contains_unbounded_interval)
 abbrev pub Covers : ℕ → Runs → Type 0
 Covers from rs = (t : ℕ) → from ≤ t → t ≤ MAX → has rs t ≡ true
 
@@ -95,17 +93,25 @@ pack size rs = length rs ∷ words rs ++ replicate (size - (2 * length rs + 1)) 
 abbrev pub fits : ℕ → Runs → Bool
 fits size rs = ltb (2 * length rs) size
 
--- what adding l ..= u to the words m hands back: 0, or 11 where the union has more runs than there is room for
+-- the words of a set with room for the most runs
+abbrev pub SET-WORDS : ℕ
+SET-WORDS = 1 + 2 * MOST-RUNS
+
+-- what making the words m the empty set hands back: NO-ROOM where there is none even for the number of runs
+unfoldable pub emptyNumber : List ℕ → ℕ
+emptyNumber m = cond (fits (length m) []) ACCEPTED NO-ROOM
+
+-- what adding l ..= u to the words m hands back: NO-ROOM where the union has more runs than there is room for
 unfoldable pub addNumber : List ℕ → ℕ → ℕ → ℕ
-addNumber m l u = cond (fits (length m) (union l u (runs m))) 0 11
+addNumber m l u = cond (fits (length m) (union l u (runs m))) ACCEPTED NO-ROOM
 
 -- and the words that it leaves: those of the union, or m
 unfoldable pub addWords : List ℕ → ℕ → ℕ → List ℕ
 addWords m l u = cond (fits (length m) (union l u (runs m))) (pack (length m) (union l u (runs m))) m
 
 -- what setting the words m to l ..= u hands back, and the words that it leaves; the empty set where l is above u
-unfoldable pub setNumber : List ℕ → ℕ → ℕ → ℕ
-setNumber m l u = cond (fits (length m) (union l u [])) 0 11
+unfoldable pub setToNumber : List ℕ → ℕ → ℕ → ℕ
+setToNumber m l u = cond (fits (length m) (union l u [])) ACCEPTED NO-ROOM
 
-unfoldable pub setWords : List ℕ → ℕ → ℕ → List ℕ
-setWords m l u = cond (fits (length m) (union l u [])) (pack (length m) (union l u [])) m
+unfoldable pub setToWords : List ℕ → ℕ → ℕ → List ℕ
+setToWords m l u = cond (fits (length m) (union l u [])) (pack (length m) (union l u [])) m

@@ -3,13 +3,14 @@ ghost use mathlib.Core.Path.{_≡_};
 ghost use mathlib.Core.Bool.{true};
 ghost use mathlib.Core.List.{[]};
 ghost use mathlib.Core.Logic.{_↔_};
-ghost use Rattle.numset.specs.Runs.{Good, Covers, runs, has, union, pack, addNumber, addWords};
+ghost use Rattle.numset.specs.Runs.{SET-WORDS, Good, Covers, runs, has, union, pack, addNumber, addWords};
+use numbers::MOST_RUNS;
 
-// The number of runs, and two words for each of 64.
-const WORDS: usize = 129;
+// The words of a set with room for the most runs: how many there are, and two for each.
+pub const SET_WORDS: usize = 1 + 2 * MOST_RUNS;
 
 pub struct NumSet {
-    pub words: [u64; WORDS],
+    pub words: [u64; SET_WORDS],
 }
 
 // What an addition hands back: its number, and the set.
@@ -20,17 +21,17 @@ pub struct Added {
 
 impl NumSet {
     pub fn empty() -> Self
-        ensures { λ r. ⌜ r .words ≡ pack 129 [] ⌝ }
+        ensures { λ r. ⌜ r .words ≡ pack SET-WORDS [] ⌝ }
     {
-        let words = [0u64; WORDS];
+        let words = [0u64; SET_WORDS];
         Self { words }
     }
 
     // The set of `lower ..= upper`, empty where `lower` is above `upper`.
     pub fn from_interval(lower: u64, upper: u64) -> Self
-        ensures { λ r. ⌜ r .words ≡ pack 129 (union lower upper []) ⌝ }
+        ensures { λ r. ⌜ r .words ≡ pack SET-WORDS (union lower upper []) ⌝ }
     {
-        let mut words = [0u64; WORDS];
+        let mut words = [0u64; SET_WORDS];
         crate::set_to(&mut words, lower, upper);
         Self { words }
     }

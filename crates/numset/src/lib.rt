@@ -9,21 +9,17 @@ ghost use mathlib.Core.List.{[]};
 ghost use mathlib.Core.Logic.{_↔_};
 ghost use Prim.Native.Nat.{_+_, _*_, _-_, _<_, _≤_, min, max};
 ghost use lib.ListN.{length, getD, replicate};
-ghost use Rattle.numset.specs.Runs.{Good, Covers, runs, has, lo, hi, union, fits, pack, addNumber, addWords, setNumber, setWords};
-ghost use Rattle.numset.specs.Words.{Moved, Cleared, Placed, Ended, Spanned, stored};
+ghost use Rattle.numset.specs.Runs.{Good, Covers, emptyNumber, runs, has, lo, hi, union, fits, pack, addNumber, addWords, setToNumber, setToWords};
+ghost use Rattle.numset.specs.Private.{Shifted, Cleared, Replaced, Ended, Spanned, withRun};
 
 mod by_value; // by_value.rt: a set of 64 runs by value
 
 pub use by_value::Added;
 pub use by_value::NumSet;
-
-// The largest instant.
-const MAX: u64 = 0xffff_ffff_ffff_ffff;
-
-// What a change hands back: it was made, or there is no room and the set is as it was.
-const DONE: u64 = 0;
-
-const NO_ROOM: u64 = 11;
+pub use by_value::SET_WORDS;
+use numbers::ACCEPTED;
+use numbers::MAX;
+use numbers::NO_ROOM;
 
 // The words of a set of one run.
 const ONE_RUN: usize = 3;
@@ -69,7 +65,7 @@ pub fn contains(set: &[u64], t: u64) -> bool
     t <= upper_at(set, low - 1)
 }
 
-// Whether every instant from `from` to MAX is in the set: only the last run can hold MAX.
+// Whether every instant from `from` to MAX is in the set: `contains_unbounded_interval` of the original. Only the last run can hold MAX.
 pub fn covers(set: &[u64], from: u64) -> bool
     requires { ⌜ Good (now set) ⌝ }
     ensures { λ r. ⌜ (r ≡ true) ↔ Covers from (runs (now (set .entry))) ⌝ }
@@ -87,7 +83,7 @@ pub fn covers(set: &[u64], from: u64) -> bool
 // Copies `count` words from `src` on to `dst` on, which is not below; the last first, so that none is lost.
 fn move_up(set: &mut [u64], src: usize, dst: usize, count: usize)
     requires { ⌜ (src ≤ dst) × (dst + count ≤ length (now set)) ⌝ }
-    ensures { λ _. ⌜ Moved (now (set .entry)) (now (set .exit)) src dst count ⌝ }
+    ensures { λ _. ⌜ Shifted (now (set .entry)) (now (set .exit)) src dst count ⌝ }
 {
     let mut i = count;
     while 0 < i {
@@ -99,7 +95,7 @@ fn move_up(set: &mut [u64], src: usize, dst: usize, count: usize)
 // Copies `count` words from `src` on to `dst` on, which is not above; the first first.
 fn move_down(set: &mut [u64], src: usize, dst: usize, count: usize)
     requires { ⌜ (dst ≤ src) × (src + count ≤ length (now set)) ⌝ }
-    ensures { λ _. ⌜ Moved (now (set .entry)) (now (set .exit)) src dst count ⌝ }
+    ensures { λ _. ⌜ Shifted (now (set .entry)) (now (set .exit)) src dst count ⌝ }
 {
     let mut i = 0;
     while i < count {
@@ -234,7 +230,7 @@ fn find_span(set: &[u64], lower: u64, upper: u64) -> Span
 // Makes `lower ..= upper` run `s`, and `n` the number of runs.
 fn store(set: &mut [u64], s: usize, lower: u64, upper: u64, n: usize)
     requires { ⌜ 2 * s + 2 < length (now set) ⌝ }
-    ensures { λ _. ⌜ now (set .exit) ≡ stored (now (set .entry)) s lower upper n ⌝ }
+    ensures { λ _. ⌜ now (set .exit) ≡ withRun (now (set .entry)) s lower upper n ⌝ }
 {
     set[2 * s + 1] = lower;
     set[2 * s + 2] = upper;
@@ -245,7 +241,7 @@ fn store(set: &mut [u64], s: usize, lower: u64, upper: u64, n: usize)
 fn put_new(set: &mut [u64], s: usize, lower: u64, upper: u64)
     requires { ⌜ Good (now set) ⌝ }
     requires { ⌜ (s ≤ getD (now set) 0 0) × (2 * getD (now set) 0 0 + 2 < length (now set)) ⌝ }
-    ensures { λ _. ⌜ Placed (now (set .entry)) (now (set .exit)) s s (getD (now (set .entry)) 0 0) lower upper ⌝ }
+    ensures { λ _. ⌜ Replaced (now (set .entry)) (now (set .exit)) s s (getD (now (set .entry)) 0 0) lower upper ⌝ }
 {
     let n = set[0] as usize;
     move_up(set, 2 * s + 1, 2 * s + 3, 2 * (n - s));
@@ -256,7 +252,7 @@ fn put_new(set: &mut [u64], s: usize, lower: u64, upper: u64)
 fn put_over(set: &mut [u64], s: usize, e: usize, lower: u64, upper: u64)
     requires { ⌜ Good (now set) ⌝ }
     requires { ⌜ (s < e) × (e ≤ getD (now set) 0 0) ⌝ }
-    ensures { λ _. ⌜ Placed (now (set .entry)) (now (set .exit)) s e (getD (now (set .entry)) 0 0) lower upper ⌝ }
+    ensures { λ _. ⌜ Replaced (now (set .entry)) (now (set .exit)) s e (getD (now (set .entry)) 0 0) lower upper ⌝ }
 {
     let n = set[0] as usize;
     let m = s + 1 + (n - e);
@@ -272,7 +268,7 @@ pub fn add(set: &mut [u64], lower: u64, upper: u64) -> u64
 {
     // Skip if empty range
     if upper < lower {
-        return DONE;
+        return ACCEPTED;
     }
     let n = set[0] as usize;
     let joined = find_span(set, lower, upper);
@@ -280,13 +276,13 @@ pub fn add(set: &mut [u64], lower: u64, upper: u64) -> u64
     let end = joined.end;
     if start < end {
         put_over(set, start, end, joined.lower, joined.upper);
-        return DONE;
+        return ACCEPTED;
     }
     if set.len() < 2 * n + ONE_RUN {
         return NO_ROOM;
     }
     put_new(set, start, joined.lower, joined.upper);
-    DONE
+    ACCEPTED
 }
 
 // Whether there is room to add `lower ..= upper`: only a run that joins no other takes more.
@@ -322,11 +318,11 @@ pub fn clear(set: &mut [u64])
 // Sets the set to `lower ..= upper`, which empties it where `lower` is above `upper`. The answer is that of `add`.
 pub fn set_to(set: &mut [u64], lower: u64, upper: u64) -> u64
     requires { ⌜ Good (now set) ⌝ }
-    ensures { λ r. ⌜ (r ≡ setNumber (now (set .entry)) lower upper) × (now (set .exit) ≡ setWords (now (set .entry)) lower upper) ⌝ }
+    ensures { λ r. ⌜ (r ≡ setToNumber (now (set .entry)) lower upper) × (now (set .exit) ≡ setToWords (now (set .entry)) lower upper) ⌝ }
 {
     if upper < lower {
         clear(set);
-        return DONE;
+        return ACCEPTED;
     }
     if set.len() < ONE_RUN {
         return NO_ROOM;
@@ -335,10 +331,13 @@ pub fn set_to(set: &mut [u64], lower: u64, upper: u64) -> u64
     add(set, lower, upper)
 }
 
-// Makes any words the empty set.
-pub fn empty(set: &mut [u64])
-    ensures { λ _. ⌜ now (set .exit) ≡ replicate (length (now (set .entry))) 0 ⌝ }
+// Makes any words the empty set. Where there is no word, not even for the number of runs, there is no set either.
+pub fn empty(set: &mut [u64]) -> u64
+    ensures { λ r. ⌜ (r ≡ emptyNumber (now (set .entry))) × (now (set .exit) ≡ replicate (length (now (set .entry))) 0) ⌝ }
 {
-    let n = set.len();
-    wipe(set, 0, n);
+    if set.len() == 0 {
+        return NO_ROOM;
+    }
+    lists::clear(set);
+    ACCEPTED
 }

@@ -1,7 +1,11 @@
 // What the set of instants does, printed and compared with a stored output: P1 to P5, the limit, the edges, and the set by value.
 mod print; // print.rt: a call, and what it gave, on one line
 
+use numbers::ACCEPTED;
+use numbers::MAX;
+use numbers::MOST_RUNS;
 use numset::NumSet;
+use numset::SET_WORDS;
 use print::add;
 use print::add_to_many;
 use print::add_value;
@@ -18,10 +22,8 @@ ghost use Prim.Native.Nat.{_<_};
 ghost use lib.ListN.{length};
 ghost use Rattle.numset.specs.Runs.{Good};
 
-const MAX: u64 = 0xffff_ffff_ffff_ffff;
-
-// As many runs as 129 words have room for.
-const FULL: u64 = 64;
+// As many runs as a whole set has room for.
+const FULL: u64 = MOST_RUNS as u64;
 
 fn first_examples(set: &mut [u64])
     requires { ⌜ Good (now set) ⌝ }
@@ -287,10 +289,10 @@ fn edges(set: &mut [u64])
 }
 
 // The words may hold anything at first.
-fn show_all(set: &mut [u64])
-    requires { ⌜ 0 < length (now set) ⌝ }
-{
-    numset::empty(set);
+fn show_all(set: &mut [u64]) {
+    if numset::empty(set) != ACCEPTED {
+        return;
+    }
     examples(set);
     edges(set);
     small();
@@ -298,6 +300,6 @@ fn show_all(set: &mut [u64])
 }
 
 fn main() {
-    let mut set = [7u64; 129];
+    let mut set = [7u64; SET_WORDS];
     show_all(&mut set);
 }

@@ -1,10 +1,8 @@
 // A call, and what it gave, on one line.
 use libc::STDOUT_FILENO;
+use numbers::MAX;
 use numset::NumSet;
-ghost use Prim.Native.Nat.{_<_, _≤_};
 ghost use Rattle.numset.specs.Runs.{Good};
-
-const MAX: u64 = 0xffff_ffff_ffff_ffff;
 
 pub fn text(bytes: &[u8]) {
     io::write_all(STDOUT_FILENO, bytes);

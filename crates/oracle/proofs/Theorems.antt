@@ -2,28 +2,28 @@
 -- demands hold of the answers that the code hands back. Nothing is assumed.
 use Prim.Native.Nat.{ℕ}
 use mathlib.Core.Path.{_≡_, sym, ap, ap₂, _∙_}
-use mathlib.Core.Bool.{Bool}
+use mathlib.Core.Logic.{_↔_}
+use mathlib.Core.Bool.{Bool, true, not}
 use mathlib.Core.List.{List, _++_}
 use Rattle.pmtl.specs.Answer.{known}
-use Rattle.pmtl.specs.Book.{Book, Ordered}
-use Rattle.pmtl.specs.Monitor.{State}
+use Rattle.pmtl.specs.Book.{Range, Book, Ordered, rowAt}
+use Rattle.pmtl.specs.Book.Row.{historically, once, since}
+use Rattle.pmtl.specs.Monitor.{State, value}
+use Rattle.pmtl.specs.Early.{early}
+use Rattle.pmtl.specs.Settled.{settled}
 use Rattle.pmtl.specs.Calls.{Call, call, after, accepted}
 use Rattle.pmtl.specs.Meaning.{meaning}
-use Rattle.pmtl.proofs.Theorems.{demand-2 as means, demand-3 as stays}
-use Rattle.rows.specs.Memory.{bookOf, stateOf}
-use Rattle.rows.proofs.Kept.{kept-ordered}
-use Rattle.book.specs.Judging.{loaded}
-use Rattle.book.specs.Kept.{Kept}
-use Rattle.store.proofs.Same.{same-words}
-use Rattle.verdicts.specs.declared.Verdict.{Verdict}
-use Rattle.verdicts.specs.Verdict.{propertyAt, verdictIn, verdictOf}
-use Rattle.oracle.specs.Oracle.{Called}
-use Rattle.oracle.specs.Made.{Made}
+use Rattle.pmtl.specs.Past.{held, SomeCall, SinceCall}
+use Rattle.pmtl.proofs.Theorems.{demand-2 as means, demand-3 as stays, once-holds as once-means, historically-holds as historically-means, since-holds as since-means}
+use Rattle.memory.specs.Memory.{clockOf, bookOf, stateOf}
+use Rattle.memory.proofs.Rows.{kept-ordered}
+use Rattle.memory.specs.Kept.{Kept}
+use Rattle.memory.proofs.Same.{same-words}
+use Rattle.property_answers.specs.declared.Verdict.{Verdict}
+use Rattle.property_answers.specs.Verdict.{propertyAt, verdictIn, verdictOf}
+use Rattle.calls.specs.Called.{Called}
+use Rattle.oracle.specs.Made.{Made, bookSaid}
 use Rattle.oracle.specs.Made.Made.{loads, calls}
-
--- the book that the words say: an empty one where they are refused
-abbrev pub bookSaid : List ℕ → Book
-bookSaid words = loaded words .book
 
 -- load and the calls leave memories that the next call may be made on
 pub made-kept : {words : List ℕ} {ks : List Call} {m : List ℕ} → Made words ks m → Kept m
@@ -56,21 +56,61 @@ made-ordered {m = m} made = rw (sym (ap (λ (b : Book). b .rows) (made-book made
 pub made-verdict : {words : List ℕ} {ks : List Call} {m : List ℕ} → Made words ks m → (i : ℕ) → verdictOf m i ≡ verdictIn (bookSaid words) (after (bookSaid words .rows) ks) i
 made-verdict made i = ap₂ (λ (b : Book) (st : State). verdictIn b st i) (made-book made) (made-state made)
 
+-- so is the clock
+pub made-clock : {words : List ℕ} {ks : List Call} {m : List ℕ} → Made words ks m → clockOf m ≡ after (bookSaid words .rows) ks .now .clock
+unfolding stateOf
+made-clock made = ap (λ (st : State). st .now .clock) (made-state made)
+
+-- and so are the three answers of a property, each by itself
+module _ {words : List ℕ} {ks : List Call} {m : List ℕ} (made : Made words ks m) (i : ℕ) where
+  pub value-is : verdictOf m i .value ≡ value (bookSaid words .rows) (after (bookSaid words .rows) ks) (propertyAt (bookSaid words) i)
+  unfolding verdictIn
+  value-is = ap (λ (v : Verdict). v .value) (made-verdict made i)
+
+  pub early-is : verdictOf m i .early ≡ early (bookSaid words .rows) (after (bookSaid words .rows) ks) (propertyAt (bookSaid words) i)
+  unfolding verdictIn
+  early-is = ap (λ (v : Verdict). v .early) (made-verdict made i)
+
+  pub settled-is : verdictOf m i .settled ≡ settled (bookSaid words .rows) (after (bookSaid words .rows) ks) (propertyAt (bookSaid words) i)
+  unfolding verdictIn
+  settled-is = ap (λ (v : Verdict). v .settled) (made-verdict made i)
+
 -- DEMAND 2: the value handed back of a property is what its row means on the history of the accepted calls
 pub demand-2 : {words : List ℕ} {ks : List Call} {m : List ℕ} → Made words ks m → (i : ℕ)
     → verdictOf m i .value ≡ meaning (bookSaid words .rows) (propertyAt (bookSaid words) i) (accepted (bookSaid words .rows) ks)
-unfolding verdictIn
 demand-2 {words} {ks} made i =
-    ap (λ (v : Verdict). v .value) (made-verdict made i) ∙ means (bookSaid words .rows) (made-ordered made) ks (propertyAt (bookSaid words) i)
+    value-is made i ∙ means (bookSaid words .rows) (made-ordered made) ks (propertyAt (bookSaid words) i)
 
 -- DEMAND 3: if settled is handed back true or false, then now and after every further list of calls the value handed back is that, and settled is that
 pub demand-3 : {words : List ℕ} {ks : List Call} {m : List ℕ} → Made words ks m → (i : ℕ) (x : Bool) → verdictOf m i .settled ≡ known x
     → (more : List Call) {m′ : List ℕ} → Made words (more ++ ks) m′ → (verdictOf m′ i .value ≡ x) × (verdictOf m′ i .settled ≡ known x)
-unfolding verdictIn
 demand-3 {words} {ks} made i x e more later =
     let b : Book = bookSaid words in
-    let s = stays (b .rows) (made-ordered made) ks (propertyAt b i) more x (sym (ap (λ (v : Verdict). v .settled) (made-verdict made i)) ∙ e) in
-    (ap (λ (v : Verdict). v .value) (made-verdict later i) ∙ s .0, ap (λ (v : Verdict). v .settled) (made-verdict later i) ∙ s .1)
+    let s = stays (b .rows) (made-ordered made) ks (propertyAt b i) more x (sym (settled-is made i) ∙ e) in
+    (value-is later i ∙ s .0, settled-is later i ∙ s .1)
+
+-- ---- demand 2 in words: of a property whose row is temporal, and the clock that the memory has
+module _ {words : List ℕ} {ks : List Call} {m : List ℕ} (made : Made words ks m) (i : ℕ) where
+  -- Once is handed back true exactly if its argument held after some accepted call whose range, counted from that call, contains now
+  pub once-holds : (g : Range) (o : ℕ) → rowAt (bookSaid words .rows) (propertyAt (bookSaid words) i) ≡ once g o
+      → (verdictOf m i .value ≡ true)
+      ↔ SomeCall (bookSaid words .rows) g (held (bookSaid words .rows) o) (accepted (bookSaid words .rows) ks) (clockOf m)
+  once-holds g o e =
+      rw (value-is made i, made-clock made) (once-means (bookSaid words .rows) (made-ordered made) ks (propertyAt (bookSaid words) i) g o e)
+
+  -- Historically exactly if its argument failed after no such call
+  pub historically-holds : (g : Range) (o : ℕ) → rowAt (bookSaid words .rows) (propertyAt (bookSaid words) i) ≡ historically g o
+      → (verdictOf m i .value ≡ true)
+      ↔ ¬ (SomeCall (bookSaid words .rows) g (λ past. not (held (bookSaid words .rows) o past)) (accepted (bookSaid words .rows) ks) (clockOf m))
+  historically-holds g o e =
+      rw (value-is made i, made-clock made) (historically-means (bookSaid words .rows) (made-ordered made) ks (propertyAt (bookSaid words) i) g o e)
+
+  -- Since exactly if right held after some such call and left after every later one
+  pub since-holds : (g : Range) (left right : ℕ) → rowAt (bookSaid words .rows) (propertyAt (bookSaid words) i) ≡ since g left right
+      → (verdictOf m i .value ≡ true)
+      ↔ SinceCall (bookSaid words .rows) g (held (bookSaid words .rows) left) (held (bookSaid words .rows) right) (accepted (bookSaid words .rows) ks) (clockOf m)
+  since-holds g left right e =
+      rw (value-is made i, made-clock made) (since-means (bookSaid words .rows) (made-ordered made) ks (propertyAt (bookSaid words) i) g left right e)
 
 -- ---- what is allowed for one input coincides
 -- a call on a memory has one answer and leaves one memory

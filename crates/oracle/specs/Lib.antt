@@ -1,3 +1,1 @@
-pub mod Oracle
 pub mod Made
-pub mod Steps

@@ -1,17 +1,35 @@
-// The oracle: `PmtlOracle` of the original, in lent words.
-mod calls;
-
+// The library's face, `PmtlOracle` of the original in lent words: a book is loaded into a memory, calls are made on it, and it answers
+// of its properties. A program uses this crate and none of those below it.
 ghost use mathlib.Core.Path.{_≡_};
+ghost use Rattle.numbers.specs.Limits.{MOST-ROWS};
 ghost use Rattle.pmtl.specs.Calls.{Call};
-ghost use Rattle.book.specs.Kept.{Kept};
-ghost use Rattle.verdicts.specs.Steps.{Here};
-ghost use Rattle.oracle.specs.Oracle.{Called};
-
-// The words of a monitor.
-pub const SIZE: usize = rows::SIZE;
-
-// The rows that `here` has a byte for.
-pub const MOST_ROWS: usize = rows::MOST_ROWS;
+ghost use Rattle.memory.specs.Memory.{clockOf};
+ghost use Rattle.memory.specs.Kept.{Kept};
+ghost use Rattle.calls.specs.Called.{Called};
+pub use book::AND;
+pub use book::ATOM;
+pub use book::FALSE;
+pub use book::HISTORICALLY;
+pub use book::IMPLIES;
+pub use book::NOT;
+pub use book::ONCE;
+pub use book::OR;
+pub use book::SINCE;
+pub use book::TRUE;
+pub use loader::load;
+pub use memory::SIZE;
+pub use memory::clock;
+pub use numbers::MOST_PROPERTIES;
+use numbers::MOST_ROWS;
+pub use pmtl::Answer;
+pub use pmtl::bit;
+pub use pmtl::digit;
+pub use property_answers::Verdict;
+pub use property_answers::Verdicts;
+pub use property_answers::all;
+pub use property_answers::answers;
+pub use property_answers::of_property;
+pub use property_answers::property_count;
 
 // The clock becomes `time`, and every row is evaluated anew. The answer is 0, or the number of the refusal: then nothing changed.
 pub fn update_time(monitor: &mut [u64; SIZE], time: u64) -> u64
@@ -19,7 +37,7 @@ pub fn update_time(monitor: &mut [u64; SIZE], time: u64) -> u64
     ensures { λ r. ⌜ Called (Call.time time) (now (monitor .entry)) (now (monitor .exit)) r ⌝ }
 {
     let mut here = [0u8; MOST_ROWS];
-    update_time_here(monitor, time, &mut here)
+    calls::update_time_here(monitor, time, &mut here)
 }
 
 // The atoms become the bytes of `state`, and every row is evaluated anew. The answer is as that of `update_time`.
@@ -28,21 +46,5 @@ pub fn update_state(monitor: &mut [u64; SIZE], state: &[u8]) -> u64
     ensures { λ r. ⌜ Called (Call.state (now (state .entry))) (now (monitor .entry)) (now (monitor .exit)) r ⌝ }
 {
     let mut here = [0u8; MOST_ROWS];
-    update_state_here(monitor, state, &mut here)
-}
-
-// As `update_time`. Of an accepted call, `here` then says which sets contain the clock, so that whoever answers need not search them again.
-pub fn update_time_here(monitor: &mut [u64; SIZE], time: u64, here: &mut [u8; MOST_ROWS]) -> u64
-    requires { ⌜ Kept (now monitor) ⌝ }
-    ensures { λ r. ⌜ Called (Call.time time) (now (monitor .entry)) (now (monitor .exit)) r × (r ≡ 0 → Here (now (monitor .exit)) (now (here .exit))) ⌝ }
-{
-    calls::time_call(monitor, time, here)
-}
-
-// As `update_state`, with `here` as that of `update_time_here`.
-pub fn update_state_here(monitor: &mut [u64; SIZE], state: &[u8], here: &mut [u8; MOST_ROWS]) -> u64
-    requires { ⌜ Kept (now monitor) ⌝ }
-    ensures { λ r. ⌜ Called (Call.state (now (state .entry))) (now (monitor .entry)) (now (monitor .exit)) r × (r ≡ 0 → Here (now (monitor .exit)) (now (here .exit))) ⌝ }
-{
-    calls::state_call(monitor, state, here)
+    calls::update_state_here(monitor, state, &mut here)
 }

@@ -8,32 +8,14 @@ use mathlib.Core.Bool.{Bool, true, not, _&&_, false≢true}
 use mathlib.Core.List.{[], _∷_}
 use lib.ListN.{length, drop}
 use borrow.Author.Tests.{not-true}
-use Rattle.numset.proofs.Laws.{clash}
+use Rattle.lists.proofs.Tests.{clash, and-left, and-right, and-intro, or-left, or-right, or-elim, not-yes, fails-by}
 use Rattle.pmtl.specs.Book.{Range, inRange, Row, mapRow, Rows, rowAt, Ordered}
 use Rattle.pmtl.specs.Book.Row.{historically, once, since}
 use Rattle.pmtl.specs.Calls.{History, nowOf}
 use Rattle.pmtl.specs.Meaning.{Fact, sinceSome, instants, meaningRule}
-use Rattle.pmtl.proofs.Bools.{and-left, and-right, and-intro, or-left, or-right, or-elim, not-yes, fails-by}
+use Rattle.pmtl.specs.Past.{held, HeldAfter, SomeCall, EveryLater, SinceCall}
 use Rattle.pmtl.proofs.History.{Legal}
-use Rattle.pmtl.proofs.Values.{held, value-held}
-
--- the call k calls ago is one of those so far, f held after it, and the range counted from it contains t
-pub record HeldAfter (b : Rows) (g : Range) (f : Fact) (h : History) (t k : ℕ) : Type 0 where
-  pub so-far : k < length h
-  pub held-then : f (drop k h) ≡ true
-  pub in-range : inRange g (nowOf b (drop k h) .clock) t ≡ true
-
--- f held after some call so far whose range, counted from that call, contains t
-abbrev pub SomeCall : Rows → Range → Fact → History → ℕ → Type 0
-SomeCall b g f h t = (k : ℕ) × HeldAfter b g f h t k
-
--- f held after every call later than the one k calls ago
-abbrev pub EveryLater : Fact → History → ℕ → Type 0
-EveryLater f h k = (j : ℕ) → j < k → f (drop j h) ≡ true
-
--- right held after some such call and left after every later one
-abbrev pub SinceCall : Rows → Range → Fact → Fact → History → ℕ → Type 0
-SinceCall b g left right h t = (k : ℕ) × HeldAfter b g right h t k × EveryLater left h k
+use Rattle.pmtl.proofs.Values.{value-held}
 
 module _ (b : Rows) (g : Range) (f q : Fact) where
   some-ago : (h : History) (t : ℕ) → sinceSome g f q h t ≡ true → SinceCall b g f q h t

@@ -8,10 +8,12 @@ use mathlib.Core.List.{List, [], _∷_, _++_}
 use lib.ListN.{length, drop}
 use lib.Dec.{ltb, eqb}
 use borrow.Author.Tests.{ltb-false, eqb-true, ne-eqb}
-use Rattle.pmtl.specs.Book.{H, Rows}
+use Rattle.numbers.specs.Limits.{LAST-TIME}
+use Rattle.pmtl.specs.Book.{Rows}
 use Rattle.pmtl.specs.Monitor.{Snap, State, step}
 use Rattle.pmtl.specs.Calls.{Call, time, state, turns, refusal, crowded, Outcome, play, call, after, History, nowOf, onto, accepted}
-use Rattle.pmtl.proofs.History.{run, Legal, now-run, small-clock}
+use Rattle.pmtl.specs.Past.{run}
+use Rattle.pmtl.proofs.History.{Legal, now-run, small-clock}
 
 -- the state after snapshots in turn
 unfoldable steps : Rows → State → List Snap → State
@@ -71,9 +73,9 @@ first-zero false n m e = (refl, e)
 legal-call : (b : Rows) (h : History) → Legal b h → (k : Call) → refusal b (nowOf b h) k ≡ 0 → Legal b (onto (turns b (nowOf b h) k) h)
 unfolding onto refusal
 legal-call b h l (time t) e =
-    let p = first-zero (ltb t (nowOf b h .clock)) 6 (cond (ltb H t) 8 0) e in
-    let q = first-zero (ltb H t) 7 0 (p .1) in
-    let up : t ≤ H = ltb-false H t (q .0) in
+    let p = first-zero (ltb t (nowOf b h .clock)) 6 (cond (ltb LAST-TIME t) 8 0) e in
+    let q = first-zero (ltb LAST-TIME t) 7 0 (p .1) in
+    let up : t ≤ LAST-TIME = ltb-false LAST-TIME t (q .0) in
     (ltb-false t (nowOf b h .clock) (p .0), omega arith, l)
 legal-call b h l (state bs) e = (omega arith, small-clock b h l, l)
 

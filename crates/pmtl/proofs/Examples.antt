@@ -2,11 +2,12 @@
 use Prim.Native.Nat.{ℕ}
 use mathlib.Core.Path.{_≡_, refl}
 use mathlib.Core.List.{List, [], _∷_, map}
-use Rattle.numset.specs.Runs.{MAX, run, Runs, has, covers, insert, union}
+use Rattle.numbers.specs.Limits.{MAX}
+use Rattle.numset.specs.Runs.{run, Runs, has, covers, insert, union}
 use Rattle.pmtl.specs.Answer.{bitOf, digitOf}
 use Rattle.pmtl.specs.Book.{Range, stop, Rows, widthOf, table, answer, every, some}
 use Rattle.pmtl.specs.Book.Row.{never, always, atom, conj, disj, historically, once, since}
-use Rattle.pmtl.specs.Sets.{kept, gone, staysIf, addedIf, renewed, setRule}
+use Rattle.pmtl.specs.Sets.{retained, gone, staysIf, addedIf, renewed, setRule}
 use Rattle.pmtl.specs.Monitor.{State, initial, valueRule, value, step}
 use Rattle.pmtl.specs.Early.{earlyRule, early}
 use Rattle.pmtl.specs.Settled.{settledTrue, settledFalse, settled}
@@ -90,5 +91,5 @@ examples =
 
 -- each gives what 01 says
 pub P1-to-P12 : map foundIn examples ≡ map statedIn examples
-unfolding eachAfter has covers insert union stop widthOf table answer every some kept gone staysIf addedIf renewed setRule initial valueRule value step earlyRule early settledTrue settledFalse settled refusal crowded play call after
+unfolding eachAfter has covers insert union stop widthOf table answer every some retained gone staysIf addedIf renewed setRule initial valueRule value step earlyRule early settledTrue settledFalse settled refusal crowded play call after
 P1-to-P12 = refl

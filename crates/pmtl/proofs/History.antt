@@ -4,17 +4,14 @@ use mathlib.Core.Path.{_≡_, refl}
 use mathlib.Core.List.{[], _∷_}
 use lib.ListN.{length, getD, replicate}
 use lib.Dec.{lit≤}
-use Rattle.numset.specs.Runs.{MAX, Canonical}
+use Rattle.numbers.specs.Limits.{MAX}
+use Rattle.numset.specs.Runs.{Canonical}
 use Rattle.pmtl.specs.Book.{Rows}
-use Rattle.pmtl.specs.Monitor.{State, setAt, initial, step}
+use Rattle.pmtl.specs.Monitor.{setAt, initial, step}
 use Rattle.pmtl.specs.Calls.{History, nowOf}
-use Rattle.pmtl.proofs.Steps.{set-made}
+use Rattle.pmtl.specs.Past.{run}
+use Rattle.pmtl.proofs.Answers.{set-made}
 use Rattle.pmtl.proofs.Renewed.{rule-canonical}
-
--- the state after a history
-unfoldable pub run : Rows → History → State
-run b [] = initial b
-run b (s ∷ h) = step b (run b h) s
 
 -- clocks never fall, and none is above MAX
 abbrev pub Legal : Rows → History → Type 0

@@ -1,6 +1,5 @@
-pub mod Bools
 pub mod Table
-pub mod Steps
+pub mod Answers
 pub mod Seams
 pub mod Renewed
 pub mod History

@@ -6,8 +6,8 @@ use Rattle.numset.specs.Runs.{Runs, has, Canonical}
 use Rattle.numset.proofs.Union.{union-has, union-canonical}
 use Rattle.pmtl.specs.Book.{Range, inRange, Row}
 use Rattle.pmtl.specs.Book.Row.{never, always, atom, conj, disj, neg, implies, historically, once, since}
-use Rattle.pmtl.specs.Sets.{kept, horizon, gone, staysIf, addedIf, renewed, setRule}
-use Rattle.pmtl.proofs.Seams.{gone-none, kept-canonical, kept-has, kept-gone}
+use Rattle.pmtl.specs.Sets.{retained, horizon, gone, staysIf, addedIf, renewed, setRule}
+use Rattle.pmtl.proofs.Seams.{gone-none, retained-canonical, retained-has, retained-gone}
 
 -- the set stays or is dropped
 stays-canonical : (k : Bool) (s : Runs) → Canonical s → Canonical (staysIf k s)
@@ -33,20 +33,20 @@ added-has false g c s h t = refl
 
 pub renewed-canonical : (k x : Bool) (g : Range) (c : ℕ) (s : Runs) → Canonical s → Canonical (renewed k x g c s)
 unfolding renewed
-renewed-canonical k x g c s h = added-canonical x g c _ (stays-canonical k _ (kept-canonical c s h))
+renewed-canonical k x g c s h = added-canonical x g c _ (stays-canonical k _ (retained-canonical c s h))
 
 -- the instants: those of the range if it is added, and those of the set if it stays
 pub renewed-has : (k x : Bool) (g : Range) (c : ℕ) (s : Runs) → Canonical s → (t : ℕ) → horizon c ≤ t
     → has (renewed k x g c s) t ≡ (x && inRange g c t || k && has s t)
 unfolding renewed
-renewed-has k x g c s h t l = added-has x g c _ (stays-canonical k _ (kept-canonical c s h)) t
-    ∙ ap (λ y. x && inRange g c t || y) (stays-has k (kept c s) t ∙ ap (λ y. k && y) (kept-has c t s h l))
+renewed-has k x g c s h t l = added-has x g c _ (stays-canonical k _ (retained-canonical c s h)) t
+    ∙ ap (λ y. x && inRange g c t || y) (stays-has k (retained c s) t ∙ ap (λ y. k && y) (retained-has c t s h l))
 
 -- a set that is gone stays so where nothing is added
 pub renewed-gone : (k x : Bool) (g : Range) (c : ℕ) (s : Runs) → x ≡ false → gone c s ≡ true → gone c (renewed k x g c s) ≡ true
 unfolding renewed addedIf staysIf
 renewed-gone k true g c s h q = absurd (true≢false h)
-renewed-gone true false g c s h q = kept-gone c s q
+renewed-gone true false g c s h q = retained-gone c s q
 renewed-gone false false g c s h q = gone-none c
 
 pub rule-canonical : (c : ℕ) (old : Runs) → Canonical old → (row : Row Bool) → Canonical (setRule c old row)

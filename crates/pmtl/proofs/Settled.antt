@@ -8,8 +8,10 @@ use mathlib.Core.List.{List, [], _∷_, _++_, map}
 use lib.ListN.{length}
 use lib.Dec.{eqb}
 use borrow.Author.Tests.{eqb-true, eqb-false, not-true}
-use Rattle.numset.specs.Runs.{MAX, Runs, has, covers, Canonical}
-use Rattle.numset.proofs.Laws.{clash, inside, outside-above}
+use Rattle.numbers.specs.Limits.{MAX}
+use Rattle.numset.specs.Runs.{Runs, has, covers, Canonical}
+use Rattle.lists.proofs.Tests.{clash, and-left, and-right, and-intro, and-no-left, and-no-right, or-left, or-right, or-no, or-elim, not-yes, not-no, and-mono, or-mono, or-not-and, and-not-or}
+use Rattle.numset.proofs.Laws.{inside, outside-above}
 use Rattle.numset.proofs.Covering.{covers-all, all-covers}
 use Rattle.pmtl.specs.declared.Answer.{Answer}
 use Rattle.pmtl.specs.declared.Answer.the-variants.{False, True, Open}
@@ -21,12 +23,12 @@ use Rattle.pmtl.specs.Monitor.{Snap, State, setAt, valueRule, initial, s
 use Rattle.pmtl.specs.Early.{fromNow}
 use Rattle.pmtl.specs.Settled.{settledTrue, settledFalse, settled}
 use Rattle.pmtl.specs.Calls.{History}
-use Rattle.pmtl.proofs.Bools.{and-left, and-right, and-intro, and-no-left, and-no-right, or-left, or-right, or-no, or-elim, not-yes, not-no, and-mono, or-mono, or-not-and, and-not-or}
 use Rattle.pmtl.proofs.Table.{by-rows}
-use Rattle.pmtl.proofs.Steps.{value-fix, set-fix, settled-fix, settled-out, settled-before}
+use Rattle.pmtl.proofs.Answers.{value-fix, set-fix, settled-fix, settled-out, settled-before}
 use Rattle.pmtl.proofs.Seams.{gone-has, gone-later, horizon-now}
 use Rattle.pmtl.proofs.Renewed.{renewed-canonical, renewed-has, renewed-gone}
-use Rattle.pmtl.proofs.History.{run, Legal, run-canonical}
+use Rattle.pmtl.specs.Past.{run}
+use Rattle.pmtl.proofs.History.{Legal, run-canonical}
 
 -- two tests, of true and of false, are right of a value
 abbrev Right : Bool → Bool → Bool → Type 0

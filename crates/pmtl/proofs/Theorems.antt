@@ -7,7 +7,8 @@ use mathlib.Core.Logic.{_↔_}
 use mathlib.Core.Bool.{Bool, true, false, cond, not, _&&_}
 use mathlib.Core.List.{List, _∷_, _++_}
 use lib.ListN.{length, drop}
-use Rattle.numset.specs.Runs.{MAX, Runs, has, Covers, covers, Canonical}
+use Rattle.numbers.specs.Limits.{MAX}
+use Rattle.numset.specs.Runs.{Runs, has, Covers, covers, Canonical}
 use Rattle.numset.proofs.Covering.{covers-iff}
 use Rattle.pmtl.specs.declared.Answer.{Answer}
 use Rattle.pmtl.specs.declared.Answer.the-variants.{False, True, Open}
@@ -15,14 +16,16 @@ use Rattle.pmtl.specs.Answer.{isTrue, isFalse, known, reversed}
 use Rattle.pmtl.specs.Early.{fromNow, earlyRule}
 use Rattle.pmtl.specs.Book.{Range, Row, mapRow, Rows, rowAt, Ordered}
 use Rattle.pmtl.specs.Book.Row.{historically, once, since}
-use Rattle.pmtl.specs.Sets.{horizon, gone, setRule}
+use Rattle.pmtl.specs.Sets.{gone, setRule}
 use Rattle.pmtl.specs.Monitor.{Snap, State, setAt, valueRule, value}
 use Rattle.pmtl.specs.Settled.{settledTrue, settledFalse, settled}
 use Rattle.pmtl.specs.Calls.{Call, call, after, accepted, nowOf}
 use Rattle.pmtl.specs.Meaning.{instants, meaning}
-use Rattle.pmtl.proofs.History.{run, small-clock, now-run, run-canonical}
-use Rattle.pmtl.proofs.Values.{held, values-mean, sets-mean}
-use Rattle.pmtl.proofs.Ago.{SomeCall, SinceCall, once-held, historically-held, since-held}
+use Rattle.pmtl.specs.Past.{run, held, SomeCall, SinceCall}
+use Rattle.pmtl.proofs.Seams.{horizon-none}
+use Rattle.pmtl.proofs.History.{small-clock, now-run, run-canonical}
+use Rattle.pmtl.proofs.Values.{values-mean, sets-mean}
+use Rattle.pmtl.proofs.Ago.{once-held, historically-held, since-held}
 use Rattle.pmtl.proofs.Settled.{settles, tests-apart, covers-not-gone}
 use Rattle.pmtl.proofs.Calls.{trail, further, refused-stays, after-refused, accepted-refused, past-calls}
 
@@ -50,8 +53,7 @@ held-is b calls r k h = let p = past-calls b calls k h in
 module _ (b : Rows) (w : Ordered b) (calls : List Call) (r : ℕ) where
   -- each temporal row has the set of instants that 01 defines from the accepted calls so far
   pub sets-are-01s : (t : ℕ) → has (setAt (after b calls) r) t ≡ instants (mapRow (meaning b) (rowAt b r)) (accepted b calls) t
-  unfolding horizon
-  sets-are-01s t = rw (after-is b calls) (sets-mean b w r (accepted b calls) (trail b calls .legal) t (omega arith))
+  sets-are-01s t = rw (after-is b calls) (sets-mean b w r (accepted b calls) (trail b calls .legal) t (horizon-none _ t))
 
   -- DEMAND 2: a row's value is what the row means on the history of the accepted calls
   pub demand-2 : value b (after b calls) r ≡ meaning b r (accepted b calls)

@@ -11,11 +11,12 @@ use Rattle.pmtl.specs.Sets.{horizon, renewed, setRule}
 use Rattle.pmtl.specs.Monitor.{Snap, setAt, valueRule, value}
 use Rattle.pmtl.specs.Calls.{History, nowOf}
 use Rattle.pmtl.specs.Meaning.{Fact, sinceSome, instants, meaningRule, meaning}
+use Rattle.pmtl.specs.Past.{run, held}
 use Rattle.pmtl.proofs.Table.{by-rows, answer-fix}
-use Rattle.pmtl.proofs.Steps.{value-fix, set-fix}
+use Rattle.pmtl.proofs.Answers.{value-fix, set-fix}
 use Rattle.pmtl.proofs.Seams.{horizon-now, horizon-later}
 use Rattle.pmtl.proofs.Renewed.{renewed-has}
-use Rattle.pmtl.proofs.History.{run, Legal, now-run, initial-set, run-canonical}
+use Rattle.pmtl.proofs.History.{Legal, now-run, initial-set, run-canonical}
 
 meaning-fix : (b : Rows) → Ordered b → (r : ℕ) → meaning b r ≡ meaningRule b r (mapRow (meaning b) (rowAt b r))
 unfolding meaning meaningRule
@@ -83,10 +84,6 @@ module _ (r : ℕ) (v : ℕ → Bool) (m : ℕ → Fact) (s : Snap) (h : History
   row-set (historically g o) w e = since-step g (λ k. true) (λ k. not (m o k)) true (not (v o)) refl (ap not (below o w)) e
   row-set (once g o) w e = since-step g (λ k. true) (m o) true (v o) refl (below o w) e
   row-set (since g x y) w e = since-step g (m x) (m y) (v x) (v y) (below x (w .0)) (below y (w .1)) e
-
--- what a row's value was after the calls of a history
-abbrev pub held : Rows → ℕ → Fact
-held b o h = value b (run b h) o
 
 module _ (b : Rows) (w : Ordered b) where
   -- m says what the operands' values are: then a row's set has the instants that 01 defines, and its value is what the rule says

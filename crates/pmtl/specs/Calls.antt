@@ -5,7 +5,9 @@ use mathlib.Core.List.{List, [], _∷_, map}
 use lib.ListN.{length, take}
 use lib.Dec.{ltb, eqb}
 use Rattle.numset.specs.Runs.{Runs}
-use Rattle.pmtl.specs.Book.{H, Rows, widthOf, some}
+use Rattle.numbers.specs.Limits.{LAST-TIME, MOST-ATOMS, MOST-RUNS}
+use Rattle.numbers.specs.Refusals.{ACCEPTED, PAST-LIMIT, TOO-EARLY, TOO-LATE, TOO-NARROW, NOT-A-BIT, NO-ROOM}
+use Rattle.pmtl.specs.Book.{Rows, widthOf, some}
 use Rattle.pmtl.specs.Monitor.{Snap, State, fresh, initial, step}
 
 -- a time call, a state call
@@ -18,39 +20,32 @@ abbrev pub turns : Rows → Snap → Call → List Snap
 turns b now (time t) = record { clock = t; atoms = now .atoms } ∷ []
 turns b now (state bytes) = record { clock = now .clock; atoms = map (λ x. eqb x 1) (take (widthOf b) bytes) } ∷ []
 
--- the widest state
-abbrev pub WIDEST : ℕ
-WIDEST = 256
-
--- the number of what is wrong with a call itself, 0 if nothing is. 7: below the clock. 8: above H.
--- 2: too wide. 9: shorter than the largest atom plus 1. 10: a byte, used or not, other than 0 or 1
+-- the number of what is wrong with a call itself. A time: below the clock, above the last. A state: too wide, shorter than the
+-- largest atom plus 1, a byte, used or not, other than 0 or 1
 unfoldable pub refusal : Rows → Snap → Call → ℕ
-refusal b now (time t) = cond (ltb t (now .clock)) 7 (cond (ltb H t) 8 0)
+refusal b now (time t) = cond (ltb t (now .clock)) TOO-EARLY (cond (ltb LAST-TIME t) TOO-LATE ACCEPTED)
 refusal b now (state bytes) =
-    cond (ltb WIDEST (length bytes)) 2 (cond (ltb (length bytes) (widthOf b)) 9 (cond (some (ltb 1) bytes) 10 0))
+    cond (ltb MOST-ATOMS (length bytes)) PAST-LIMIT
+    (cond (ltb (length bytes) (widthOf b)) TOO-NARROW (cond (some (ltb 1) bytes) NOT-A-BIT ACCEPTED))
 
--- the most runs of a set
-abbrev pub ROOM : ℕ
-ROOM = 64
-
--- a set has more runs than that
+-- a set has more runs than it may
 unfoldable pub crowded : State → Bool
-crowded st = some (λ (s : Runs). ltb ROOM (length s)) (st .sets)
+crowded st = some (λ (s : Runs). ltb MOST-RUNS (length s)) (st .sets)
 
 -- what a call hands back and leaves
 pub record Outcome : Type 0 where
   pub number : ℕ
   pub state : State
 
--- the state after each snapshot in turn; 11, and the state as it was, where a set would have more than 64 runs
+-- the state after each snapshot in turn; or, where a set would have more runs than it may, the state as it was
 unfoldable pub play : Rows → State → State → List Snap → Outcome
-play b old st [] = record { number = 0; state = st }
+play b old st [] = record { number = ACCEPTED; state = st }
 play b old st (n ∷ ns) =
-    elim (crowded (step b st n)) [ true ↦ record { number = 11; state = old } | false ↦ play b old (step b st n) ns ]
+    elim (crowded (step b st n)) [ true ↦ record { number = NO-ROOM; state = old } | false ↦ play b old (step b st n) ns ]
 
 -- a call: refused, and the state unchanged; or its snapshots in turn
 unfoldable pub call : Rows → State → Call → Outcome
-call b st k = elim (eqb (refusal b (st .now) k) 0) [
+call b st k = elim (eqb (refusal b (st .now) k) ACCEPTED) [
   | true ↦ play b st st (turns b (st .now) k)
   | false ↦ record { number = refusal b (st .now) k; state = st }
 ]
@@ -77,4 +72,4 @@ onto (n ∷ ns) h = onto ns (n ∷ h)
 -- the history of the accepted calls
 unfoldable pub accepted : Rows → List Call → History
 accepted b [] = []
-accepted b (k ∷ ks) = cond (eqb (call b (after b ks) k .number) 0) (onto (turns b (after b ks .now) k) (accepted b ks)) (accepted b ks)
+accepted b (k ∷ ks) = cond (eqb (call b (after b ks) k .number) ACCEPTED) (onto (turns b (after b ks .now) k) (accepted b ks)) (accepted b ks)

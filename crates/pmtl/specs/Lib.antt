@@ -6,3 +6,4 @@ pub mod Early
 pub mod Settled
 pub mod Calls
 pub mod Meaning
+pub mod Past

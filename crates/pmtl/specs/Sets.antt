@@ -7,8 +7,8 @@ use Rattle.pmtl.specs.Book.{Range, start, stop, Row}
 use Rattle.pmtl.specs.Book.Row.{never, always, atom, conj, disj, neg, implies, historically, once, since}
 
 -- what a call at clock c keeps of a set, and from which instant on that is the full union: all of it
-unfoldable pub kept : ℕ → Runs → Runs
-kept c s = s
+unfoldable pub retained : ℕ → Runs → Runs
+retained c s = s
 
 unfoldable pub horizon : ℕ → ℕ
 horizon c = 0
@@ -30,7 +30,7 @@ addedIf false g c s = s
 
 -- first the set stays or is dropped, then the range is added or not
 unfoldable pub renewed : Bool → Bool → Range → ℕ → Runs → Runs
-renewed stays adds g c s = addedIf adds g c (staysIf stays (kept c s))
+renewed stays adds g c s = addedIf adds g c (staysIf stays (retained c s))
 
 -- a row's set after a call at clock c, from the set before it and the operands' values after it
 unfoldable pub setRule : ℕ → Runs → Row Bool → Runs

@@ -11,8 +11,8 @@ use Rattle.pmtl.specs.Book.{Rows, widthOf, some}
 use Rattle.pmtl.specs.Monitor.{Snap, State}
 use Rattle.pmtl.specs.Calls.{Call, Outcome, turns, refusal, play, call}
 use Rattle.pmtl.specs.Calls.Call.{state}
-use Rattle.oracle.specs.Oracle.{Called}
-use Rattle.reader.specs.Steps.{byteOf}
+use Rattle.calls.specs.Called.{Called}
+use Rattle.text_reader.specs.Reads.{byteOf}
 
 same-over : (w : ℕ) → ltb 1 (byteOf w) ≡ ltb 1 w
 same-over w = by-size (ltb 1 w) refl

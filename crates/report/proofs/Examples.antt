@@ -4,22 +4,23 @@ use mathlib.Core.Path.{_≡_, refl, _∙_}
 use mathlib.Core.List.{List, [], _∷_}
 use Rattle.numset.specs.Runs.{has, covers, insert, union}
 use Rattle.pmtl.specs.Book.{stop, widthOf, table, answer, every, some}
-use Rattle.pmtl.specs.Sets.{kept, gone, staysIf, addedIf, renewed, setRule}
+use Rattle.pmtl.specs.Sets.{retained, gone, staysIf, addedIf, renewed, setRule}
 use Rattle.pmtl.specs.Monitor.{initial, valueRule, value, step}
 use Rattle.pmtl.specs.Early.{earlyRule, early}
 use Rattle.pmtl.specs.Settled.{settledTrue, settledFalse, settled}
 use Rattle.pmtl.specs.Calls.{refusal, crowded, play, call}
-use Rattle.rows.specs.Memory.{rowFrom, countOf, listed}
+use Rattle.book.specs.Rows.{rowFrom, countOf}
+use Rattle.lists.specs.Lists.{listed}
 use Rattle.book.specs.Reading.{section, next, sections}
 use Rattle.book.specs.Judging.{temporalsIn, startIn, firstTo, allTo, argGood, formGood, rangeGood, rowNumber, operandsGood, linksGood, timesIn, usedOnce, judged, rowIn, bookIn, loadedFrom}
-use Rattle.verdicts.specs.Verdict.{verdictIn}
-use Rattle.text.specs.Words.{pick, parts, digit, letters, allDigits, said, plain, good, begun, runs, supplied, supply}
-use Rattle.text.specs.Decimals.{onto, decimal}
+use Rattle.property_answers.specs.Verdict.{verdictIn}
+use Rattle.text.specs.Words.{pick, parts, digit, letters, allDigits, said, plain, good, begun, writtenWords, supplied, supply}
+use Rattle.text.specs.Decimals.{digitsBefore, decimal}
 use Rattle.report.specs.Report.{bookLine, stopLine, endLine, verdictWord, verdictWords, callLine, timeFrom, stateFrom, callFrom, orStop, lastLine, linesFrom, callLines, bookThen, bookLines, report}
 
 -- the report, by what every definition says
 unfoldable reportOf : List ℕ → List ℕ
-unfolding has covers insert union stop widthOf table answer every some kept gone staysIf addedIf renewed setRule initial valueRule value step earlyRule early settledTrue settledFalse settled refusal crowded play call rowFrom countOf listed section next sections temporalsIn startIn firstTo allTo argGood formGood rangeGood rowNumber operandsGood linksGood timesIn usedOnce judged rowIn bookIn loadedFrom verdictIn pick parts digit letters allDigits said plain good begun runs supplied supply onto decimal bookLine stopLine endLine verdictWord verdictWords callLine timeFrom stateFrom callFrom orStop lastLine linesFrom callLines bookThen bookLines report
+unfolding has covers insert union stop widthOf table answer every some retained gone staysIf addedIf renewed setRule initial valueRule value step earlyRule early settledTrue settledFalse settled refusal crowded play call rowFrom countOf listed section next sections temporalsIn startIn firstTo allTo argGood formGood rangeGood rowNumber operandsGood linksGood timesIn usedOnce judged rowIn bookIn loadedFrom verdictIn pick parts digit letters allDigits said plain good begun writtenWords supplied supply digitsBefore decimal bookLine stopLine endLine verdictWord verdictWords callLine timeFrom stateFrom callFrom orStop lastLine linesFrom callLines bookThen bookLines report
 reportOf s = report s
 
 opened : (s : List ℕ) → report s ≡ reportOf s

@@ -12,18 +12,19 @@ use Rattle.text.proofs.Supplies.{word, refused as ended}
 use Rattle.pmtl.specs.Book.{Book}
 use Rattle.pmtl.specs.Monitor.{State, initial}
 use Rattle.pmtl.specs.Calls.{Outcome, call}
-use Rattle.rows.specs.Memory.{bookOf, stateOf}
+use Rattle.memory.specs.Memory.{bookOf, stateOf}
 use Rattle.book.specs.Reading.{got, refused}
 use Rattle.book.specs.Judging.{Loaded, whole as wholeBook, loaded}
-use Rattle.book.specs.Kept.{Kept}
-use Rattle.reader.specs.declared.Part as reader
-use Rattle.reader.specs.Steps.{BookTook, BookRead}
-use Rattle.writer.specs.Buffer.{Handed}
-use Rattle.writer.specs.Finish.{finish, Wrote}
-use Rattle.report.specs.declared.calls.Turn.{Turn}
-use Rattle.report.specs.declared.calls.Turn.the-variants.{Made, Stopped}
-use Rattle.report.specs.Report.{bookLine, stopLine, callLine, callFrom, orStop, lastLine, linesFrom, callLines, bookThen, bookLines, LONGEST, report}
-use Rattle.report.specs.Steps.{CallMade, Turned}
+use Rattle.memory.specs.Kept.{Kept}
+use Rattle.text_reader.specs.declared.Part as reader
+use Rattle.text_reader.specs.Reads.{BookTook, BookRead}
+use Rattle.buffer_writer.specs.Buffer.{Handed}
+use Rattle.buffer_writer.specs.Finish.{finish, Wrote}
+use Rattle.report.specs.declared.text_calls.Turn.{Turn}
+use Rattle.report.specs.declared.text_calls.Turn.the-variants.{Made, Stopped}
+use Rattle.numbers.specs.Limits.{LONGEST-INPUT}
+use Rattle.report.specs.Report.{bookLine, stopLine, callLine, callFrom, orStop, lastLine, linesFrom, callLines, bookThen, bookLines, report}
+use Rattle.report.specs.Private.{CallMade, Turned}
 
 outcome-is : {o : Outcome} {n : ℕ} {st : State} → n ≡ o .number → st ≡ o .state → o ≡ record { number = n; state = st }
 outcome-is e f = rw (e, f)
@@ -123,15 +124,15 @@ unfolding BookRead
 book-there input m q e = rw e at q
 
 module _ (input : List ℕ) where
-  pub too-long : LONGEST < length input → stopLine 2 ≡ report input
+  pub too-long : LONGEST-INPUT < length input → stopLine 2 ≡ report input
   unfolding report
-  too-long h = rw (lt-ltb LONGEST (length input) h)
+  too-long h = rw (lt-ltb LONGEST-INPUT (length input) h)
 
-  module _ (fits : length input ≤ LONGEST) where
+  module _ (fits : length input ≤ LONGEST-INPUT) where
     pub no-book : (m : List ℕ) {p : reader.Part} {n k : ℕ} → BookRead input m p → p ≡ reader.the-variants.Refused n → k ≡ n → bookLine k ≡ report input
     unfolding report bookLines BookRead
-    no-book m q e f = let s = rw e at q in rw (le-ltb LONGEST (length input) fits, s, f)
+    no-book m q e f = let s = rw e at q in rw (le-ltb LONGEST-INPUT (length input) fits, s, f)
 
     pub of-book : {m : List ℕ} {end next : ℕ} → BookTook input m end next → bookThen (loaded (take end m)) (supplyFrom input next .ending) (supplyFrom input next .words) ≡ report input
     unfolding report bookLines loaded wholeBook
-    of-book k = rw (le-ltb LONGEST (length input) fits, k .read, k .ending, k .stand)
+    of-book k = rw (le-ltb LONGEST-INPUT (length input) fits, k .read, k .ending, k .stand)

@@ -8,24 +8,24 @@ use native.Mathlib.Decide.{ℕ-discrete}
 use lib.Dec.{lit≤}
 use lib.ListN.{length, getD}
 use borrow.Author.Tests.{eq-eqb, ne-eqb}
-use Rattle.text.specs.Words.{space, lineFeed, badWord, nextWord, supplyFrom}
+use Rattle.text.specs.Words.{space, lineFeed, nextWord, supplyFrom}
+use Rattle.numbers.specs.Refusals.{BAD-WORD}
 use Rattle.text.specs.declared.words.Read.the-variants.{Word, Refused}
 use Rattle.text.specs.Decimals.{decimal}
 use Rattle.text.proofs.Supplies.{word, refused as ended}
 use Rattle.pmtl.specs.declared.Answer.{Answer}
 use Rattle.pmtl.specs.declared.Answer.the-variants.{False, True, Open}
 use Rattle.pmtl.specs.Answer.{digitOf}
-use Rattle.pmtl.specs.Book.{properties}
-use Rattle.rows.specs.Memory.{bookOf, stateOf}
-use Rattle.book.specs.Kept.{Kept}
-use Rattle.verdicts.specs.Verdict.{verdictOf, propertiesIn}
-use Rattle.verdicts.proofs.Read.{bit-small}
-use Rattle.verdicts.proofs.Bridge.{few-properties}
-use Rattle.writer.specs.Buffer.{Handed}
-use Rattle.writer.specs.Finish.{finish, Wrote}
-use Rattle.writer.proofs.Writes.{and-then}
+use Rattle.memory.specs.Memory.{bookOf, stateOf}
+use Rattle.memory.specs.Kept.{Kept}
+use Rattle.property_answers.specs.Verdict.{verdictOf, propertiesIn}
+use Rattle.property_answers.proofs.Read.{bit-small}
+use Rattle.property_answers.proofs.Bridge.{few-properties}
+use Rattle.buffer_writer.specs.Buffer.{Handed}
+use Rattle.buffer_writer.specs.Finish.{finish, Wrote}
+use Rattle.buffer_writer.proofs.Writes.{and-then}
 use Rattle.report.specs.Report.{stopLine, endLine, verdictWord, verdictWords, callLine, lastLine}
-use Rattle.report.specs.Steps.{digitWord, digitWords, digitLine, Digits, Said}
+use Rattle.report.specs.Private.{digitWord, digitWords, digitLine, Digits, Said}
 
 pub ending : {h : Handed} (out : List ℕ) (at : ℕ) {x y : List ℕ} → h ≡ finish out at x → x ≡ y → h ≡ finish out at y
 ending out at p e = p ∙ ap (finish out at) e
@@ -36,13 +36,13 @@ module _ (input : List ℕ) (cursor : ℕ) where
   unfolding lastLine
   last-word e = rw (word input cursor e .gave)
 
-  pub last-bad : {n : ℕ} → nextWord input cursor ≡ Refused n → n ≡ badWord → stopLine badWord ≡ lastLine (supplyFrom input cursor .ending) (supplyFrom input cursor .words)
+  pub last-bad : {n : ℕ} → nextWord input cursor ≡ Refused n → n ≡ BAD-WORD → stopLine BAD-WORD ≡ lastLine (supplyFrom input cursor .ending) (supplyFrom input cursor .words)
   unfolding lastLine
-  last-bad {n} e f = rw (ended input cursor e, eq-eqb n badWord f)
+  last-bad {n} e f = rw (ended input cursor e, eq-eqb n BAD-WORD f)
 
-  pub last-end : {n : ℕ} → nextWord input cursor ≡ Refused n → (n ≡ badWord → ⊥) → endLine ≡ lastLine (supplyFrom input cursor .ending) (supplyFrom input cursor .words)
+  pub last-end : {n : ℕ} → nextWord input cursor ≡ Refused n → (n ≡ BAD-WORD → ⊥) → endLine ≡ lastLine (supplyFrom input cursor .ending) (supplyFrom input cursor .words)
   unfolding lastLine
-  last-end {n} e f = rw (ended input cursor e, ne-eqb n badWord f)
+  last-end {n} e f = rw (ended input cursor e, ne-eqb n BAD-WORD f)
 
 -- ---- the words of the properties
 -- the words of the first i properties are written

@@ -12,16 +12,16 @@ use Rattle.pmtl.specs.Book.{Book, Rows, properties}
 use Rattle.pmtl.specs.Monitor.{Snap, State, step}
 use Rattle.pmtl.specs.Calls.{Call, Outcome, crowded, play, refusal, call}
 use Rattle.pmtl.specs.Calls.Call.{time, state}
-use Rattle.rows.specs.Memory.{assumeCount, guaranteeCount, begunWord, temporals, bookOf, stateOf}
-use Rattle.book.specs.Kept.{Kept}
-use Rattle.verdicts.specs.Verdict.{verdictOf, propertiesIn}
-use Rattle.verdicts.specs.Steps.{steps}
-use Rattle.verdicts.specs.Board.{retold, Board}
-use Rattle.verdicts.proofs.Filled.{steps-at}
-use Rattle.verdicts.proofs.Bridge.{properties-length, few-properties}
-use Rattle.verdicts.proofs.Boards.{early-told, settled-told}
-use Rattle.oracle.specs.Oracle.{Called}
-use Rattle.report.specs.Steps.{Said}
+use Rattle.memory.specs.Memory.{assumeCount, guaranteeCount, begunWord, temporals, bookOf, stateOf}
+use Rattle.memory.specs.Kept.{Kept}
+use Rattle.property_answers.specs.Verdict.{verdictOf, propertiesIn}
+use Rattle.lists.specs.Lists.{filledTo}
+use Rattle.property_answers.specs.Board.{retold, Board}
+use Rattle.lists.proofs.Filled.{filledTo-at}
+use Rattle.property_answers.proofs.Bridge.{properties-length, few-properties}
+use Rattle.property_answers.proofs.Boards.{early-told, settled-told}
+use Rattle.calls.specs.Called.{Called}
+use Rattle.report.specs.Private.{Said}
 
 -- ---- an accepted call has begun
 module _ (b : Rows) (old st : State) (n : Snap) where
@@ -57,10 +57,10 @@ called-begun {k} {m} {m′} c e = eqb-true (begunWord m′) 1 (ap (λ (s : State
 -- ---- what is kept after it says what its answers are
 module _ {m : List ℕ} (kept : Kept m) (begun : begunWord m ≡ 1) (told₀ values₀ : List ℕ) where
   pub said-now : {told early settled values : List ℕ} → length told₀ ≡ 128 → length values₀ ≡ 32
-      → told ≡ retold m told₀ (temporals m) → Board (bookOf m) told early settled → values ≡ steps (λ i. bitOf (verdictOf m i .value)) values₀ (propertiesIn m)
+      → told ≡ retold m told₀ (temporals m) → Board (bookOf m) told early settled → values ≡ filledTo (λ i. bitOf (verdictOf m i .value)) values₀ (propertiesIn m)
       → Said m values early settled
   said-now tl vl is board vs = record {
-    values-are = λ i h. ap (λ l. getD l i 0) vs ∙ steps-at (λ j. bitOf (verdictOf m j .value)) values₀ 0 (propertiesIn m) i h (let n = few-properties m kept in omega arith);
+    values-are = λ i h. ap (λ l. getD l i 0) vs ∙ filledTo-at (λ j. bitOf (verdictOf m j .value)) values₀ 0 (propertiesIn m) i h (let n = few-properties m kept in omega arith);
     early-are = λ i h. board .early-are i h ∙ early-told kept told₀ tl is i;
     settled-are = λ i h. board .settled-are i h ∙ settled-told kept told₀ tl is begun i;
   }

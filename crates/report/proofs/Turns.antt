@@ -4,20 +4,21 @@ use mathlib.Core.Path.{_≡_}
 use mathlib.Core.List.{List}
 use lib.ListN.{take}
 use borrow.Author.Tests.{ne-eqb}
-use Rattle.text.specs.Words.{badWord, nextWord, supplyFrom}
+use Rattle.numbers.specs.Refusals.{BAD-WORD}
+use Rattle.text.specs.Words.{nextWord, supplyFrom}
 use Rattle.text.specs.declared.words.Read.the-variants.{Word, Refused}
 use Rattle.text.proofs.Supplies.{word, refused as ended}
 use Rattle.pmtl.specs.Calls.{Call}
 use Rattle.pmtl.specs.Calls.Call.{time, state}
 use Rattle.book.specs.Reading.{Read, refused, next as andNext}
-use Rattle.verdicts.specs.Steps.{Here}
-use Rattle.oracle.specs.Oracle.{Called}
-use Rattle.reader.specs.declared.Part as reader
-use Rattle.reader.specs.Steps.{StateTook, StateRead}
-use Rattle.report.specs.declared.calls.Turn.{Turn}
-use Rattle.report.specs.declared.calls.Turn.the-variants.{Made, Stopped}
+use Rattle.row_answers.specs.Facts.{Here}
+use Rattle.calls.specs.Called.{Called}
+use Rattle.text_reader.specs.declared.Part as reader
+use Rattle.text_reader.specs.Reads.{StateTook, StateRead}
+use Rattle.report.specs.declared.text_calls.Turn.{Turn}
+use Rattle.report.specs.declared.text_calls.Turn.the-variants.{Made, Stopped}
 use Rattle.report.specs.Report.{timeFrom, stateFrom, callFrom}
-use Rattle.report.specs.Steps.{turnNumber, CallMade, Turned}
+use Rattle.report.specs.Private.{turnNumber, CallMade, Turned}
 use Rattle.report.proofs.Alike.{as-words}
 
 pub turn-stopped : {t : Turn} {n : ℕ} → t ≡ Stopped n → n ≡ turnNumber t
@@ -82,7 +83,7 @@ module _ (input : List ℕ) (at : ℕ) where
     unfolding callFrom
     is-state h = rw (word input at e .gave, h)
 
-    pub other-kind : (kind ≡ 0 → ⊥) → (kind ≡ 1 → ⊥) → callFrom (supplyFrom input at .ending) (supplyFrom input at .words) ≡ refused badWord
+    pub other-kind : (kind ≡ 0 → ⊥) → (kind ≡ 1 → ⊥) → callFrom (supplyFrom input at .ending) (supplyFrom input at .words) ≡ refused BAD-WORD
     unfolding callFrom
     other-kind h k = rw (word input at e .gave, ne-eqb kind 0 h, ne-eqb kind 1 k)
 

@@ -1,30 +1,27 @@
 // Text in, report out.
-mod calls;
 mod digits;
 mod lines;
+mod text_calls;
 
 ghost use mathlib.Core.Path.{_≡_};
 ghost use Rattle.text.specs.Words.{supplyFrom};
-ghost use Rattle.rows.specs.Memory.{bookOf, stateOf};
+ghost use Rattle.memory.specs.Memory.{bookOf, stateOf};
 ghost use Rattle.pmtl.specs.Monitor.{initial};
 ghost use Rattle.book.specs.Judging.{loaded};
-ghost use Rattle.book.specs.Kept.{Kept};
-ghost use Rattle.writer.specs.Buffer.{handed, inBuffer};
-ghost use Rattle.writer.specs.Finish.{finish};
+ghost use Rattle.memory.specs.Kept.{Kept};
+ghost use Rattle.buffer_writer.specs.Buffer.{handed, inBuffer};
+ghost use Rattle.buffer_writer.specs.Finish.{finish};
 ghost use Rattle.report.specs.Report.{bookLine, linesFrom, callLines, bookThen, report};
-use calls::Turn;
-use oracle::MOST_ROWS;
-use oracle::SIZE;
-use reader::Part;
+use memory::SIZE;
+use numbers::ACCEPTED;
+use numbers::LONGEST_INPUT;
+use numbers::MOST_ATOMS;
+use numbers::MOST_PROPERTIES;
+use numbers::MOST_ROWS;
+use numbers::PAST_LIMIT;
 use text::Read;
-use verdicts::MOST_PROPERTIES;
-
-// The longest input, and the number for one that is longer.
-const LONGEST: usize = 65536;
-
-const TOO_MANY: u64 = 2;
-
-const ACCEPTED: u64 = 0;
+use text_calls::Turn;
+use text_reader::Part;
 
 // A line for each call, and the last line.
 fn call_lines(
@@ -38,21 +35,21 @@ fn call_lines(
     requires { ⌜ Kept (now monitor) ⌝ }
     ensures { λ r. ⌜ handed r (now (out .exit)) ≡ finish (now (out .entry)) start (linesFrom (bookOf (now (monitor .entry))) (supplyFrom (now (input .entry)) from .ending) count 0 (stateOf (now (monitor .entry))) (supplyFrom (now (input .entry)) from .words)) ⌝ }
 {
-    let properties = verdicts::property_count(monitor);
-    let mut bytes = [0u8; calls::WIDEST];
+    let properties = property_answers::property_count(monitor);
+    let mut bytes = [0u8; MOST_ATOMS];
     let mut here = [0u8; MOST_ROWS];
     let mut told = [0u8; MOST_ROWS];
     let mut values = [0u8; MOST_PROPERTIES];
     let mut early = [0u8; MOST_PROPERTIES];
     let mut settled = [0u8; MOST_PROPERTIES];
-    verdicts::ask(monitor, &told, &mut early, &mut settled);
+    property_answers::ask(monitor, &told, &mut early, &mut settled);
     let mut at = start;
     let mut cursor = from;
     let mut done: u64 = 0;
     while done < count {
-        let t = calls::call(input, cursor, &mut bytes, monitor, &mut here);
+        let t = text_calls::call(input, cursor, &mut bytes, monitor, &mut here);
         let Turn::Made(refusal, next) = t else {
-            return lines::stopped(out, at, calls::turn_number(t));
+            return lines::stopped(out, at, text_calls::turn_number(t));
         };
         digits::renew(
             refusal,
@@ -92,7 +89,7 @@ fn counted_calls(
 {
     let r = text::next_word(input, cursor);
     let Read::Word(count, from) = r else {
-        return lines::stopped(out, at, reader::number_of(r));
+        return lines::stopped(out, at, text_reader::number_of(r));
     };
     call_lines(input, from, count, monitor, out, at)
 }
@@ -102,7 +99,7 @@ fn refused_book(out: &mut [u8], number: u64) -> u64
     ensures { λ r. ⌜ handed r (now (out .exit)) ≡ finish (now (out .entry)) 0 (bookLine number) ⌝ }
 {
     let at = lines::put_book(out, 0, number);
-    writer::finished(out, at)
+    buffer_writer::finished(out, at)
 }
 
 // The report from a book's words on, the text after them at `cursor`.
@@ -110,7 +107,7 @@ fn loaded_book(input: &[u8], cursor: usize, words: &[u64], out: &mut [u8]) -> u6
     ensures { λ r. ⌜ handed r (now (out .exit)) ≡ finish (now (out .entry)) 0 (bookThen (loaded (now (words .entry))) (supplyFrom (now (input .entry)) cursor .ending) (supplyFrom (now (input .entry)) cursor .words)) ⌝ }
 {
     let mut monitor = [0u64; SIZE];
-    let number = store::load(words, &mut monitor);
+    let number = loader::load(words, &mut monitor);
     if number == ACCEPTED {
         let at = lines::put_book(out, 0, number);
         return counted_calls(input, cursor, &mut monitor, out, at);
@@ -124,13 +121,13 @@ fn loaded_book(input: &[u8], cursor: usize, words: &[u64], out: &mut [u8]) -> u6
 pub extern "C" fn binefdar_report(input: &[u8], out: &mut [u8]) -> u64
     ensures { λ r. ⌜ handed r (now (out .exit)) ≡ inBuffer (now (out .entry)) (report (now (input .entry))) ⌝ }
 {
-    if LONGEST < input.len() {
-        return lines::stopped(out, 0, TOO_MANY);
+    if LONGEST_INPUT < input.len() {
+        return lines::stopped(out, 0, PAST_LIMIT);
     }
-    let mut words = [0u64; reader::BOOK_WORDS];
-    let read = reader::book(input, &mut words);
+    let mut words = [0u64; text_reader::BOOK_WORDS];
+    let read = text_reader::book(input, &mut words);
     let Part::Words(end, next) = read else {
-        return refused_book(out, reader::part_number(read));
+        return refused_book(out, text_reader::part_number(read));
     };
     loaded_book(input, next, &words[..end], out)
 }

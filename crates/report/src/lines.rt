@@ -4,30 +4,26 @@ ghost use mathlib.Core.List.{_∷_, _++_};
 ghost use Prim.Native.Nat.{_+_, _≤_};
 ghost use Rattle.text.specs.Words.{space, digit0, supplyFrom};
 ghost use Rattle.text.specs.Decimals.{decimal};
-ghost use Rattle.writer.specs.Buffer.{handed};
-ghost use Rattle.writer.specs.Finish.{finish, Wrote};
+ghost use Rattle.buffer_writer.specs.Buffer.{handed};
+ghost use Rattle.buffer_writer.specs.Finish.{finish, Wrote};
 ghost use Rattle.report.specs.Report.{ended as Report·ended, bookLine, stopLine, endLine, lastLine};
-ghost use Rattle.report.specs.Steps.{digitWord, digitWords, digitLine, Digits};
+ghost use Rattle.report.specs.Private.{digitWord, digitWords, digitLine, Digits};
+use numbers::ACCEPTED;
+use numbers::BAD_WORD;
+use numbers::MOST_PROPERTIES;
+use numbers::WRONG_LENGTH;
 use text::Read;
-use verdicts::MOST_PROPERTIES;
-
-const ACCEPTED: u64 = 0;
 
 // The byte of the digit 0.
 const ZERO: u8 = b'0';
-
-// The numbers for a word that is left over, and for a bad word.
-const LEFT_OVER: u64 = 1;
-
-const BAD_WORD: u64 = 13;
 
 // A line of a word and a number.
 fn put_numbered(out: &mut [u8], at: usize, word: &[u8], number: u64) -> usize
     ensures { λ r. ⌜ Wrote (now (out .entry)) at (now (word .entry) ++ decimal number ++ Report·ended) (now (out .exit)) r ⌝ }
 {
-    let a = writer::put_bytes(out, at, word);
-    let b = writer::put_number(out, a, number);
-    writer::put_bytes(out, b, b"\n")
+    let a = buffer_writer::put_bytes(out, at, word);
+    let b = buffer_writer::put_number(out, a, number);
+    buffer_writer::put_bytes(out, b, b"\n")
 }
 
 pub fn put_book(out: &mut [u8], at: usize, number: u64) -> usize
@@ -47,15 +43,15 @@ pub fn stopped(out: &mut [u8], at: usize, number: u64) -> u64
     ensures { λ r. ⌜ handed r (now (out .exit)) ≡ finish (now (out .entry)) at (stopLine number) ⌝ }
 {
     let p = put_stop(out, at, number);
-    writer::finished(out, p)
+    buffer_writer::finished(out, p)
 }
 
 // A report that ends with `end`.
 fn ended(out: &mut [u8], at: usize) -> u64
     ensures { λ r. ⌜ handed r (now (out .exit)) ≡ finish (now (out .entry)) at endLine ⌝ }
 {
-    let p = writer::put_bytes(out, at, b"end\n");
-    writer::finished(out, p)
+    let p = buffer_writer::put_bytes(out, at, b"end\n");
+    buffer_writer::finished(out, p)
 }
 
 // The last line, by what is left of the text.
@@ -64,7 +60,7 @@ pub fn last(input: &[u8], cursor: usize, out: &mut [u8], at: usize) -> u64
 {
     let r = text::next_word(input, cursor);
     let Read::Refused(n) = r else {
-        return stopped(out, at, LEFT_OVER);
+        return stopped(out, at, WRONG_LENGTH);
     };
     if n == BAD_WORD {
         return stopped(out, at, BAD_WORD);
@@ -86,7 +82,7 @@ fn put_word(out: &mut [u8], at: usize, value: u8, early: u8, settled: u8) -> usi
     ensures { λ r. ⌜ Wrote (now (out .entry)) at (digitWord value early settled) (now (out .exit)) r ⌝ }
 {
     let word = [b' ', glyph(value), glyph(early), glyph(settled)];
-    writer::put_bytes(out, at, &word)
+    buffer_writer::put_bytes(out, at, &word)
 }
 
 // The words of the first `count` properties.
@@ -114,9 +110,9 @@ fn put_words(
 fn put_numbers(out: &mut [u8], at: usize, i: u64, refusal: u64) -> usize
     ensures { λ r. ⌜ Wrote (now (out .entry)) at (decimal i ++ space ∷ decimal refusal) (now (out .exit)) r ⌝ }
 {
-    let a = writer::put_number(out, at, i);
-    let b = writer::put_bytes(out, a, b" ");
-    writer::put_number(out, b, refusal)
+    let a = buffer_writer::put_number(out, at, i);
+    let b = buffer_writer::put_bytes(out, a, b" ");
+    buffer_writer::put_number(out, b, refusal)
 }
 
 // A call's line. That of an accepted call has the words of `count` properties.
@@ -136,7 +132,7 @@ pub fn put_call(
     let a = put_numbers(out, at, i, refusal);
     if refusal == ACCEPTED {
         let b = put_words(out, a, count, values, early, settled);
-        return writer::put_bytes(out, b, b"\n");
+        return buffer_writer::put_bytes(out, b, b"\n");
     }
-    writer::put_bytes(out, a, b"\n")
+    buffer_writer::put_bytes(out, a, b"\n")
 }

@@ -7,21 +7,23 @@ use native.Mathlib.Omega.{arith}
 use lib.Dec.{leb, eqb}
 use lib.ListN.{length}
 use borrow.Author.Tests.{le-leb, ne-eqb, eqb-true, eqb-false}
-use Rattle.text.specs.Words.{MAX, mostDigits, textEnds, pick, parts, digit, letters, allDigits, said, plain, good, ends, gives, begun, runs, supplied, supply}
-use Rattle.text.specs.Decimals.{orElse, onto, decimal}
+use Rattle.numbers.specs.Limits.{MAX}
+use Rattle.text.specs.Words.{mostDigits, pick, parts, digit, letters, allDigits, said, plain, good, ends, gives, begun, writtenWords, supplied, supply}
+use Rattle.numbers.specs.Refusals.{WRONG-LENGTH}
+use Rattle.text.specs.Decimals.{orElse, digitsBefore, decimal}
 use Rattle.text.proofs.Digits.{at-most-20}
 use Rattle.text.proofs.Letters.{both-hold, no-part, within-digits, one-letter}
 
 -- ---- the digits one by one
-says : (f n : ℕ) (l : List ℕ) → n ≤ f → said 0 (onto f n l) ≡ said n l
-unfolding onto said
+says : (f n : ℕ) (l : List ℕ) → n ≤ f → said 0 (digitsBefore f n l) ≡ said n l
+unfolding digitsBefore said
 says zero n l h = let e : n ≡ 0 = omega arith in rw e
 says (suc f) n l h = by-zero (eqb n 0) refl (λ p. says f (n / 10) ((48 + n % 10) ∷ l) p)
   where
     value : n / 10 * 10 + (48 + n % 10 - 48) ≡ n
     value = omega arith
 
-    by-zero : (t : Bool) → eqb n 0 ≡ t → (n / 10 ≤ f → said 0 (onto f (n / 10) ((48 + n % 10) ∷ l)) ≡ said (n / 10 * 10 + (48 + n % 10 - 48)) l) → said 0 (orElse (eqb n 0) l (λ (d : ℕ). onto f (n / 10) (d ∷ l)) (48 + n % 10)) ≡ said n l
+    by-zero : (t : Bool) → eqb n 0 ≡ t → (n / 10 ≤ f → said 0 (digitsBefore f (n / 10) ((48 + n % 10) ∷ l)) ≡ said (n / 10 * 10 + (48 + n % 10 - 48)) l) → said 0 (orElse (eqb n 0) l (λ (d : ℕ). digitsBefore f (n / 10) (d ∷ l)) (48 + n % 10)) ≡ said n l
     by-zero true e r = rw e (ap (λ (m : ℕ). said m l) (sym (eqb-true n 0 e)))
     by-zero false e r = let z = eqb-false n 0 e in rw e (r (omega arith) ∙ ap (λ (m : ℕ). said m l) value)
 
@@ -29,22 +31,22 @@ one-digit : (n : ℕ) → digit (48 + n % 10) ≡ true
 unfolding digit
 one-digit n = rw (le-leb 48 (48 + n % 10) (omega arith), le-leb (48 + n % 10) 57 (omega arith))
 
-digits : (f n : ℕ) (l : List ℕ) → allDigits l ≡ true → allDigits (onto f n l) ≡ true
-unfolding onto allDigits
+digits : (f n : ℕ) (l : List ℕ) → allDigits l ≡ true → allDigits (digitsBefore f n l) ≡ true
+unfolding digitsBefore allDigits
 digits zero n l h = h
 digits (suc f) n l h = by-zero (eqb n 0) refl (digits f (n / 10) ((48 + n % 10) ∷ l) (rw (one-digit n) h))
   where
-    by-zero : (t : Bool) → eqb n 0 ≡ t → allDigits (onto f (n / 10) ((48 + n % 10) ∷ l)) ≡ true → allDigits (orElse (eqb n 0) l (λ (d : ℕ). onto f (n / 10) (d ∷ l)) (48 + n % 10)) ≡ true
+    by-zero : (t : Bool) → eqb n 0 ≡ t → allDigits (digitsBefore f (n / 10) ((48 + n % 10) ∷ l)) ≡ true → allDigits (orElse (eqb n 0) l (λ (d : ℕ). digitsBefore f (n / 10) (d ∷ l)) (48 + n % 10)) ≡ true
     by-zero true e r = rw e h
     by-zero false e r = rw e r
 
 -- before digits with no leading zero, or where the number is not 0, there is none
-plainly : (f n : ℕ) (l : List ℕ) → n ≤ f → (n ≡ 0 → plain l ≡ true) → plain (onto f n l) ≡ true
-unfolding onto plain pick
+plainly : (f n : ℕ) (l : List ℕ) → n ≤ f → (n ≡ 0 → plain l ≡ true) → plain (digitsBefore f n l) ≡ true
+unfolding digitsBefore plain pick
 plainly zero n l h p = p (omega arith)
 plainly (suc f) n l h p = by-zero (eqb n 0) refl (λ q r. plainly f (n / 10) ((48 + n % 10) ∷ l) q r)
   where
-    by-zero : (t : Bool) → eqb n 0 ≡ t → (n / 10 ≤ f → (n / 10 ≡ 0 → plain ((48 + n % 10) ∷ l) ≡ true) → plain (onto f (n / 10) ((48 + n % 10) ∷ l)) ≡ true) → plain (orElse (eqb n 0) l (λ (d : ℕ). onto f (n / 10) (d ∷ l)) (48 + n % 10)) ≡ true
+    by-zero : (t : Bool) → eqb n 0 ≡ t → (n / 10 ≤ f → (n / 10 ≡ 0 → plain ((48 + n % 10) ∷ l) ≡ true) → plain (digitsBefore f (n / 10) ((48 + n % 10) ∷ l)) ≡ true) → plain (orElse (eqb n 0) l (λ (d : ℕ). digitsBefore f (n / 10) (d ∷ l)) (48 + n % 10)) ≡ true
     by-zero true e r = rw e (p (eqb-true n 0 e))
     by-zero false e r = let z = eqb-false n 0 e in rw e (r (omega arith) (λ k. rw (ne-eqb (48 + n % 10) 48 (λ y. z (omega arith)))))
 
@@ -67,16 +69,16 @@ stays : (b : ℕ) → digit b ≡ true → parts b ≡ false
 stays b e = no-part b (within-digits b e .0)
 
 -- digits alone are one word
-whole : (w : List ℕ) → allDigits w ≡ true → (letters w ≡ w) × (runs true w ≡ [])
-unfolding allDigits letters runs begun pick
+whole : (w : List ℕ) → allDigits w ≡ true → (letters w ≡ w) × (writtenWords true w ≡ [])
+unfolding allDigits letters writtenWords begun pick
 whole [] h = (refl, refl)
 whole (b ∷ w) h =
     let k = both-hold (digit b) (allDigits w) h in
     let r = whole w (k .1) in
     rw (stays b (k .0)) (ap (λ (l : List ℕ). b ∷ l) (r .0), r .1)
 
-one-word : (w : List ℕ) → allDigits w ≡ true → good w ≡ true → supply w ≡ gives (said 0 w) (ends textEnds)
-unfolding good allDigits plain supply supplied runs begun pick letters
+one-word : (w : List ℕ) → allDigits w ≡ true → good w ≡ true → supply w ≡ gives (said 0 w) (ends WRONG-LENGTH)
+unfolding good allDigits plain supply supplied writtenWords begun pick letters
 one-word [] a h = absurd (false≢true h)
 one-word (b ∷ w) a h =
     let k = both-hold (digit b) (allDigits w) a in
@@ -84,5 +86,5 @@ one-word (b ∷ w) a h =
     rw (stays b (k .0), r .0, r .1, h)
 
 -- the digits of a number, as a text, give that number and end
-pub reads-back : (n : ℕ) → n ≤ MAX → supply (decimal n) ≡ gives n (ends textEnds)
-reads-back n h = let g = good-decimal n h in one-word (decimal n) (decimal-digits n) (g .0) ∙ ap (λ (m : ℕ). gives m (ends textEnds)) (g .1)
+pub reads-back : (n : ℕ) → n ≤ MAX → supply (decimal n) ≡ gives n (ends WRONG-LENGTH)
+reads-back n h = let g = good-decimal n h in one-word (decimal n) (decimal-digits n) (g .0) ∙ ap (λ (m : ℕ). gives m (ends WRONG-LENGTH)) (g .1)

@@ -11,46 +11,46 @@ use lib.ListN.{length, take, drop, set, replicate, length-replicate, length-drop
 use lib.Seq.{take-set-le, drop-cons, drop-set-lt, getD-set-same, length-take-le, drop-length, take-take, take-all, drop-at}
 use borrow.Author.Tests.{ne-eqb, le-leb, le-ltb, lt-leb, leb-true}
 use Rattle.text.specs.Words.{pick}
-use Rattle.text.specs.Decimals.{orElse, onto, before, decimal, shown, lastly}
+use Rattle.text.specs.Decimals.{orElse, digitsBefore, before, decimal, shown, lastly}
 
-onto-none : (f : ℕ) (l : List ℕ) → onto f 0 l ≡ l
-unfolding onto
+onto-none : (f : ℕ) (l : List ℕ) → digitsBefore f 0 l ≡ l
+unfolding digitsBefore
 onto-none zero l = refl
 onto-none (suc f) l = refl
 
 -- more steps than enough change nothing
-enough : (f g n : ℕ) (l : List ℕ) → n ≤ f → n ≤ g → onto f n l ≡ onto g n l
-unfolding onto
+enough : (f g n : ℕ) (l : List ℕ) → n ≤ f → n ≤ g → digitsBefore f n l ≡ digitsBefore g n l
+unfolding digitsBefore
 enough zero g n l h k = let e : n ≡ 0 = omega arith in rw e (sym (onto-none g l))
 enough (suc f) zero n l h k = let e : n ≡ 0 = omega arith in rw e (onto-none (suc f) l)
 enough (suc f) (suc g) n l h k = by-zero (eqb n 0) refl (λ p q. enough f g (n / 10) ((48 + n % 10) ∷ l) p q)
   where
-    by-zero : (t : Bool) → eqb n 0 ≡ t → (n / 10 ≤ f → n / 10 ≤ g → onto f (n / 10) ((48 + n % 10) ∷ l) ≡ onto g (n / 10) ((48 + n % 10) ∷ l)) → orElse (eqb n 0) l (λ (d : ℕ). onto f (n / 10) (d ∷ l)) (48 + n % 10) ≡ orElse (eqb n 0) l (λ (d : ℕ). onto g (n / 10) (d ∷ l)) (48 + n % 10)
+    by-zero : (t : Bool) → eqb n 0 ≡ t → (n / 10 ≤ f → n / 10 ≤ g → digitsBefore f (n / 10) ((48 + n % 10) ∷ l) ≡ digitsBefore g (n / 10) ((48 + n % 10) ∷ l)) → orElse (eqb n 0) l (λ (d : ℕ). digitsBefore f (n / 10) (d ∷ l)) (48 + n % 10) ≡ orElse (eqb n 0) l (λ (d : ℕ). digitsBefore g (n / 10) (d ∷ l)) (48 + n % 10)
     by-zero true e r = rw e
     by-zero false e r = rw e (r (omega arith) (omega arith))
 
-one : (f n : ℕ) (l : List ℕ) → 0 < n → onto (suc f) n l ≡ onto f (n / 10) ((48 + n % 10) ∷ l)
-unfolding onto
+one : (f n : ℕ) (l : List ℕ) → 0 < n → digitsBefore (suc f) n l ≡ digitsBefore f (n / 10) ((48 + n % 10) ∷ l)
+unfolding digitsBefore
 one f n l h = rw (ne-eqb n 0 (omega arith))
 
 pub step : (n : ℕ) (l : List ℕ) → 0 < n → before n l ≡ before (n / 10) ((48 + n % 10) ∷ l)
 step n l h = enough n (suc n) n l (omega arith) (omega arith) ∙ one n n l h ∙ enough n (n / 10) (n / 10) ((48 + n % 10) ∷ l) (omega arith) (omega arith)
 
-longer : (f n : ℕ) (l : List ℕ) → length l ≤ length (onto f n l)
-unfolding onto
+longer : (f n : ℕ) (l : List ℕ) → length l ≤ length (digitsBefore f n l)
+unfolding digitsBefore
 longer zero n l = omega arith
 longer (suc f) n l = by-zero (eqb n 0) refl (longer f (n / 10) ((48 + n % 10) ∷ l))
   where
-    by-zero : (t : Bool) → eqb n 0 ≡ t → suc (length l) ≤ length (onto f (n / 10) ((48 + n % 10) ∷ l)) → length l ≤ length (orElse (eqb n 0) l (λ (d : ℕ). onto f (n / 10) (d ∷ l)) (48 + n % 10))
+    by-zero : (t : Bool) → eqb n 0 ≡ t → suc (length l) ≤ length (digitsBefore f (n / 10) ((48 + n % 10) ∷ l)) → length l ≤ length (orElse (eqb n 0) l (λ (d : ℕ). digitsBefore f (n / 10) (d ∷ l)) (48 + n % 10))
     by-zero true e r = rw e (omega arith)
     by-zero false e r = rw e (omega arith)
 
-same-len : (f n : ℕ) (l k : List ℕ) → length l ≡ length k → length (onto f n l) ≡ length (onto f n k)
-unfolding onto
+same-len : (f n : ℕ) (l k : List ℕ) → length l ≡ length k → length (digitsBefore f n l) ≡ length (digitsBefore f n k)
+unfolding digitsBefore
 same-len zero n l k e = e
 same-len (suc f) n l k e = by-zero (eqb n 0) refl (same-len f (n / 10) ((48 + n % 10) ∷ l) ((48 + n % 10) ∷ k) (ap suc e))
   where
-    by-zero : (t : Bool) → eqb n 0 ≡ t → length (onto f (n / 10) ((48 + n % 10) ∷ l)) ≡ length (onto f (n / 10) ((48 + n % 10) ∷ k)) → length (orElse (eqb n 0) l (λ (d : ℕ). onto f (n / 10) (d ∷ l)) (48 + n % 10)) ≡ length (orElse (eqb n 0) k (λ (d : ℕ). onto f (n / 10) (d ∷ k)) (48 + n % 10))
+    by-zero : (t : Bool) → eqb n 0 ≡ t → length (digitsBefore f (n / 10) ((48 + n % 10) ∷ l)) ≡ length (digitsBefore f (n / 10) ((48 + n % 10) ∷ k)) → length (orElse (eqb n 0) l (λ (d : ℕ). digitsBefore f (n / 10) (d ∷ l)) (48 + n % 10)) ≡ length (orElse (eqb n 0) k (λ (d : ℕ). digitsBefore f (n / 10) (d ∷ k)) (48 + n % 10))
     by-zero true q r = rw q e
     by-zero false q r = rw q r
 
@@ -163,13 +163,13 @@ pub ends-there : (n room i o : ℕ) (l : List ℕ) → i ≡ room - length (show
 ends-there n room i o l e f = omega (arith, shown-fits n room, ap length f)
 
 -- ---- a number of 64 bits has at most 20 digits
-short : (k f n : ℕ) (l : List ℕ) → n < 10 ^ k → length (onto f n l) ≤ k + length l
-unfolding onto
+short : (k f n : ℕ) (l : List ℕ) → n < 10 ^ k → length (digitsBefore f n l) ≤ k + length l
+unfolding digitsBefore
 short k zero n l h = omega arith
 short zero (suc f) n l h = let e : n ≡ 0 = omega arith in rw e (omega arith)
 short (suc k) (suc f) n l h = by-zero (eqb n 0) refl (λ p. short k f (n / 10) ((48 + n % 10) ∷ l) p)
   where
-    by-zero : (t : Bool) → eqb n 0 ≡ t → (n / 10 < 10 ^ k → length (onto f (n / 10) ((48 + n % 10) ∷ l)) ≤ k + suc (length l)) → length (orElse (eqb n 0) l (λ (d : ℕ). onto f (n / 10) (d ∷ l)) (48 + n % 10)) ≤ suc k + length l
+    by-zero : (t : Bool) → eqb n 0 ≡ t → (n / 10 < 10 ^ k → length (digitsBefore f (n / 10) ((48 + n % 10) ∷ l)) ≤ k + suc (length l)) → length (orElse (eqb n 0) l (λ (d : ℕ). digitsBefore f (n / 10) (d ∷ l)) (48 + n % 10)) ≤ suc k + length l
     by-zero true e r = rw e (omega arith)
     by-zero false e r = rw e (omega (arith, r (omega (arith, pow-suc 10 k))))
 

@@ -1,5 +1,5 @@
 -- Laws of a word's letters, for the proofs of `words`. Assumes nothing.
-use Prim.Native.Nat.{ℕ, zero, suc, _+_, _*_, _-_, _/_, _^_, _≤_, _<_}
+use Prim.Native.Nat.{ℕ, suc, _+_, _*_, _-_, _/_, _^_, _≤_, _<_}
 use mathlib.Core.Path.{_≡_, refl, sym, ap, _∙_}
 use mathlib.Core.Bool.{Bool, true, false, _&&_, and-false, false≢true}
 use mathlib.Core.Logic.{_⊎_, inl, inr, ⊎-elim}
@@ -11,8 +11,9 @@ use lib.Dec.{leb, ltb, eqb, lit<}
 use lib.ListN.{length, getD, drop, drop-of-length-le}
 use lib.Seq.{drop-cons}
 use borrow.Author.Tests.{le-leb, lt-leb, ne-eqb, leb-true, ltb-true, ltb-false}
-use Rattle.text.specs.Words.{MAX, mostDigits, pick, parts, digit, letters, allDigits, said, plain, good, wordHere, nextIn, nextWord}
-use Rattle.text.specs.Kinds.{kindOf, kindAt}
+use Rattle.numbers.specs.Limits.{MAX}
+use Rattle.text.specs.Words.{mostDigits, pick, parts, digit, letters, allDigits, said, plain, good, wordHere, nextIn, nextWord}
+use Rattle.text.specs.Private.{kindOf, kindAt}
 use Rattle.text.specs.declared.words.Read.the-variants.{Word, Refused}
 
 either : (t : Bool) → (t ≡ true) ⊎ (t ≡ false)

@@ -8,17 +8,19 @@ use lib.Dec.{leb}
 use lib.ListN.{length, getD, drop, length-drop}
 use lib.Seq.{drop-drop}
 use borrow.Author.Tests.{leb-true}
-use Rattle.text.specs.Words.{MAX, mostDigits, textEnds, badWord, pick, parts, letters, allDigits, said, plain, good, wordHere, nextIn, nextWord, ends, gives, begun, runs, supplied, supply, supplyFrom}
+use Rattle.numbers.specs.Limits.{MAX}
+use Rattle.text.specs.Words.{mostDigits, pick, parts, letters, allDigits, said, plain, good, wordHere, nextIn, nextWord, ends, gives, begun, writtenWords, supplied, supply, supplyFrom}
+use Rattle.numbers.specs.Refusals.{WRONG-LENGTH, BAD-WORD}
 use Rattle.text.proofs.Letters.{both-hold}
 use Rattle.text.specs.declared.words.Read.the-variants.{Word, Refused}
 
 -- after a word's letters the next one begins anew
-after : (s : List ℕ) → runs true s ≡ runs false (drop (length (letters s)) s)
-unfolding runs letters pick begun
+after : (s : List ℕ) → writtenWords true s ≡ writtenWords false (drop (length (letters s)) s)
+unfolding writtenWords letters pick begun
 after [] = refl
 after (b ∷ s) = by-part (parts b) refl (after s)
   where
-    by-part : (t : Bool) → parts b ≡ t → runs true s ≡ runs false (drop (length (letters s)) s) → runs true (b ∷ s) ≡ runs false (drop (length (letters (b ∷ s))) (b ∷ s))
+    by-part : (t : Bool) → parts b ≡ t → writtenWords true s ≡ writtenWords false (drop (length (letters s)) s) → writtenWords true (b ∷ s) ≡ writtenWords false (drop (length (letters (b ∷ s))) (b ∷ s))
     by-part true e r = rw (e, e)
     by-part false e r = rw e r
 
@@ -43,7 +45,7 @@ good-fits w e =
 -- ---- the bytes that are left, by the first of them
 module _ (b : ℕ) (s : List ℕ) where
   passed : parts b ≡ true → supply (b ∷ s) ≡ supply s
-  unfolding supply runs begun
+  unfolding supply writtenWords begun
   passed p = rw p
 
   module _ (p : parts b ≡ false) where
@@ -51,15 +53,15 @@ module _ (b : ℕ) (s : List ℕ) where
     unfolding letters pick
     begins = rw p
 
-    written : runs false (b ∷ s) ≡ letters (b ∷ s) ∷ runs false (drop (length (letters (b ∷ s))) (b ∷ s))
-    unfolding runs begun
+    written : writtenWords false (b ∷ s) ≡ letters (b ∷ s) ∷ writtenWords false (drop (length (letters (b ∷ s))) (b ∷ s))
+    unfolding writtenWords begun
     written = rw (p, begins, after s)
 
     taken : good (letters (b ∷ s)) ≡ true → supply (b ∷ s) ≡ gives (said 0 (letters (b ∷ s))) (supply (drop (length (letters (b ∷ s))) (b ∷ s)))
     unfolding supply supplied pick
     taken e = rw (written, e)
 
-    bad : good (letters (b ∷ s)) ≡ false → supply (b ∷ s) ≡ ends badWord
+    bad : good (letters (b ∷ s)) ≡ false → supply (b ∷ s) ≡ ends BAD-WORD
     unfolding supply supplied pick
     bad e = rw (written, e)
 
@@ -85,7 +87,7 @@ word-here b s at w next p true e f =
       fits = rw (← v) (good-fits (letters (b ∷ s)) e);
       gave = rw (← v) (taken b s p e);
     }
-word-here b s at w next p false e f = let g : Refused badWord ≡ Word w next = rw e at f in let z : _≡_ {A = ℕ} 0 1 = cc in absurd (omega arith)
+word-here b s at w next p false e f = let g : Refused BAD-WORD ≡ Word w next = rw e at f in let z : _≡_ {A = ℕ} 0 1 = cc in absurd (omega arith)
 
 word-in : (l : List ℕ) (at w next : ℕ) → nextIn l at ≡ Word w next → TakenIn l at w next
 unfolding nextIn pick
@@ -112,13 +114,13 @@ refused-here b s at r p true e f =
     let z : _≡_ {A = ℕ} 0 1 = cc in
     absurd (omega arith)
 refused-here b s at r p false e f =
-    let g : Refused badWord ≡ Refused r = rw e at f in
-    let v : badWord ≡ r = cc in
+    let g : Refused BAD-WORD ≡ Refused r = rw e at f in
+    let v : BAD-WORD ≡ r = cc in
     bad b s p e ∙ ap ends v
 
 refused-in : (l : List ℕ) (at r : ℕ) → nextIn l at ≡ Refused r → supply l ≡ ends r
-unfolding nextIn pick supply supplied runs
-refused-in [] at r e = let v : textEnds ≡ r = cc in ap ends v
+unfolding nextIn pick supply supplied writtenWords
+refused-in [] at r e = let v : WRONG-LENGTH ≡ r = cc in ap ends v
 refused-in (b ∷ s) at r e = by-part (parts b) refl (λ h. refused-in s (suc at) r h)
   where
     by-part : (t : Bool) → parts b ≡ t → (nextIn s (suc at) ≡ Refused r → supply s ≡ ends r) → supply (b ∷ s) ≡ ends r
@@ -164,4 +166,4 @@ fits-all (w ∷ ws) i = by-good (good w) refl i (fits-all ws)
 
 pub all-fit : (s : List ℕ) (i : ℕ) → getD (supply s .words) i 0 ≤ MAX
 unfolding supply
-all-fit s i = fits-all (runs false s) i
+all-fit s i = fits-all (writtenWords false s) i

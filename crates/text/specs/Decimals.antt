@@ -14,13 +14,13 @@ orElse true l f d = l
 orElse false l f d = f d
 
 -- the digits of n before those that follow, none where n is 0. The first number only bounds the steps, and n are enough
-unfoldable pub onto : ℕ → ℕ → List ℕ → List ℕ
-onto zero n l = l
-onto (suc f) n l = orElse (eqb n 0) l (λ d. onto f (n / 10) (d ∷ l)) (digit0 + n % 10)
+unfoldable pub digitsBefore : ℕ → ℕ → List ℕ → List ℕ
+digitsBefore zero n l = l
+digitsBefore (suc f) n l = orElse (eqb n 0) l (λ d. digitsBefore f (n / 10) (d ∷ l)) (digit0 + n % 10)
 
 -- with steps enough
 abbrev pub before : ℕ → List ℕ → List ℕ
-before n l = onto n n l
+before n l = digitsBefore n n l
 
 -- a number's digits: at least one, and no zero before the others
 unfoldable pub decimal : ℕ → List ℕ

@@ -1,3 +1,3 @@
 pub mod Words
-pub mod Kinds
+pub mod Private
 pub mod Decimals

@@ -4,6 +4,8 @@ use mathlib.Core.Bool.{Bool, true, false, not, _&&_, _||_}
 use mathlib.Core.List.{List, [], _∷_}
 use lib.Dec.{leb, eqb}
 use lib.ListN.{length, drop}
+use Rattle.numbers.specs.Limits.{MAX}
+use Rattle.numbers.specs.Refusals.{WRONG-LENGTH, BAD-WORD}
 use Rattle.text.specs.declared.words.Read.{Read}
 use Rattle.text.specs.declared.words.Read.the-variants.{Word, Refused}
 
@@ -21,20 +23,9 @@ digit0 = 48
 abbrev pub digit9 : ℕ
 digit9 = 57
 
--- the largest number that a word says
-abbrev pub MAX : ℕ
-MAX = 18446744073709551615
-
 -- the most digits that a word has
 abbrev pub mostDigits : ℕ
 mostDigits = 20
-
--- the numbers that end the reading: at the end of the text, and at a bad word
-abbrev pub textEnds : ℕ
-textEnds = 1
-
-abbrev pub badWord : ℕ
-badWord = 13
 
 -- the first where the test holds, else the second
 unfoldable pub pick : {A : Type 0} → Bool → A → A → A
@@ -75,11 +66,11 @@ good w = allDigits w && (leb (length w) mostDigits && (plain w && leb (said 0 w)
 
 -- what the word reads as that begins here, at the place given
 unfoldable pub wordHere : List ℕ → ℕ → Read
-wordHere s at = pick (good (letters s)) (Word (said 0 (letters s)) (at + length (letters s))) (Refused badWord)
+wordHere s at = pick (good (letters s)) (Word (said 0 (letters s)) (at + length (letters s))) (Refused BAD-WORD)
 
 -- the next word of the bytes that are left, the first of which stands at the place given
 unfoldable pub nextIn : List ℕ → ℕ → Read
-nextIn [] at = Refused textEnds
+nextIn [] at = Refused WRONG-LENGTH
 nextIn (b ∷ s) at = pick (parts b) (nextIn s (suc at)) (wordHere (b ∷ s) at)
 
 -- the next word of a text from a place on
@@ -104,19 +95,19 @@ unfoldable pub begun : Bool → List ℕ → List (List ℕ) → List (List ℕ)
 begun true w ws = w ∷ ws
 begun false w ws = ws
 
--- the words of a text as they are written: its longest runs of bytes that part none. The test says whether one is going on
-unfoldable pub runs : Bool → List ℕ → List (List ℕ)
-runs going [] = []
-runs going (b ∷ s) = begun (not going && not (parts b)) (letters (b ∷ s)) (runs (not (parts b)) s)
+-- the words of a text as they are written: its longest writtenWords of bytes that part none. The test says whether one is going on
+unfoldable pub writtenWords : Bool → List ℕ → List (List ℕ)
+writtenWords going [] = []
+writtenWords going (b ∷ s) = begun (not going && not (parts b)) (letters (b ∷ s)) (writtenWords (not (parts b)) s)
 
 -- what written words give: the numbers that they say, up to the first bad word or the end
 unfoldable pub supplied : List (List ℕ) → Supply
-supplied [] = ends textEnds
-supplied (w ∷ ws) = pick (good w) (gives (said 0 w) (supplied ws)) (ends badWord)
+supplied [] = ends WRONG-LENGTH
+supplied (w ∷ ws) = pick (good w) (gives (said 0 w) (supplied ws)) (ends BAD-WORD)
 
 -- what a text gives
 unfoldable pub supply : List ℕ → Supply
-supply s = supplied (runs false s)
+supply s = supplied (writtenWords false s)
 
 -- what a text gives from a place on
 abbrev pub supplyFrom : List ℕ → ℕ → Supply

@@ -3,8 +3,12 @@ ghost use mathlib.Core.Path.{_≡_};
 ghost use mathlib.Core.Bool.{false};
 ghost use Prim.Native.Nat.{_-_, _/_, _<_};
 ghost use lib.ListN.{length, getD, drop};
-ghost use Rattle.text.specs.Words.{MAX as Words·MAX, digit0, parts as Words·parts, wordHere, nextWord};
-ghost use Rattle.text.specs.Kinds.{kindOf, kindAt};
+ghost use Rattle.numbers.specs.Limits.{MAX as Words·MAX};
+ghost use Rattle.text.specs.Words.{digit0, parts as Words·parts, wordHere, nextWord};
+ghost use Rattle.text.specs.Private.{kindOf, kindAt};
+use numbers::BAD_WORD;
+use numbers::MAX;
+use numbers::WRONG_LENGTH;
 
 // Words are parted by these two bytes.
 const SPACE: u8 = b' ';
@@ -26,17 +30,10 @@ const TEN: u64 = 10;
 // Where a word of one digit ends, from the parting byte before it on.
 const SHORT: usize = 2;
 
-// The largest number that a word says, and its parts before the last digit and there.
-const MAX: u64 = 0xffff_ffff_ffff_ffff;
-
+// The largest number that a word says, before its last digit and there.
 const MAX_TENTH: u64 = MAX / TEN;
 
 const MAX_LAST: u64 = MAX % TEN;
-
-// The numbers of 01 that end the reading.
-const TEXT_ENDS: u64 = 1;
-
-const BAD_WORD: u64 = 13;
 
 // What reading finds: a word and the place after it, or the number that ends the reading.
 pub enum Read {
@@ -145,7 +142,7 @@ pub fn next_word(input: &[u8], at: usize) -> Read
             return word_here(input, i);
         }
     }
-    Read::Refused(TEXT_ENDS)
+    Read::Refused(WRONG_LENGTH)
 }
 
 // The same, for a caller whose words are most often one digit between two parting bytes: such a word is told from three

@@ -1,8 +1,7 @@
 // Shows what the reader of words gives and what the writer of numbers leaves, for texts and scratches at the limits.
 use libc::STDOUT_FILENO;
+use numbers::MAX;
 use text::Read;
-
-const MAX: u64 = 0xffff_ffff_ffff_ffff;
 
 fn show(n: u64) {
     let mut scratch = [0u8; 20];

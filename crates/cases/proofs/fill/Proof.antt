@@ -1,5 +1,6 @@
+-- `cases::fill` is safe and ends. The loop's invariant stands first. Assumes nothing.
 use Prim.Native.Nat.{_≤_, _-_}
-use Rattle.book.specs.Kept.{Kept}
+use Rattle.memory.specs.Kept.{Kept}
 use borrow.Author.Needs.{needs}
 use Rattle.cases.proofs.fill.Statement.{statement}
 use Rattle.cases.proofs.fill.Tie as tie

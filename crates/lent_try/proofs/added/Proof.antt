@@ -1,3 +1,4 @@
+-- `lent_try::added` is safe and ends. Assumes nothing.
 use Rattle.numset.proofs.Changes.{added-good}
 use native.Mathlib.Omega.{arith}
 use borrow.Author.Needs.{needs}

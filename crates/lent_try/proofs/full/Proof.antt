@@ -1,3 +1,4 @@
+-- `lent_try::full` is safe and ends. The loop's invariant stands first. Assumes nothing.
 use Rattle.numset.specs.Runs.{Good}
 use Rattle.numset.proofs.Packs.{good-none}
 use lib.Dec.{lit<}

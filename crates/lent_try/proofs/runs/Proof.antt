@@ -1,3 +1,4 @@
+-- `lent_try::runs` is safe and ends. The loop's invariant stands first. Assumes nothing.
 use lib.ListN.{getD}
 use mathlib.Core.Path.{_≡_}
 use Prim.Native.Nat.{_≤_, _-_}

@@ -1,3 +1,4 @@
+-- `lent_try::start` is safe and ends. Assumes nothing.
 use Rattle.numset.proofs.Changes.{one-good}
 use lib.Dec.{lit≤}
 use borrow.Author.Needs.{needs}

@@ -1,3 +1,4 @@
+-- `monitor::drain` is safe and ends. The loop's invariant stands first. Assumes nothing.
 use lib.ListN.{length}
 use mathlib.Core.Path.{_≡_}
 use borrow.Author.Needs.{needs}

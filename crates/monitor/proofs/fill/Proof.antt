@@ -1,3 +1,4 @@
+-- `monitor::fill` is safe and ends. The loop's invariant stands first. Assumes nothing.
 use borrow.Rule.Slice.PartMut.{same-len-mid}
 use native.Mathlib.Omega.{arith}
 use Rattle.monitor.proofs.Bounds.{further}

@@ -1,3 +1,4 @@
+-- `monitor::main` is safe and ends. Assumes nothing.
 use Prim.Native.Nat.{ℕ}
 use mathlib.Core.Path.{sym}
 use lib.Seq.{length-take-le}

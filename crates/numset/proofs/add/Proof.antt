@@ -1,3 +1,4 @@
+-- `numset::add` meets its contract. Assumes nothing.
 use Rattle.numset.proofs.Place.{added-none, added-full, added, placed-eq}
 use native.Mathlib.Omega.{arith}
 use borrow.Author.Needs.{needs}

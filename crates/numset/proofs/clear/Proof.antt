@@ -1,3 +1,4 @@
+-- `numset::clear` meets its contract. Assumes nothing.
 use Rattle.numset.proofs.Resets.{cleared}
 use borrow.Author.Needs.{needs}
 use Rattle.numset.proofs.clear.Statement.{statement}

@@ -1,3 +1,4 @@
+-- `numset::covers` meets its contract. Assumes nothing.
 use mathlib.Core.Path.{refl}
 use Rattle.numset.proofs.Last.{none-cover, late-cover, last-cover}
 use native.Mathlib.Omega.{arith}

@@ -1,17 +1,21 @@
-use Rattle.numset.proofs.Resets.{wiped}
-use native.Mathlib.Omega.{arith}
+-- `numset::empty` meets its contract. Assumes nothing.
 use borrow.Author.Needs.{needs}
+use native.Mathlib.Omega.{arith}
+use Rattle.numset.proofs.Resets.{empties-none, empties}
 use Rattle.numset.proofs.empty.Statement.{statement}
 use Rattle.numset.proofs.empty.Tie as tie
 
-wipe-requires : tie.Need-wipe-requires
-wipe-requires c κs = search needs
+returns : tie.Need-returns
+returns c = empties-none _ (omega arith)
+
+clear-requires : tie.Need-clear-requires
+clear-requires c κs = search needs
 
 same-length : tie.Need-same-length
 same-length c = search needs
 
-returns : tie.Need-returns
-returns c = wiped (c .before .before .wipe .ensures) (c .before .before .wipe .kept .0) (λ i p q. absurd (omega arith))
+returns-2 : tie.Need-returns-2
+returns-2 c = empties _ (λ h. omega arith) (c .before .before .clear .ensures)
 
 pub empty-spec : {M : Type 1} → statement M
-empty-spec = tie.close (tie.spec wipe-requires same-length returns)
+empty-spec = tie.close (tie.spec returns clear-requires same-length returns-2)

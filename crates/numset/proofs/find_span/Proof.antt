@@ -1,3 +1,4 @@
+-- `numset::find_span` meets its contract. Assumes nothing.
 use Rattle.numset.proofs.Walk.{span-first, span-after, span-last}
 use mathlib.Core.Path.{refl}
 use native.Mathlib.Omega.{arith}

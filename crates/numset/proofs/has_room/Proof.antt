@@ -1,3 +1,4 @@
+-- `numset::has_room` meets its contract. Assumes nothing.
 use Rattle.numset.proofs.Place.{fits-none, room-there, room-lacks}
 use mathlib.Core.Path.{sym}
 use native.Mathlib.Omega.{arith}

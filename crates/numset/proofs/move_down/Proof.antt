@@ -3,14 +3,14 @@ use Prim.Native.Nat.{_-_, _≤_}
 use mathlib.Core.Path.{_≡_, refl}
 use native.Mathlib.Omega.{arith}
 use lib.ListN.{length, length-set}
-use Rattle.numset.specs.Words.{Moved}
+use Rattle.numset.specs.Private.{Shifted}
 use Rattle.numset.proofs.Moves.{moved-none, moved-eq, append}
 use borrow.Author.Needs.{needs}
 use Rattle.numset.proofs.move_down.Statement.{statement}
 use Rattle.numset.proofs.move_down.Tie as tie
 
 abbrev Inv-loop : tie.InvT-loop
-Inv-loop set₀ src dst count i₀ set i = (i ≤ count) × (length set ≡ length set₀) × Moved set₀ set src dst i
+Inv-loop set₀ src dst count i₀ set i = (i ≤ count) × (length set ≡ length set₀) × Shifted set₀ set src dst i
 
 abbrev μ-loop : tie.MeasureT-loop
 μ-loop set₀ src dst count i₀ set i = count - i

@@ -1,3 +1,4 @@
+-- `numset::put_new` meets its contract. Assumes nothing.
 use Rattle.numset.proofs.Place.{place-up}
 use native.Mathlib.Omega.{arith}
 use borrow.Author.Needs.{needs}

@@ -1,3 +1,4 @@
+-- `numset::put_over` meets its contract. Assumes nothing.
 use Rattle.numset.proofs.Place.{place-down}
 use native.Mathlib.Omega.{arith}
 use borrow.Author.Needs.{needs}

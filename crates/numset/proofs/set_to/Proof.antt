@@ -1,3 +1,4 @@
+-- `numset::set_to` meets its contract. Assumes nothing.
 use Rattle.numset.proofs.Resets.{sets-none, sets-full, sets-added}
 use Rattle.numset.proofs.Packs.{good-none}
 use native.Mathlib.Omega.{arith}

@@ -3,7 +3,7 @@ use Prim.Native.Nat.{_-_, _≤_}
 use mathlib.Core.Path.{_≡_, refl}
 use native.Mathlib.Omega.{arith}
 use lib.ListN.{length, length-set}
-use Rattle.numset.specs.Words.{Cleared}
+use Rattle.numset.specs.Private.{Cleared}
 use Rattle.numset.proofs.Moves.{cleared-eq, cleared-none, cleared-more}
 use borrow.Author.Needs.{needs}
 use Rattle.numset.proofs.wipe.Statement.{statement}

@@ -1,3 +1,4 @@
+-- `numset_try::by_value` is safe and ends. Assumes nothing.
 use Rattle.numset.proofs.Changes.{one-good}
 use Rattle.numset.proofs.Packs.{good-none}
 use lib.Dec.{lit<, lit≤}

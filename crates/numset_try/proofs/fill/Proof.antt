@@ -1,3 +1,4 @@
+-- `numset_try::fill` is safe and ends. The loop's invariant stands first. Assumes nothing.
 use Rattle.numset.specs.Runs.{Good}
 use lib.ListN.{length}
 use mathlib.Core.Path.{_≡_}

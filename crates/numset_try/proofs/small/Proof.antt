@@ -1,3 +1,4 @@
+-- `numset_try::small` is safe and ends. Assumes nothing.
 use Rattle.numset.proofs.Packs.{good-zeros}
 use lib.Dec.{lit<}
 use borrow.Author.Needs.{needs}

@@ -1,3 +1,4 @@
+-- `replay::show` is safe and ends. Assumes nothing.
 use native.Mathlib.Omega.{arith}
 use mathlib.Core.Path.{sym}
 use lib.Seq.{length-take-le}

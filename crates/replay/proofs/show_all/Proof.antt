@@ -1,3 +1,4 @@
+-- `replay::show_all` is safe and ends. The loop's invariant stands first. Assumes nothing.
 use native.Mathlib.Omega.{arith}
 use Rattle.replay.proofs.Past.{past}
 use Prim.Native.Nat.{_≤_, _-_}

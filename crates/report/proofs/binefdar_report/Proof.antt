@@ -1,8 +1,9 @@
-use Rattle.reader.proofs.Taking.{part-refused}
+-- `report::binefdar_report` meets its contract. Assumes nothing.
+use Rattle.text_reader.proofs.Taking.{part-refused}
 use mathlib.Core.Path.{_∙_, sym}
 use native.Mathlib.Omega.{arith}
 use lib.Seq.{length-take-le}
-use Rattle.writer.proofs.Writes.{whole}
+use Rattle.buffer_writer.proofs.Writes.{whole}
 use Rattle.report.proofs.Lasting.{ending}
 use Rattle.report.proofs.Going.{too-long, no-book, book-there, of-book}
 use borrow.Author.Needs.{needs}

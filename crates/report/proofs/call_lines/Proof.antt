@@ -4,10 +4,10 @@ use native.Mathlib.Omega.{arith}
 use mathlib.Core.Path.{_≡_, sym, _∙_}
 use lib.ListN.{length, replicate, length-replicate}
 use borrow.Author.Needs.{needs}
-use Rattle.rows.specs.Memory.{bookOf}
-use Rattle.verdicts.specs.Board.{Board}
-use Rattle.verdicts.proofs.Boards.{board-asked}
-use Rattle.writer.proofs.Writes.{same-bytes}
+use Rattle.memory.specs.Memory.{bookOf}
+use Rattle.property_answers.specs.Board.{Board}
+use Rattle.property_answers.proofs.Boards.{board-asked}
+use Rattle.buffer_writer.proofs.Writes.{same-bytes}
 use Rattle.report.proofs.Turns.{turn-stopped}
 use Rattle.report.proofs.Lasting.{said-digits, line-said}
 use Rattle.report.proofs.Saying.{called-begun, board-book, counted}

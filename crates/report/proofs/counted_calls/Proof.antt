@@ -1,5 +1,6 @@
+-- `report::counted_calls` meets its contract. Assumes nothing.
 use mathlib.Core.Path.{_∙_, sym}
-use Rattle.reader.proofs.Taking.{number}
+use Rattle.text_reader.proofs.Taking.{number}
 use Rattle.report.proofs.Going.{no-count, after-count}
 use borrow.Author.Needs.{needs}
 use Rattle.report.proofs.counted_calls.Statement.{statement}

@@ -1,3 +1,4 @@
+-- `report::loaded_book` meets its contract. Assumes nothing.
 use Rattle.pmtl.specs.Monitor.{initial}
 use Rattle.pmtl.specs.Book.{Book}
 use mathlib.Core.Path.{_∙_, sym, ap}

@@ -1,5 +1,6 @@
+-- `report::refused_book` meets its contract. Assumes nothing.
 use mathlib.Core.Path.{_∙_}
-use Rattle.writer.proofs.Writes.{at-end}
+use Rattle.buffer_writer.proofs.Writes.{at-end}
 use borrow.Author.Needs.{needs}
 use Rattle.report.proofs.refused_book.Statement.{statement}
 use Rattle.report.proofs.refused_book.Tie as tie

@@ -1,3 +1,4 @@
+-- `text_try::show_words` is safe and ends. The loop's invariant stands first. Assumes nothing.
 use Rattle.text.proofs.Supplies.{word}
 use lib.ListN.{length}
 use mathlib.Core.Path.{sym, _∙_}

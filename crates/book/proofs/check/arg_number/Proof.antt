@@ -1,3 +1,4 @@
+-- `book::check::arg_number` meets its contract. Assumes nothing.
 use Rattle.book.proofs.Forms.{no-kind, low-arg, high-arg, good-arg}
 use native.Mathlib.Omega.{arith}
 use borrow.Author.Needs.{needs}

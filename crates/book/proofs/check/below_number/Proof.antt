@@ -1,5 +1,6 @@
+-- `book::check::below_number` meets its contract. The loop's invariant stands first. Assumes nothing.
 use Rattle.book.proofs.All.{below-start, all-below, one-above, one-below}
-use Rattle.book.specs.Steps.{allBelow}
+use Rattle.book.specs.Private.{allBelow}
 use mathlib.Core.Bool.{true}
 use mathlib.Core.Path.{_≡_}
 use native.Mathlib.Omega.{arith}

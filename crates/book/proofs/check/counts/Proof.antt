@@ -1,3 +1,4 @@
+-- `book::check::counts` meets its contract. Assumes nothing.
 use mathlib.Core.Path.{refl}
 use native.Mathlib.Omega.{arith}
 use Rattle.book.proofs.Sections.{in-rows, in-operands, in-assumes, in-guarantees, left-over, to-the-last}

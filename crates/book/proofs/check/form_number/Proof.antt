@@ -1,3 +1,4 @@
+-- `book::check::form_number` meets its contract. Assumes nothing.
 use Rattle.book.proofs.Forms.{bad-arg, temporal-form, bounded, bounded-above, plain-form}
 use native.Mathlib.Omega.{arith}
 use borrow.Author.Needs.{needs}

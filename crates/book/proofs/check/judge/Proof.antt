@@ -1,3 +1,4 @@
+-- `book::check::judge` meets its contract. Assumes nothing.
 use Rattle.book.proofs.Judges.{wrong-rows, wrong-links, linked, by-uses}
 use borrow.Author.Needs.{needs}
 use Rattle.book.proofs.check.judge.Statement.{statement}

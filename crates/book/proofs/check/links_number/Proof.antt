@@ -1,3 +1,4 @@
+-- `book::check::links_number` meets its contract. Assumes nothing.
 use Rattle.book.proofs.Links.{in-operands, in-assumes, in-guarantees}
 use borrow.Author.Needs.{needs}
 use Rattle.book.proofs.check.links_number.Statement.{statement}

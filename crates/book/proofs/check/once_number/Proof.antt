@@ -1,3 +1,4 @@
+-- `book::check::once_number` meets its contract. The loop's invariant stands first. Assumes nothing.
 use Rattle.book.proofs.Uses.{not-once, once-more}
 use Rattle.book.proofs.All.{all-start, all-pass}
 use Rattle.book.specs.Judging.{allTo}

@@ -1,3 +1,4 @@
+-- `book::check::operands_number` meets its contract. The loop's invariant stands first. Assumes nothing.
 use Rattle.book.proofs.Links.{row-arg, start-none, start-more, too-few, not-below, below, too-many, all-met}
 use Rattle.book.proofs.All.{all-start, all-more}
 use Rattle.book.specs.Placing.{sectionsOf}

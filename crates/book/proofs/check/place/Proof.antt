@@ -1,3 +1,4 @@
+-- `book::check::place` meets its contract. Assumes nothing.
 use Rattle.book.proofs.Judges.{unread, unfit, fit}
 use borrow.Author.Needs.{needs}
 use Rattle.book.proofs.check.place.Statement.{statement}

@@ -1,3 +1,4 @@
+-- `book::check::range_number` meets its contract. Assumes nothing.
 use Rattle.book.proofs.Forms.{upside-down, late, unbounded, far, finite}
 use native.Mathlib.Omega.{arith}
 use Rattle.book.proofs.check.range_number.Statement.{statement}

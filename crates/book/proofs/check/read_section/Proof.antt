@@ -1,3 +1,4 @@
+-- `book::check::read_section` meets its contract. Assumes nothing.
 use Rattle.book.proofs.Sections.{ended, too-many, too-short, enough}
 use native.Mathlib.Nat.{mul-le-mul}
 use native.Mathlib.Omega.{arith}

@@ -1,3 +1,4 @@
+-- `book::check::room_number` meets its contract. Assumes nothing.
 use Rattle.book.proofs.Forms.{no-set, one-left, none-left}
 use native.Mathlib.Omega.{arith}
 use Rattle.book.proofs.check.room_number.Statement.{statement}

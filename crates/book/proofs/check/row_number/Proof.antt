@@ -1,3 +1,4 @@
+-- `book::check::row_number` meets its contract. Assumes nothing.
 use Rattle.book.proofs.Forms.{in-form, in-range, in-room}
 use borrow.Author.Needs.{needs}
 use Rattle.book.proofs.check.row_number.Statement.{statement}

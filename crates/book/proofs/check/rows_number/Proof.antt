@@ -1,3 +1,4 @@
+-- `book::check::rows_number` meets its contract. The loop's invariant stands first. Assumes nothing.
 use Rattle.book.proofs.Rows.{first-start, first-more, first-at, temporals-start, temporals-more}
 use Rattle.book.proofs.Accepted.{temporals-few}
 use Rattle.book.specs.Judging.{temporalsIn, firstTo, rowNumber}

@@ -1,3 +1,4 @@
+-- `book::check::taken_by` meets its contract. Assumes nothing.
 use Rattle.book.proofs.Links.{takes-none, takes-arg}
 use native.Mathlib.Omega.{arith}
 use Rattle.book.proofs.check.taken_by.Statement.{statement}

@@ -1,5 +1,6 @@
+-- `book::check::tally` meets its contract. The loop's invariant stands first. Assumes nothing.
 use Rattle.book.proofs.Uses.{tally-start, tally-room, tally-more, tally-done}
-use Rattle.book.specs.Steps.{Tallied}
+use Rattle.book.specs.Private.{Tallied}
 use lib.ListN.{length, take}
 use native.Mathlib.Omega.{arith}
 use Prim.Native.Nat.{_-_, _≤_}

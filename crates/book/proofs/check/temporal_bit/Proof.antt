@@ -1,3 +1,4 @@
+-- `book::check::temporal_bit` meets its contract. Assumes nothing.
 use borrow.Author.Tests.{lt-leb, le-leb}
 use Rattle.book.proofs.check.temporal_bit.Statement.{statement}
 use Rattle.book.proofs.check.temporal_bit.Tie as tie

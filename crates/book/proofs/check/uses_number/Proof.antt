@@ -1,3 +1,4 @@
+-- `book::check::uses_number` meets its contract. Assumes nothing.
 use Rattle.book.proofs.Uses.{operands-countable, assumes-countable, guarantees-countable, once}
 use borrow.Author.Needs.{needs}
 use Rattle.book.proofs.check.uses_number.Statement.{statement}

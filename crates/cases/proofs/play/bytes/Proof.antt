@@ -1,3 +1,4 @@
+-- `cases::play::bytes` is safe and ends. The loop's invariant stands first. Assumes nothing.
 use Prim.Native.Nat.{_≤_, _-_}
 use lib.ListN.{length}
 use borrow.Author.Needs.{needs}

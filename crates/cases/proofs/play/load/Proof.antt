@@ -1,3 +1,4 @@
+-- `cases::play::load` is safe and ends. Assumes nothing.
 use lib.Seq.{length-take-le}
 use mathlib.Core.Path.{sym}
 use native.Mathlib.Omega.{arith}

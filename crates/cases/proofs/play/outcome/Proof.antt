@@ -1,3 +1,4 @@
+-- `cases::play::outcome` is safe and ends. The loop's invariant stands first. Assumes nothing.
 use Prim.Native.Nat.{_≤_, _-_}
 use borrow.Author.Needs.{needs}
 use Rattle.cases.proofs.play.outcome.Statement.{statement}

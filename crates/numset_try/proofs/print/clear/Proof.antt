@@ -1,3 +1,4 @@
+-- `numset_try::print::clear` is safe and ends. Assumes nothing.
 use Rattle.numset.proofs.Packs.{good-none}
 use native.Mathlib.Omega.{arith}
 use borrow.Author.Needs.{needs}

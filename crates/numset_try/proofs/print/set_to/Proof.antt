@@ -1,3 +1,4 @@
+-- `numset_try::print::set_to` is safe and ends. Assumes nothing.
 use Rattle.numset.proofs.Changes.{set-good}
 use native.Mathlib.Omega.{arith}
 use borrow.Author.Needs.{needs}

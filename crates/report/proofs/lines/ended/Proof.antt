@@ -1,6 +1,7 @@
+-- `report::lines::ended` meets its contract. Assumes nothing.
 use mathlib.Core.Path.{_∙_}
 use Rattle.report.specs.Report.{endLine}
-use Rattle.writer.proofs.Writes.{at-end}
+use Rattle.buffer_writer.proofs.Writes.{at-end}
 use borrow.Author.Needs.{needs}
 use Rattle.report.proofs.lines.ended.Statement.{statement}
 use Rattle.report.proofs.lines.ended.Tie as tie

@@ -1,3 +1,4 @@
+-- `report::lines::last` meets its contract. Assumes nothing.
 use mathlib.Core.Path.{_∙_, sym}
 use Rattle.report.proofs.Lasting.{ending, last-word, last-bad, last-end}
 use borrow.Author.Needs.{needs}

@@ -1,3 +1,4 @@
+-- `report::lines::put_book` meets its contract. Assumes nothing.
 use Rattle.report.specs.Report.{bookLine}
 use borrow.Author.Needs.{needs}
 use Rattle.report.proofs.lines.put_book.Statement.{statement}

@@ -1,3 +1,4 @@
+-- `report::lines::put_call` meets its contract. Assumes nothing.
 use Rattle.report.proofs.Lasting.{line-accepted, line-refused}
 use borrow.Author.Needs.{needs}
 use Rattle.report.proofs.lines.put_call.Statement.{statement}

@@ -1,4 +1,5 @@
-use Rattle.writer.proofs.Writes.{and-then}
+-- `report::lines::put_numbers` meets its contract. Assumes nothing.
+use Rattle.buffer_writer.proofs.Writes.{and-then}
 use borrow.Author.Needs.{needs}
 use Rattle.report.proofs.lines.put_numbers.Statement.{statement}
 use Rattle.report.proofs.lines.put_numbers.Tie as tie

@@ -1,3 +1,4 @@
+-- `report::lines::put_stop` meets its contract. Assumes nothing.
 use Rattle.report.specs.Report.{stopLine}
 use borrow.Author.Needs.{needs}
 use Rattle.report.proofs.lines.put_stop.Statement.{statement}

@@ -1,7 +1,7 @@
 -- `report::lines::put_word` meets its contract. Assumes nothing.
 use borrow.Author.Needs.{needs}
-use Rattle.writer.proofs.Writes.{same-bytes}
-use Rattle.report.specs.Steps.{digitWord}
+use Rattle.buffer_writer.proofs.Writes.{same-bytes}
+use Rattle.report.specs.Private.{digitWord}
 use Rattle.report.proofs.lines.put_word.Statement.{statement}
 use Rattle.report.proofs.lines.put_word.Tie as tie
 

@@ -1,5 +1,6 @@
+-- `report::lines::stopped` meets its contract. Assumes nothing.
 use mathlib.Core.Path.{_∙_}
-use Rattle.writer.proofs.Writes.{at-end}
+use Rattle.buffer_writer.proofs.Writes.{at-end}
 use borrow.Author.Needs.{needs}
 use Rattle.report.proofs.lines.stopped.Statement.{statement}
 use Rattle.report.proofs.lines.stopped.Tie as tie

@@ -1,3 +1,4 @@
+-- `text::decimals::decimal` meets its contract. Assumes nothing.
 use mathlib.Core.Path.{refl}
 use Rattle.text.proofs.Digits.{part, ends-there}
 use borrow.Author.Needs.{needs}

@@ -1,3 +1,4 @@
+-- `text::decimals::places` meets its contract. The loop's invariant stands first. Assumes nothing.
 use native.Mathlib.Omega.{arith}
 use Rattle.text.proofs.Digits.{Counting, count-start, count-more, count-done}
 use borrow.Author.Needs.{needs}

@@ -1,3 +1,4 @@
+-- `text::decimals::too_few` meets its contract. Assumes nothing.
 use Rattle.text.proofs.Digits.{plenty}
 use native.Mathlib.Omega.{arith}
 use borrow.Author.Needs.{needs}

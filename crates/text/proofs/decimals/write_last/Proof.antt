@@ -1,3 +1,4 @@
+-- `text::decimals::write_last` meets its contract. The loop's invariant stands first. Assumes nothing.
 use Rattle.text.proofs.Digits.{Spelling, spell-start, spell-room, spell-more, spell-done, no-room}
 use borrow.Author.Tests.{ltb-true, ltb-false}
 use mathlib.Core.Path.{refl, sym, _∙_}

@@ -1,3 +1,4 @@
+-- `text::words::kind` meets its contract. Assumes nothing.
 use Rattle.text.proofs.Letters.{kind-over, kind-under, kind-above, kind-digit}
 use mathlib.Core.Path.{sym, _∙_}
 use borrow.Author.Needs.{needs}

@@ -1,3 +1,4 @@
+-- `text::words::kind_at` meets its contract. Assumes nothing.
 use Rattle.text.proofs.Letters.{kind-in, kind-end}
 use mathlib.Core.Path.{_∙_}
 use borrow.Author.Needs.{needs}

@@ -1,3 +1,4 @@
+-- `text::words::next_word` meets its contract. The loop's invariant stands first. Assumes nothing.
 use Rattle.text.proofs.Letters.{next-end, next-more, next-here}
 use Rattle.text.specs.Words.{nextWord}
 use lib.ListN.{length}

@@ -1,3 +1,4 @@
+-- `text::words::parts` meets its contract. Assumes nothing.
 use Rattle.text.specs.Words.{parts}
 use borrow.Author.Tests.{eq-eqb, ne-eqb}
 use Rattle.text.proofs.words.parts.Statement.{statement}

@@ -1,6 +1,7 @@
+-- `text::words::word_here` meets its contract. The loop's invariant stands first. Assumes nothing.
 use Rattle.text.proofs.Letters.{Going, start, within, more, fits, passes, too-big, bad-letter, is-word}
-use Rattle.text.specs.Kinds.{kindAt}
-use Rattle.text.specs.Words.{MAX}
+use Rattle.text.specs.Private.{kindAt}
+use Rattle.numbers.specs.Limits.{MAX}
 use lib.ListN.{length, drop}
 use mathlib.Core.Path.{_≡_}
 use Prim.Native.Nat.{_-_, _≤_}

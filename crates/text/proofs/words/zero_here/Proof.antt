@@ -1,3 +1,4 @@
+-- `text::words::zero_here` meets its contract. Assumes nothing.
 use Rattle.text.proofs.Letters.{is-zero, zero-first}
 use mathlib.Core.Path.{sym, _∙_}
 use borrow.Author.Needs.{needs}

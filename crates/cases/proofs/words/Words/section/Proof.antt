@@ -1,3 +1,4 @@
+-- `cases::words::Words::section` is safe and ends. The loop's invariant stands first. Assumes nothing.
 use Rattle.cases.specs.Held.{Held}
 use Prim.Native.Nat.{_≤_, _-_}
 use lib.ListN.{length}

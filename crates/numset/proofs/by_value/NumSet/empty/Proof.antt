@@ -1,3 +1,4 @@
+-- `numset::by_value::NumSet::empty` meets its contract. Assumes nothing.
 use lib.Dec.{lit<}
 use Rattle.numset.proofs.Packs.{zeros-pack}
 use Rattle.numset.proofs.by_value.NumSet.empty.Statement.{statement}

@@ -1,3 +1,4 @@
+-- `numset::by_value::NumSet::from_interval` meets its contract. Assumes nothing.
 use mathlib.Core.Path.{_∙_}
 use lib.Dec.{lit<, lit≤}
 use lib.ListN.{replicate}

@@ -1,0 +1,64 @@
+-- `verdicts_try::show_all` meets its contract. Assumes nothing.
+use borrow.Author.Needs.{needs}
+use Prim.Native.Nat.{_-_, _≤_}
+use mathlib.Core.Path.{_≡_}
+use mathlib.Core.List.{[], _∷_}
+use Rattle.answers_try.proofs.show_all.Statement.{statement}
+use Rattle.answers_try.proofs.show_all.Tie as tie
+
+abbrev Inv-loop : tie.InvT-loop
+Inv-loop monitor count i₀ t5 i = (i ≤ count) × (t5 ≡ 10 ∷ [])
+
+abbrev μ-loop : tie.MeasureT-loop
+μ-loop monitor count i₀ t5 i = count - i
+
+all-requires : tie.Need-all-requires Inv-loop μ-loop
+all-requires c κs = search needs
+
+show-requires : tie.Need-show-requires Inv-loop μ-loop
+show-requires c κs = search needs
+
+loop-holds : tie.Need-loop-holds Inv-loop μ-loop
+loop-holds c = search needs
+
+of-property-requires : tie.Need-of-property-requires Inv-loop μ-loop
+of-property-requires c κs = search needs
+
+show-verdict-requires : tie.Need-show-verdict-requires Inv-loop μ-loop
+show-verdict-requires c κs = search needs
+
+add-i : tie.Need-add-i Inv-loop μ-loop
+add-i c = search needs
+
+loop-less : tie.Need-loop-less Inv-loop μ-loop
+loop-less c = search needs
+
+loop-again : tie.Need-loop-again Inv-loop μ-loop
+loop-again c = search needs
+
+slice-aggregate-write-all : tie.Need-slice-aggregate-write-all Inv-loop μ-loop
+slice-aggregate-write-all c = search needs
+
+write-all-requires : tie.Need-write-all-requires Inv-loop μ-loop
+write-all-requires c κs = search needs
+
+returns : tie.Need-returns Inv-loop μ-loop
+returns c = search needs
+
+pub show-all-spec : {M : Type 1} → statement M
+show-all-spec =
+    tie.close
+    (tie.spec
+    Inv-loop
+    μ-loop
+    all-requires
+    show-requires
+    loop-holds
+    of-property-requires
+    show-verdict-requires
+    add-i
+    loop-less
+    loop-again
+    slice-aggregate-write-all
+    write-all-requires
+    returns)

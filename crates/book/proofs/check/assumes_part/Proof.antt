@@ -1,0 +1,43 @@
+-- `book::check::assumes_part` meets its contract. Assumes nothing.
+use Prim.Native.Nat.{_+_, _*_}
+use native.Mathlib.Omega.{arith}
+use Rattle.book.proofs.Sections.{assumes-at}
+use borrow.Author.Needs.{needs}
+use Rattle.book.proofs.check.assumes_part.Statement.{statement}
+use Rattle.book.proofs.check.assumes_part.Tie as tie
+
+mul-operands-at : tie.Need-mul-operands-at
+mul-operands-at c = search needs
+
+add-operands-at : tie.Need-add-operands-at
+add-operands-at c = search needs
+
+add-operands-at-2 : tie.Need-add-operands-at-2
+add-operands-at-2 c = search needs
+
+add-at : tie.Need-add-at
+add-at c = search needs
+
+add-at-2 : tie.Need-add-at-2
+add-at-2 c = search needs
+
+part-of-requires : tie.Need-part-of-requires
+part-of-requires c κs = search needs
+
+returns : tie.Need-returns
+returns c =
+    let s = c .before .before .before .before in
+    let a = s .args .places in
+    assumes-at _ _ _ _ _ (1 + 4 * a .rows + 1 + a .operands + 1) (c .part-of .ensures) (omega (arith, s .pre .long))
+
+pub assumes-part-spec : {M : Type 1} → statement M
+assumes-part-spec =
+    tie.close
+    (tie.spec
+    mul-operands-at
+    add-operands-at
+    add-operands-at-2
+    add-at
+    add-at-2
+    part-of-requires
+    returns)

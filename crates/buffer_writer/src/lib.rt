@@ -1,0 +1,80 @@
+// A report, written from its start into a lent buffer.
+ghost use mathlib.Core.Path.{_≡_};
+ghost use mathlib.Core.List.{[]};
+ghost use Prim.Native.Nat.{_+_, _≤_};
+ghost use lib.ListN.{length, replicate};
+ghost use lib.Seq.{sets};
+ghost use Rattle.text.specs.Decimals.{decimal as Decimals·decimal};
+ghost use Rattle.buffer_writer.specs.Buffer.{handed};
+ghost use Rattle.buffer_writer.specs.Finish.{finish, Wrote};
+use numbers::MAX;
+
+// The place of a report that does not fit. The number for it is MAX, too.
+const FULL: usize = MAX as usize;
+
+// No number of 64 bits has more digits.
+const MOST_DIGITS: usize = 20;
+
+// The first number of two digits, and the byte of the digit 0.
+const TEN: u64 = 10;
+
+const ZERO: u8 = b'0';
+
+fn copy_to(out: &mut [u8], at: usize, bytes: &[u8])
+    requires { ⌜ at + length (now bytes) ≤ length (now out) ⌝ }
+    ensures { λ _. ⌜ now (out .exit) ≡ sets (now (out .entry)) at (now (bytes .entry)) ⌝ }
+{
+    let mut i = 0;
+    while i < bytes.len() {
+        out[at + i] = bytes[i];
+        i += 1;
+    }
+}
+
+// Writes bytes at a place, and answers with the place after them.
+pub fn put_bytes(out: &mut [u8], at: usize, bytes: &[u8]) -> usize
+    ensures { λ r. ⌜ Wrote (now (out .entry)) at (now (bytes .entry)) (now (out .exit)) r ⌝ }
+{
+    if out.len() < at {
+        return FULL;
+    }
+    if out.len() - at < bytes.len() {
+        return FULL;
+    }
+    copy_to(out, at, bytes);
+    at + bytes.len()
+}
+
+// Writes the digits of a number. A number of one digit needs no scratch.
+pub fn put_number(out: &mut [u8], at: usize, n: u64) -> usize
+    ensures { λ r. ⌜ Wrote (now (out .entry)) at (Decimals·decimal n) (now (out .exit)) r ⌝ }
+{
+    if n < TEN {
+        let digit = [ZERO + n as u8];
+        return put_bytes(out, at, &digit);
+    }
+    let mut scratch = [0u8; MOST_DIGITS];
+    let digits = text::decimal(n, &mut scratch);
+    put_bytes(out, at, digits)
+}
+
+fn clear(out: &mut [u8])
+    ensures { λ _. ⌜ now (out .exit) ≡ replicate (length (now (out .entry))) 0 ⌝ }
+{
+    let mut i = 0;
+    while i < out.len() {
+        out[i] = 0;
+        i += 1;
+    }
+}
+
+// The end of a report: its length, or zeros and MAX where it does not fit.
+pub fn finished(out: &mut [u8], at: usize) -> u64
+    ensures { λ r. ⌜ handed r (now (out .exit)) ≡ finish (now (out .entry)) at [] ⌝ }
+{
+    if out.len() < at {
+        clear(out);
+        return MAX;
+    }
+    at as u64
+}

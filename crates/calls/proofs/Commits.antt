@@ -1,0 +1,153 @@
+-- The sets changed in place, one by one. Assumes nothing.
+use Prim.Native.Nat.{ℕ, _+_, _*_, _-_, _≤_, _<_}
+use mathlib.Core.Path.{_≡_, refl, sym, ap, ap₂, _∙_}
+use mathlib.Core.Logic.{⊎-elim}
+use mathlib.Core.Bool.{true}
+use mathlib.Core.List.{List, _++_}
+use native.Mathlib.Omega.{arith}
+use lib.ListN.{length, getD, take, drop, List·getD-append}
+use lib.Seq.{getD-append-add, getD-take, getD-drop, length-take-le, take-at, drop-at}
+use borrow.Author.Tests.{ltb-true}
+use borrow.Rule.Slice.PartMut.{putMid, put-same, same-len-mid}
+use Rattle.numset.specs.Runs.{Runs, runs, Good, fits, pack}
+use Rattle.lists.proofs.Tests.{lt-or-ge}
+use Rattle.numset.proofs.Packs.{length-pack, packed}
+use Rattle.pmtl.specs.Book.{Range, start, stop}
+use Rattle.memory.specs.Layout.{ROWS, ROW, OWNERS, SET, SIZE}
+use Rattle.lists.specs.Lists.{part}
+use Rattle.memory.specs.Memory.{temporals, lowerAt, upperAt, ownerAt, setStart, slotWords, rangeAt}
+use Rattle.lists.proofs.Parts.{word-at, part-length, part-same}
+use Rattle.set_change.specs.Change.{changed}
+use Rattle.set_change.proofs.Changes.{changed-0}
+use Rattle.calls.specs.Private.{setAfter, Roomy, Fit, Fitting, Written}
+
+-- ---- a part of a memory put anew
+module _ (b k : ℕ) (xs ys : List ℕ) (hb : b + k ≤ length xs) (hk : length ys ≡ k) where
+  put-length : length (putMid b k xs ys) ≡ length xs
+  put-length = same-len-mid b k xs ys (hk ∙ sym (part-length b k xs hb))
+
+  front : length (take b xs) ≡ b
+  front = length-take-le b xs (omega arith)
+
+  put-below : (i : ℕ) → i < b → getD (putMid b k xs ys) i 0 ≡ getD xs i 0
+  put-below i h = List·getD-append (take b xs) (ys ++ drop k (drop b xs)) 0 i (rw front h) ∙ getD-take b xs i 0 h
+
+  put-above : (i : ℕ) → b + k ≤ i → getD (putMid b k xs ys) i 0 ≡ getD xs i 0
+  put-above i h =
+      let d : ℕ = i - (b + k) in
+      let e : List ℕ = drop k (drop b xs) in
+      word-at (putMid b k xs ys) i (b + (k + d)) (omega arith)
+      ∙ (rw front at (getD-append-add (take b xs) (ys ++ e) (k + d) 0))
+      ∙ (rw hk at (getD-append-add ys e d 0))
+      ∙ getD-drop k (drop b xs) d 0 ∙ getD-drop b xs (k + d) 0
+      ∙ word-at xs (b + (k + d)) i (omega arith)
+
+  put-here : part b k (putMid b k xs ys) ≡ ys
+  put-here = ap (take k) (drop-at (take b xs) _ b front) ∙ take-at ys _ k hk
+
+  put-under : (a n : ℕ) → a + n ≤ b → part a n (putMid b k xs ys) ≡ part a n xs
+  put-under a n h = part-same a n xs (putMid b k xs ys) (omega arith) put-length (λ i lt. put-below (a + i) (omega arith))
+
+  put-over : (a n : ℕ) → b + k ≤ a → a + n ≤ length xs → part a n (putMid b k xs ys) ≡ part a n xs
+  put-over a n h l = part-same a n xs (putMid b k xs ys) l put-length (λ i lt. put-above (a + i) (omega arith))
+
+-- from a up to e, which is a set's words on
+pub put-as : (a e : ℕ) (m : List ℕ) {ys zs : List ℕ} → e ≡ a + SET → ys ≡ zs → putMid a (e - a) m ys ≡ putMid a SET m zs
+put-as a e m h q = let d : e - a ≡ SET = omega arith in ap₂ (λ (k : ℕ) (x : List ℕ). putMid a k m x) d q
+
+-- ---- one set
+pub set-long : (m : List ℕ) (j : ℕ) → length m ≡ SIZE → j < 32 → length (slotWords m j) ≡ SET
+set-long m j e h = part-length (setStart j) SET m (omega arith)
+
+pub room-is : (s : Runs) → fits SET s ≡ true → 2 * length s < SET
+room-is s e = ltb-true (2 * length s) SET e
+
+module _ {m : List ℕ} {mode s t j : ℕ} (f : Roomy m mode s t j) {p : List ℕ} (e : p ≡ slotWords m j) where
+  set-size : length (slotWords m j) ≡ SET
+  set-size = set-long m j (f .long) (f .inside)
+
+  pub roomy-good : Good p
+  roomy-good = rw e (f .good)
+
+  pub roomy-room : fits (length p) (changed mode s t (runs p)) ≡ true
+  roomy-room = rw (e, set-size) (f .room)
+
+  pub roomy-done : {ys : List ℕ} → ys ≡ pack (length p) (changed mode s t (runs p)) → ys ≡ pack SET (changed mode s t (runs (slotWords m j)))
+  roomy-done h = h ∙ rw (e, set-size)
+
+module _ {m : List ℕ} {c mode j : ℕ} (f : Fit m c mode j) where
+  long : length (slotWords m j) ≡ SET
+  long = set-long m j (f .bounded .long) (f .inside)
+
+  pub commit-none : mode ≡ 0 → m ≡ putMid (setStart j) SET m (pack SET (setAfter m c mode j))
+  commit-none e =
+      let g : Range = rangeAt m (ownerAt m j) in
+      let p : slotWords m j ≡ pack SET (runs (slotWords m j)) = packed (slotWords m j) (f .good) ∙ ap (λ (k : ℕ). pack k (runs (slotWords m j))) long in
+      sym (ap (λ (s : Runs). putMid (setStart j) SET m (pack SET s)) (changed-0 (start g c) (stop g c) (runs (slotWords m j)) mode e) ∙ ap (putMid (setStart j) SET m) (sym p) ∙ put-same (setStart j) SET m)
+
+  module _ {s t : ℕ} (es : s ≡ start (rangeAt m (ownerAt m j)) c) (et : t ≡ stop (rangeAt m (ownerAt m j)) c) where
+    pub fit-roomy : Roomy m mode s t j
+    fit-roomy = record { long = f .bounded .long; inside = f .inside; good = f .good; room = rw (es, et) (f .room) }
+
+    pub fit-done : {m′ : List ℕ} → m′ ≡ putMid (setStart j) SET m (pack SET (changed mode s t (runs (slotWords m j)))) → m′ ≡ putMid (setStart j) SET m (pack SET (setAfter m c mode j))
+    fit-done h = h ∙ rw (es, et)
+
+-- ---- one after the other
+pub written-start : (m : List ℕ) (f : ℕ → Runs) → length m ≡ SIZE → Written m f 0 m
+written-start m f e = record { long = e; below = λ i h. refl; new = λ j h. absurd (omega arith); old = λ j h l. refl }
+
+written-more : {m m₁ m₂ : List ℕ} {f : ℕ → Runs} {n : ℕ} → Written m f n m₁ → n < 32 → 2 * length (f n) < SET → m₂ ≡ putMid (setStart n) SET m₁ (pack SET (f n)) → Written m f (n + 1) m₂
+written-more {m} {m₁} {m₂} {f} {n} w h fit e =
+    let hb : setStart n + SET ≤ length m₁ = let l = w .long in omega arith in
+    let hk : length (pack SET (f n)) ≡ SET = length-pack SET (f n) fit in
+    let l = w .long in
+    rw e
+    (record {
+      long = put-length (setStart n) SET m₁ (pack SET (f n)) hb hk ∙ w .long;
+      below = λ i lt. put-below (setStart n) SET m₁ (pack SET (f n)) hb hk i (omega arith) ∙ w .below i lt;
+      new = λ j lt.
+          ⊎-elim
+          (λ (p : j < n). put-under (setStart n) SET m₁ (pack SET (f n)) hb hk (setStart j) SET (omega arith) ∙ w .new j p)
+          (λ (p : n ≤ j). let d : j ≡ n = omega arith in rw d (put-here (setStart n) SET m₁ (pack SET (f n)) hb hk)) (lt-or-ge j n);
+      old = λ j le lt. put-over (setStart n) SET m₁ (pack SET (f n)) hb hk (setStart j) SET (omega arith) (omega arith) ∙ w .old j (omega arith) lt;
+    })
+
+module _ {m : List ℕ} {c : ℕ} {modes : List ℕ} (fitting : Fitting m c modes) {n : ℕ} (h : n < temporals m) {m₁ : List ℕ} (w : Written m (λ j. setAfter m c (getD modes j 0) j) n m₁) where
+  under : n < 32
+  under = omega (arith, fitting .timely .kept .book .temporal-few)
+
+  owner-same : ownerAt m₁ n ≡ ownerAt m n
+  owner-same = let u = under in w .below (OWNERS + n) (omega arith)
+
+  owner-small : ownerAt m n < 128
+  owner-small = let b = fitting .timely .kept .book in omega (arith, b .few, b .owned n h)
+
+  lower-same : lowerAt m₁ (ownerAt m n) ≡ lowerAt m (ownerAt m n)
+  lower-same = let u = owner-small in w .below (ROWS + ROW * ownerAt m n + 2) (omega arith)
+
+  upper-same : upperAt m₁ (ownerAt m n) ≡ upperAt m (ownerAt m n)
+  upper-same = let u = owner-small in w .below (ROWS + ROW * ownerAt m n + 3) (omega arith)
+
+  range-same : rangeAt m₁ (ownerAt m₁ n) ≡ rangeAt m (ownerAt m n)
+  range-same = ap (rangeAt m₁) owner-same ∙ ap₂ (λ (l u : ℕ). record { lower = l; upper = u }) lower-same upper-same
+
+  set-same : slotWords m₁ n ≡ slotWords m n
+  set-same = w .old n (omega arith) under
+
+  after-same : (mode : ℕ) → setAfter m₁ c mode n ≡ setAfter m c mode n
+  after-same mode = ap₂ (λ (g : Range) (s : Runs). changed mode (start g c) (stop g c) s) range-same (ap runs set-same)
+
+  pub commit-fit : Fit m₁ c (getD modes n 0) n
+  commit-fit =
+      let t = fitting .timely in
+      let row = t .kept .book .rows (ownerAt m n) (t .kept .book .owned n h) in
+      record {
+        inside = under;
+        bounded = rw owner-same (record { long = w .long; inside = owner-small; clock = t .clock; lower = rw lower-same (row .lower); upper = rw upper-same (row .upper) });
+        good = rw set-same (t .kept .sets n under);
+        room = ap (fits SET) (after-same (getD modes n 0)) ∙ fitting .room n h;
+      }
+
+  pub commit-more : {m₂ : List ℕ} → m₂ ≡ putMid (setStart n) SET m₁ (pack SET (setAfter m₁ c (getD modes n 0) n)) → Written m (λ j. setAfter m c (getD modes j 0) j) (n + 1) m₂
+  commit-more e =
+      written-more w under (room-is (setAfter m c (getD modes n 0) n) (fitting .room n h)) (e ∙ ap (λ (s : Runs). putMid (setStart n) SET m₁ (pack SET s)) (after-same (getD modes n 0)))

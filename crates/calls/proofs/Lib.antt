@@ -1,0 +1,7 @@
+pub mod Rules
+pub mod Modes
+pub mod Commits
+pub mod Plans
+pub mod Heads
+pub mod Advances
+pub mod Public

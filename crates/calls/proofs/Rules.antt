@@ -1,0 +1,82 @@
+-- The definitions' rules at the rows of a memory: values by bytes and facts, and the change of a temporal row's set. Assumes nothing.
+use Prim.Native.Nat.{ℕ, zero, suc, _-_, _≤_, _<_}
+use mathlib.Core.Path.{_≡_, refl, sym, ap, _∙_, subst⁻¹}
+use mathlib.Core.Bool.{Bool, false}
+use mathlib.Core.List.{List, []}
+use native.Mathlib.Omega.{arith}
+use lib.ListN.{getD, take, drop, List·getD-map}
+use lib.Seq.{getD-take}
+use borrow.Author.Tests.{le-leb, lt-leb}
+use Rattle.numset.specs.Runs.{Runs, runs, has}
+use Rattle.pmtl.specs.Book.{start, stop, mapRow}
+use Rattle.pmtl.specs.Sets.{setRule}
+use Rattle.pmtl.specs.Monitor.{Snap, State, setAt, value}
+use Rattle.memory.specs.Memory.{rowCount, widthWord, kindAt, argAt, lowerAt, upperAt, startAt, slotAt, operandsOf, slotWords, rowOf, rowsOf, setOf, stateOf, isOne, rangeAt}
+use Rattle.book.specs.Rows.{rowFrom}
+use Rattle.memory.specs.Kept.{BookKept}
+use Rattle.row_answers.specs.Facts.{hereIn, outputOf}
+use Rattle.lists.proofs.Listed.{listed-at}
+use Rattle.row_answers.proofs.Facts.{facts-value}
+use Rattle.set_change.specs.Change.{changed, modeIn}
+use Rattle.set_change.proofs.Changes.{set-historically, set-once, set-since}
+use Rattle.calls.specs.Private.{snapOf}
+
+-- ---- values
+-- what the code finds by bytes and facts, where the facts are right for the temporal rows up to o
+pub value-right : (m : List ℕ) → BookKept m → (st : State) {c : ℕ} (atoms : List ℕ) → st .now ≡ snapOf c atoms (widthWord m) → (facts : List ℕ) (o : ℕ)
+    → ((q : ℕ) → q ≤ o → q < rowCount m → 7 ≤ kindAt m q → hereIn facts q ≡ has (setAt st q) c) → outputOf m atoms facts o ≡ value (rowsOf m) st o
+value-right m kept st {c} atoms en facts o right =
+    let w : ℕ = widthWord m in
+    facts-value m st facts o atoms
+    (λ a h.
+    let l : a < w = omega (arith, kept .width) in
+    ap isOne (sym (getD-take w atoms a 0 l)) ∙ sym (List·getD-map isOne (take w atoms) a 0) ∙ ap (λ (s : Snap). getD (s .atoms) a false) (sym en))
+    (λ q l h k. right q l h k ∙ ap (λ (s : Snap). has (setAt st q) (s .clock)) (sym en))
+
+-- ---- sets
+-- a row that is not temporal has none
+no-set-from : (c : ℕ) (s : Runs) (f : ℕ → Bool) (kind arg lower upper : ℕ) (os : List ℕ) → kind < 7 → setRule c s (mapRow f (rowFrom kind arg lower upper os)) ≡ []
+unfolding rowFrom setRule
+no-set-from c s f zero arg lower upper os h = refl
+no-set-from c s f (suc zero) arg lower upper os h = refl
+no-set-from c s f (suc (suc zero)) arg lower upper os h = refl
+no-set-from c s f (suc (suc (suc zero))) arg lower upper os h = refl
+no-set-from c s f (suc (suc (suc (suc zero)))) arg lower upper os h = refl
+no-set-from c s f (suc (suc (suc (suc (suc zero))))) arg lower upper os h = refl
+no-set-from c s f (suc (suc (suc (suc (suc (suc zero)))))) arg lower upper os h = refl
+no-set-from c s f (suc (suc (suc (suc (suc (suc (suc k))))))) arg lower upper os h = absurd (omega arith)
+
+-- a temporal row's set changes by its mode
+changed-from : (c : ℕ) (s : Runs) (f : ℕ → Bool) (k arg lower upper : ℕ) (os : List ℕ) → k ≤ 2
+    → setRule c s (mapRow f (rowFrom (suc (suc (suc (suc (suc (suc (suc k))))))) arg lower upper os))
+    ≡ changed (modeIn (mapRow f (rowFrom (suc (suc (suc (suc (suc (suc (suc k))))))) arg lower upper os))) (start (record { lower = lower; upper = upper }) c) (stop (record { lower = lower; upper = upper }) c) s
+unfolding rowFrom
+changed-from c s f zero arg lower upper os h = set-historically c s _ _
+changed-from c s f (suc zero) arg lower upper os h = set-once c s _ _
+changed-from c s f (suc (suc zero)) arg lower upper os h = set-since c s _ _ _
+changed-from c s f (suc (suc (suc k))) arg lower upper os h = absurd (omega arith)
+
+module _ (c : ℕ) (s : Runs) (f : ℕ → Bool) (m : List ℕ) (r : ℕ) where
+  pub no-set : kindAt m r < 7 → setRule c s (mapRow f (rowOf m r)) ≡ []
+  unfolding rowOf
+  no-set h = no-set-from c s f (kindAt m r) _ _ _ _ h
+
+  pub changed-set : 7 ≤ kindAt m r → kindAt m r ≤ 9 → setRule c s (mapRow f (rowOf m r)) ≡ changed (modeIn (mapRow f (rowOf m r))) (start (rangeAt m r) c) (stop (rangeAt m r) c) s
+  unfolding rowOf
+  changed-set h k =
+      let e : kindAt m r ≡ suc (suc (suc (suc (suc (suc (suc (kindAt m r - 7))))))) = omega arith in
+      subst⁻¹ (λ (kind : ℕ). let row = mapRow f (rowFrom kind (argAt m r) (lowerAt m r) (upperAt m r) (drop (startAt m r) (operandsOf m))) in setRule c s row ≡ changed (modeIn row) (start (rangeAt m r) c) (stop (rangeAt m r) c) s) e
+      (changed-from c s f (kindAt m r - 7) _ _ _ _ (omega arith))
+
+-- ---- the sets that a memory holds
+pub set-at : (m : List ℕ) (r : ℕ) → r < rowCount m → setAt (stateOf m) r ≡ setOf m r
+unfolding stateOf
+set-at m r h = listed-at (setOf m) [] (rowCount m) r h
+
+pub set-of-slot : (m : List ℕ) (r : ℕ) → 7 ≤ kindAt m r → setOf m r ≡ runs (slotWords m (slotAt m r))
+unfolding setOf
+set-of-slot m r h = rw (le-leb 7 (kindAt m r) h)
+
+pub set-of-none : (m : List ℕ) (r : ℕ) → kindAt m r < 7 → setOf m r ≡ []
+unfolding setOf
+set-of-none m r h = rw (lt-leb 7 (kindAt m r) h)

@@ -1,0 +1,137 @@
+-- Private steps of the calls: what a call plans, and the words that it then changes. No public contract cites these. Definitions only.
+use Prim.Native.Nat.{ℕ, _+_, _≤_, _<_}
+use mathlib.Core.Path.{_≡_}
+use mathlib.Core.Bool.{Bool, true, false, not}
+use mathlib.Core.List.{List, map}
+use lib.ListN.{length, getD, set, take, replicate}
+use lib.Seq.{paste}
+use Rattle.numbers.specs.Limits.{MAX, LAST-TIME, MOST-ATOMS, MOST-ROWS, MOST-TEMPORALS}
+use Rattle.numset.specs.Runs.{Runs, runs, Good, has, fits, pack}
+use Rattle.pmtl.specs.Book.{start, stop, mapRow}
+use Rattle.pmtl.specs.Answer.{bitOf}
+use Rattle.pmtl.specs.Monitor.{Snap, State, setAt, step}
+use Rattle.pmtl.specs.Calls.{crowded, play}
+use Rattle.memory.specs.Layout.{ATOMS, SETS, SET, SIZE, BEGUN, CLOCK}
+use Rattle.memory.specs.Memory.{rangeAt, begunWord, clockOf, widthWord, temporals, lowerAt, upperAt, ownerAt, slotWords, rowOf, rowsOf, bookOf, stateOf, isOne}
+use Rattle.row_answers.specs.Facts.{hereIn, outputOf}
+use Rattle.memory.specs.Kept.{Kept}
+use Rattle.set_change.specs.Change.{changed, modeIn}
+use Rattle.calls.specs.declared.RowPlan.{RowPlan}
+use Rattle.numbers.specs.Refusals.{ACCEPTED, NO-ROOM}
+
+-- the first so many of a list's bytes, and zeros: the atoms as a call hands them on
+abbrev pub firstBytes : List ℕ → ℕ → List ℕ
+firstBytes bytes width = paste (replicate MOST-ATOMS 0) 0 bytes width
+
+-- bytes that can be a call's atoms
+pub record Bytes (atoms : List ℕ) (width : ℕ) : Type 0 where
+  pub long : length atoms ≡ MOST-ATOMS
+  pub bits : (i : ℕ) → i < width → getD atoms i 0 ≤ 1
+
+-- the clock and atoms that a call leaves, and the state
+abbrev pub snapOf : ℕ → List ℕ → ℕ → Snap
+snapOf c atoms width = record { clock = c; atoms = map isOne (take width atoms) }
+
+abbrev pub stepOf : List ℕ → ℕ → List ℕ → State
+stepOf m c atoms = step (rowsOf m) (stateOf m) (snapOf c atoms (widthWord m))
+
+-- how the set of row r changes, by what facts say of the rows below
+abbrev pub modeAt : List ℕ → List ℕ → List ℕ → ℕ → ℕ
+modeAt m atoms facts r = modeIn (mapRow (outputOf m atoms facts) (rowOf m r))
+
+-- the set of slot j, changed by a mode at clock c
+abbrev pub setAfter : List ℕ → ℕ → ℕ → ℕ → Runs
+setAfter m c mode j = changed mode (start (rangeAt m (ownerAt m j)) c) (stop (rangeAt m (ownerAt m j)) c) (runs (slotWords m j))
+
+-- what is planned for slot j: the mode, whether the set will contain the clock, and whether there is room
+abbrev pub rowPlan : List ℕ → ℕ → ℕ → ℕ → RowPlan
+rowPlan m c mode j = record {
+  mode = mode;
+  here = bitOf (has (setAfter m c mode j) c);
+  room = fits SET (setAfter m c mode j);
+}
+
+-- the plan of a call: whether every set has room, and if so the modes, and of each set whether it will contain the clock
+pub record Planned (m : List ℕ) (c : ℕ) (atoms here : List ℕ) (room : Bool) (modes : List ℕ) : Type 0 where
+  pub fits : crowded (stepOf m c atoms) ≡ not room
+  pub sets : room ≡ true → (j : ℕ) → j < temporals m → setAfter m c (getD modes j 0) j ≡ setAt (stepOf m c atoms) (ownerAt m j)
+  pub here-right : room ≡ true → (j : ℕ) → j < temporals m → hereIn here (ownerAt m j) ≡ has (setAt (stepOf m c atoms) (ownerAt m j)) c
+
+-- m′ is m with the sets of the slots below n as f says
+pub record Written (m : List ℕ) (f : ℕ → Runs) (n : ℕ) (m′ : List ℕ) : Type 0 where
+  pub long : length m′ ≡ SIZE
+  pub below : (i : ℕ) → i < SETS → getD m′ i 0 ≡ getD m i 0
+  pub new : (j : ℕ) → j < n → slotWords m′ j ≡ pack SET (f j)
+  pub old : (j : ℕ) → n ≤ j → j < MOST-TEMPORALS → slotWords m′ j ≡ slotWords m j
+
+-- m′ is m with its first n atoms anew
+pub record Atoms (m atoms : List ℕ) (n : ℕ) (m′ : List ℕ) : Type 0 where
+  pub long : length m′ ≡ SIZE
+  pub new : (i : ℕ) → i < n → getD m′ (ATOMS + i) 0 ≡ getD atoms i 0
+  pub below : (i : ℕ) → i < ATOMS → getD m′ i 0 ≡ getD m i 0
+  pub above : (i : ℕ) → ATOMS + n ≤ i → getD m′ i 0 ≡ getD m i 0
+
+-- m with begun set, and the clock
+abbrev pub clocked : List ℕ → ℕ → List ℕ
+clocked m c = set (set m BEGUN 1) CLOCK c
+
+-- m′ is m after a call at clock c and atoms, with the atoms still those of m; here says which sets contain the clock
+pub record Moved (m : List ℕ) (c : ℕ) (atoms here m′ : List ℕ) : Type 0 where
+  pub long : length m′ ≡ SIZE
+  pub begun : begunWord m′ ≡ 1
+  pub clock : clockOf m′ ≡ c
+  pub below : (i : ℕ) → (i ≡ BEGUN → ⊥) → (i ≡ CLOCK → ⊥) → i < SETS → getD m′ i 0 ≡ getD m i 0
+  pub new : (j : ℕ) → j < temporals m → slotWords m′ j ≡ pack SET (setAt (stepOf m c atoms) (ownerAt m j))
+  pub good : (j : ℕ) → j < temporals m → Good (slotWords m′ j)
+  pub old : (j : ℕ) → temporals m ≤ j → j < MOST-TEMPORALS → slotWords m′ j ≡ slotWords m j
+  pub here-right : (j : ℕ) → j < temporals m → hereIn here (ownerAt m j) ≡ has (setAt (stepOf m c atoms) (ownerAt m j)) c
+
+-- a call tried: every set has room, r is 0 and m is moved to m′; or one lacks it, r is 11 and m′ is m
+pub record Tried (m : List ℕ) (c : ℕ) (atoms here m′ : List ℕ) (r : ℕ) : Type 0 where
+  pub room : crowded (stepOf m c atoms) ≡ false → (r ≡ ACCEPTED) × Moved m c atoms here m′
+  pub full : crowded (stepOf m c atoms) ≡ true → (r ≡ NO-ROOM) × (m′ ≡ m)
+
+-- a row whose range can be counted from clock c: no sum wraps
+pub record Bounded (m : List ℕ) (c r : ℕ) : Type 0 where
+  pub long : length m ≡ SIZE
+  pub inside : r < MOST-ROWS
+  pub clock : c ≤ LAST-TIME
+  pub lower : lowerAt m r ≤ LAST-TIME
+  pub upper : (upperAt m r ≡ MAX → ⊥) → upperAt m r ≤ LAST-TIME
+
+-- a kept memory and a clock that a call may set
+pub record Timely (m : List ℕ) (c : ℕ) : Type 0 where
+  pub kept : Kept m
+  pub clock : c ≤ LAST-TIME
+
+-- a slot in use and its owner
+pub record Slot (m : List ℕ) (c j r : ℕ) : Type 0 where
+  pub timely : Timely m c
+  pub inside : j < temporals m
+  pub owner : r ≡ ownerAt m j
+
+-- words whose set of slot j has room for a change by a start and a stop
+pub record Roomy (m : List ℕ) (mode s t j : ℕ) : Type 0 where
+  pub long : length m ≡ SIZE
+  pub inside : j < MOST-TEMPORALS
+  pub good : Good (slotWords m j)
+  pub room : fits SET (changed mode s t (runs (slotWords m j))) ≡ true
+
+-- a slot whose set has room for a change, and modes that every set has room for
+pub record Fit (m : List ℕ) (c mode j : ℕ) : Type 0 where
+  pub inside : j < MOST-TEMPORALS
+  pub bounded : Bounded m c (ownerAt m j)
+  pub good : Good (slotWords m j)
+  pub room : fits SET (setAfter m c mode j) ≡ true
+
+pub record Fitting (m : List ℕ) (c : ℕ) (modes : List ℕ) : Type 0 where
+  pub timely : Timely m c
+  pub room : (j : ℕ) → j < temporals m → fits SET (setAfter m c (getD modes j 0) j) ≡ true
+
+-- what a call leaves that is not refused for itself: the snapshots played, the newest state or the old one
+pub record Advanced (m : List ℕ) (ns : List Snap) (m′ : List ℕ) (r : ℕ) : Type 0 where
+  pub number : r ≡ play (rowsOf m) (stateOf m) (stateOf m) ns .number
+  pub state : stateOf m′ ≡ play (rowsOf m) (stateOf m) (stateOf m) ns .state
+  pub book : bookOf m′ ≡ bookOf m
+  pub refused : (r ≡ 0 → ⊥) → m′ ≡ m
+  pub kept : Kept m′

@@ -1,0 +1,5 @@
+pub mod Tests
+pub mod Listed
+pub mod Parts
+pub mod Pastes
+pub mod Filled

@@ -1,0 +1,15 @@
+-- What loading owes: the number, and the monitor that the memory then holds, by the definitions of 01. Definitions only.
+use Prim.Native.Nat.{ℕ}
+use mathlib.Core.Path.{_≡_}
+use mathlib.Core.List.{List}
+use Rattle.pmtl.specs.Monitor.{initial}
+use Rattle.memory.specs.Memory.{bookOf, stateOf}
+use Rattle.book.specs.Judging.{loaded}
+use Rattle.memory.specs.Kept.{Kept}
+
+-- words were loaded: r was handed back, and the memory m holds the book and a fresh monitor; a refused book gives an empty one
+pub record Loads (words m : List ℕ) (r : ℕ) : Type 0 where
+  pub number : r ≡ loaded words .number
+  pub book : bookOf m ≡ loaded words .book
+  pub state : stateOf m ≡ initial (loaded words .book .rows)
+  pub kept : Kept m

@@ -1,0 +1,82 @@
+-- Steps of the private functions: the memory that a book's words are put into, part by part. No public contract cites these. Definitions only.
+use Prim.Native.Nat.{ℕ, zero, suc, _+_, _*_, _/_, _≤_, _<_, max}
+use mathlib.Core.Path.{_≡_}
+use mathlib.Core.Bool.{true, cond}
+use mathlib.Core.List.{List, [], _∷_}
+use lib.ListN.{length, set, replicate}
+use lib.Seq.{paste}
+use lib.Dec.{eqb}
+use Rattle.pmtl.specs.Monitor.{initial}
+use Rattle.memory.specs.Layout.{ROWS, ROW, OPERANDS, PROPERTIES, OWNERS, SIZE, ASSUMES, GUARANTEES, ROW-COUNT, TEMPORALS, WIDTH}
+use Rattle.book.specs.Rows.{temporal, ATOM}
+use Rattle.lists.specs.Lists.{put}
+use Rattle.memory.specs.Memory.{bookOf, stateOf}
+use Rattle.numbers.specs.Limits.{ROW-WORDS, MOST-OPERANDS, MOST-ROWS, MOST-TEMPORALS}
+use Rattle.book.specs.Reading.{Sections}
+use Rattle.book.specs.Judging.{kindIn, argIn, lowerIn, upperIn, rowsIn, temporalsIn, startIn, argGood, judged, bookIn}
+use Rattle.book.specs.Private.{Few}
+use Rattle.memory.specs.Kept.{Kept}
+use Rattle.numbers.specs.Refusals.{ACCEPTED}
+
+-- the largest atom of the first n rows plus 1; 0 if there is no atom
+abbrev pub reach : ℕ → ℕ → ℕ
+reach kind arg = cond (eqb kind ATOM) (arg + 1) 0
+
+unfoldable pub widthIn : List ℕ → ℕ → ℕ
+widthIn ws zero = 0
+widthIn ws (suc n) = max (widthIn ws n) (reach (kindIn ws n) (argIn ws n))
+
+-- the six words of row r, and the set of row r
+abbrev pub wordsWith : List ℕ → ℕ → ℕ → ℕ → List ℕ
+wordsWith ws r start slot = kindIn ws r ∷ argIn ws r ∷ lowerIn ws r ∷ upperIn ws r ∷ start ∷ slot ∷ []
+
+unfoldable pub slotIn : List ℕ → ℕ → ℕ
+slotIn ws r = cond (temporal (kindIn ws r)) (temporalsIn ws r) 0
+
+abbrev pub rowWords : List ℕ → ℕ → List ℕ
+rowWords ws r = wordsWith ws r (startIn ws r) (slotIn ws r)
+
+-- row r as the owner of its set
+unfoldable pub ownerPut : List ℕ → List ℕ → ℕ → List ℕ
+ownerPut ws m r = cond (temporal (kindIn ws r)) (set m (OWNERS + temporalsIn ws r) r) m
+
+abbrev pub rowPut : List ℕ → List ℕ → ℕ → List ℕ
+rowPut ws m r = ownerPut ws (paste m (ROWS + ROW * r) (rowWords ws r) ROW) r
+
+-- the first n rows
+unfoldable pub rowsPut : List ℕ → List ℕ → ℕ → List ℕ
+rowsPut ws m zero = m
+rowsPut ws m (suc r) = rowPut ws (rowsPut ws m r) r
+
+-- the words before the rows
+abbrev pub headPut : List ℕ → ℕ → ℕ → ℕ → ℕ → ℕ → List ℕ
+headPut m rows width temporals assumes guarantees = set (set (set (set (set m ROW-COUNT rows) WIDTH width) TEMPORALS temporals) ASSUMES assumes) GUARANTEES guarantees
+
+-- operands and properties in a memory of zeros
+abbrev pub linksPut : Sections → List ℕ
+linksPut s =
+    put (put (put (replicate SIZE 0) OPERANDS (s .operands)) PROPERTIES (s .assumes)) (PROPERTIES + length (s .assumes)) (s .guarantees)
+
+-- the memory of an accepted book
+unfoldable pub stored : Sections → List ℕ
+stored s =
+    headPut (rowsPut (s .rows) (linksPut s) (rowsIn s)) (rowsIn s) (widthIn (s .rows) (rowsIn s)) (temporalsIn (s .rows) (rowsIn s))
+    (length (s .assumes)) (length (s .guarantees))
+
+-- the rows are within the limits, and each arg suits its kind
+pub record Rowed (ws : List ℕ) : Type 0 where
+  pub rows-few : length ws / ROW-WORDS ≤ MOST-ROWS
+  pub operands-few : startIn ws (length ws / ROW-WORDS) ≤ MOST-OPERANDS
+  pub temporals-few : temporalsIn ws (length ws / ROW-WORDS) ≤ MOST-TEMPORALS
+  pub args : (r : ℕ) → r < length ws / ROW-WORDS → argGood (kindIn ws r) (argIn ws r) ≡ true
+
+-- the sections are within the limits, and accepted
+pub record Accepted (s : Sections) : Type 0 where
+  pub few : Few s
+  pub good : judged s ≡ ACCEPTED
+
+-- the memory holds the book that the sections say, with a fresh monitor
+pub record Holds (s : Sections) (m : List ℕ) : Type 0 where
+  pub book : bookOf m ≡ bookIn s
+  pub state : stateOf m ≡ initial (bookIn s .rows)
+  pub kept : Kept m

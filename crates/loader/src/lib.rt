@@ -1,0 +1,191 @@
+// Loading: a book's words judged, and an accepted book put into a monitor's lent memory.
+ghost use mathlib.Core.Path.{_≡_};
+ghost use Prim.Native.Nat.{_+_, _*_, _/_, _≤_, _<_, max};
+ghost use lib.ListN.{length};
+ghost use lib.Seq.{paste};
+ghost use Rattle.memory.specs.Layout.{ROWS, ROW, SIZE};
+ghost use Rattle.numbers.specs.Limits.{ROW-WORDS, MOST-ATOMS, MOST-ROWS};
+ghost use Rattle.book.specs.Placing.{sectionsOf, partsOf, Counted};
+ghost use Rattle.book.specs.Judging.{startIn, temporalsIn};
+ghost use Rattle.loader.specs.Loading.{Loads};
+ghost use Rattle.loader.specs.Private.{reach, widthIn, wordsWith, rowPut, rowsPut, headPut, Rowed, Accepted, Holds};
+use book::ATOM;
+use book::HISTORICALLY;
+use book::check::Places;
+use book::check::arg_in;
+use book::check::assumes_part;
+use book::check::guarantees_part;
+use book::check::kind_in;
+use book::check::lower_in;
+use book::check::operands_part;
+use book::check::rows_part;
+use book::check::taken_by;
+use book::check::upper_in;
+use memory::ARG;
+use memory::ASSUMES;
+use memory::GUARANTEES;
+use memory::LOWER;
+use memory::OPERANDS;
+use memory::OWNERS;
+use memory::PROPERTIES;
+use memory::ROW;
+use memory::ROW_COUNT;
+use memory::ROWS;
+use memory::SIZE;
+use memory::SLOT;
+use memory::START;
+use memory::TEMPORALS;
+use memory::UPPER;
+use memory::WIDTH;
+use numbers::ACCEPTED;
+use numbers::ROW_WORDS;
+
+// What the head of a memory says of its rows: the largest atom plus 1, and how many are temporal.
+struct Totals {
+    width: u64,
+    temporals: u64,
+}
+
+// The width with one more row.
+fn wider(width: u64, kind: u64, arg: u64) -> u64
+    requires { ⌜ reach kind arg ≤ MOST-ATOMS ⌝ }
+    ensures { λ r. ⌜ r ≡ max width (reach kind arg) ⌝ }
+{
+    if kind == ATOM {
+        if width <= arg {
+            return arg + 1;
+        }
+        return width;
+    }
+    width
+}
+
+// The six words of a row.
+fn put_words(given: &[u64], row: usize, start: usize, slot: usize, monitor: &mut [u64])
+    requires { ⌜ (row < MOST-ROWS) × (row < length (now given) / ROW-WORDS) × (length (now monitor) ≡ SIZE) ⌝ }
+    ensures { λ _. ⌜ now (monitor .exit) ≡ paste (now (monitor .entry)) (ROWS + ROW * row) (wordsWith (now (given .entry)) row start slot) ROW ⌝ }
+{
+    let at = ROWS + ROW * row;
+    monitor[at] = kind_in(given, row);
+    monitor[at + ARG] = arg_in(given, row);
+    monitor[at + LOWER] = lower_in(given, row);
+    monitor[at + UPPER] = upper_in(given, row);
+    monitor[at + START] = start as u64;
+    monitor[at + SLOT] = slot as u64;
+}
+
+// A row, and where it is temporal its set's owner; answers with the next row's set.
+fn put_row(given: &[u64], row: usize, start: usize, slot: usize, monitor: &mut [u64]) -> usize
+    requires { ⌜ Rowed (now given) ⌝ }
+    requires { ⌜ (row < length (now given) / ROW-WORDS) × (length (now monitor) ≡ SIZE) ⌝ }
+    requires { ⌜ (start ≡ startIn (now given) row) × (slot ≡ temporalsIn (now given) row) ⌝ }
+    ensures { λ r. ⌜ (r ≡ temporalsIn (now (given .entry)) (row + 1)) × (now (monitor .exit) ≡ rowPut (now (given .entry)) (now (monitor .entry)) row) ⌝ }
+{
+    if kind_in(given, row) < HISTORICALLY {
+        put_words(given, row, start, 0, monitor);
+        return slot;
+    }
+    put_words(given, row, start, slot, monitor);
+    monitor[OWNERS + slot] = row as u64;
+    slot + 1
+}
+
+// All rows, one pass: each row's operands start where those of the row before it end.
+fn put_rows(given: &[u64], monitor: &mut [u64]) -> Totals
+    requires { ⌜ Rowed (now given) ⌝ }
+    requires { ⌜ length (now monitor) ≡ SIZE ⌝ }
+    ensures { λ r. ⌜ (r .width ≡ widthIn (now (given .entry)) (length (now (given .entry)) / ROW-WORDS)) × (r .temporals ≡ temporalsIn (now (given .entry)) (length (now (given .entry)) / ROW-WORDS)) × (now (monitor .exit) ≡ rowsPut (now (given .entry)) (now (monitor .entry)) (length (now (given .entry)) / ROW-WORDS)) ⌝ }
+{
+    let rows = given.len() / ROW_WORDS;
+    let mut row = 0;
+    let mut start = 0;
+    let mut slot = 0;
+    let mut width: u64 = 0;
+    while row < rows {
+        let kind = kind_in(given, row);
+        let arg = arg_in(given, row);
+        slot = put_row(given, row, start, slot, monitor);
+        start += taken_by(kind, arg);
+        width = wider(width, kind, arg);
+        row += 1;
+    }
+    Totals {
+        width,
+        temporals: slot as u64,
+    }
+}
+
+// The words before the rows.
+fn put_head(monitor: &mut [u64], rows: u64, totals: Totals, assumes: u64, guarantees: u64)
+    requires { ⌜ length (now monitor) ≡ SIZE ⌝ }
+    ensures { λ _. ⌜ now (monitor .exit) ≡ headPut (now (monitor .entry)) rows (totals .width) (totals .temporals) assumes guarantees ⌝ }
+{
+    monitor[ROW_COUNT] = rows;
+    monitor[WIDTH] = totals.width;
+    monitor[TEMPORALS] = totals.temporals;
+    monitor[ASSUMES] = assumes;
+    monitor[GUARANTEES] = guarantees;
+}
+
+// The memory of an accepted book, whatever stood there before.
+fn store<'a>(
+    given: &'a [u64],
+    operands: &'a [u64],
+    assumes: &'a [u64],
+    guarantees: &'a [u64],
+    monitor: &mut [u64],
+)
+    requires { ⌜ Accepted (sectionsOf (now given) (now operands) (now assumes) (now guarantees)) ⌝ }
+    requires { ⌜ length (now monitor) ≡ SIZE ⌝ }
+    ensures { λ _. ⌜ Holds (sectionsOf (now (given .entry)) (now (operands .entry)) (now (assumes .entry)) (now (guarantees .entry))) (now (monitor .exit)) ⌝ }
+{
+    lists::clear(monitor);
+    lists::copy(operands, monitor, OPERANDS);
+    lists::copy(assumes, monitor, PROPERTIES);
+    lists::copy(guarantees, monitor, PROPERTIES + assumes.len());
+    let totals = put_rows(given, monitor);
+    put_head(
+        monitor,
+        (given.len() / ROW_WORDS) as u64,
+        totals,
+        assumes.len() as u64,
+        guarantees.len() as u64,
+    );
+}
+
+// The book of these words, whose sections stand where places tell.
+fn store_parts(words: &[u64], places: Places, monitor: &mut [u64])
+    requires { ⌜ Counted (now words) (places .rows) (places .operands) (places .assumes) (places .guarantees) ⌝ }
+    requires { ⌜ Accepted (partsOf (now words) (places .rows) (places .operands) (places .assumes) (places .guarantees)) × (length (now monitor) ≡ SIZE) ⌝ }
+    ensures { λ _. ⌜ Holds (partsOf (now (words .entry)) (places .rows) (places .operands) (places .assumes) (places .guarantees)) (now (monitor .exit)) ⌝ }
+{
+    store(
+        rows_part(words, places),
+        operands_part(words, places),
+        assumes_part(words, places),
+        guarantees_part(words, places),
+        monitor,
+    );
+}
+
+// Loading, over a memory whose length is not part of its type.
+fn load_into(words: &[u64], monitor: &mut [u64]) -> u64
+    requires { ⌜ length (now monitor) ≡ SIZE ⌝ }
+    ensures { λ r. ⌜ Loads (now (words .entry)) (now (monitor .exit)) r ⌝ }
+{
+    let places = book::check::place(words);
+    let number = places.number;
+    if number != ACCEPTED {
+        lists::clear(monitor);
+        return number;
+    }
+    store_parts(words, places, monitor);
+    number
+}
+
+// Loads a book from words: a fresh monitor of it, or of an empty book where it is refused, whatever stood in the memory before.
+pub fn load(words: &[u64], monitor: &mut [u64; SIZE]) -> u64
+    ensures { λ r. ⌜ Loads (now (words .entry)) (now (monitor .exit)) r ⌝ }
+{
+    load_into(words, monitor)
+}

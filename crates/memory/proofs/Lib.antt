@@ -1,0 +1,5 @@
+pub mod Rows
+pub mod Sets
+pub mod Stepped
+pub mod Codes
+pub mod Same

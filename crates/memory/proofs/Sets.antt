@@ -1,0 +1,31 @@
+-- The sets of the state that a memory holds: a temporal row's is that of its slot, any other row has none. Assumes nothing.
+use Prim.Native.Nat.{ℕ, _<_}
+use native.Mathlib.Omega.{arith}
+use native.Mathlib.Decide.{decLt}
+use mathlib.Core.Path.{_≡_, ap, _∙_}
+use mathlib.Core.Bool.{cond}
+use mathlib.Core.List.{List, []}
+use borrow.Author.Tests.{le-leb, lt-leb}
+use Rattle.numset.specs.Runs.{runs}
+use Rattle.pmtl.specs.Monitor.{setAt}
+use Rattle.lists.proofs.Listed.{listed-at, listed-out}
+use Rattle.memory.specs.Memory.{rowCount, temporals, kindAt, slotAt, ownerAt, slotWords, setOf, stateOf}
+use Rattle.memory.specs.Kept.{Kept}
+
+module _ (m : List ℕ) (kept : Kept m) where
+  -- a temporal row's
+  pub owner-set : (j : ℕ) → j < temporals m → setAt (stateOf m) (ownerAt m j) ≡ runs (slotWords m j)
+  unfolding stateOf setOf
+  owner-set j h =
+      listed-at (setOf m) [] (rowCount m) (ownerAt m j) (kept .book .owned j h)
+      ∙ ap (λ b. cond b (runs (slotWords m (slotAt m (ownerAt m j)))) []) (le-leb 7 (kindAt m (ownerAt m j)) (kept .book .temporals-are j h))
+      ∙ ap (λ s. runs (slotWords m s)) (kept .book .slots j h)
+
+  -- any other row has none
+  pub no-set : (r : ℕ) → (r < rowCount m → kindAt m r < 7) → setAt (stateOf m) r ≡ []
+  unfolding stateOf setOf
+  no-set r plain = go (decLt r (rowCount m))
+    where
+      go : Dec (r < rowCount m) → setAt (stateOf m) r ≡ []
+      go (yes h) = listed-at (setOf m) [] (rowCount m) r h ∙ ap (λ b. cond b (runs (slotWords m (slotAt m r))) []) (lt-leb 7 (kindAt m r) (plain h))
+      go (no h) = listed-out (setOf m) [] (rowCount m) r (omega arith)

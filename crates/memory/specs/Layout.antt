@@ -1,0 +1,66 @@
+-- Where things stand in a monitor's memory: each part begins where the one before it ends. The code has the same names. Definitions only.
+use Prim.Native.Nat.{ℕ, _+_, _*_}
+use Rattle.numbers.specs.Limits.{MOST-ROWS, MOST-OPERANDS, MOST-PROPERTIES, MOST-TEMPORALS, MOST-ATOMS}
+use Rattle.numset.specs.Runs.{SET-WORDS}
+
+-- the head, a word for each: how many rows; whether a call was accepted; the clock; the largest atom plus 1; how many temporal rows, assumes, guarantees
+abbrev pub ROW-COUNT : ℕ
+ROW-COUNT = 0
+
+abbrev pub BEGUN : ℕ
+BEGUN = 1
+
+abbrev pub CLOCK : ℕ
+CLOCK = 2
+
+abbrev pub WIDTH : ℕ
+WIDTH = 3
+
+abbrev pub TEMPORALS : ℕ
+TEMPORALS = 4
+
+abbrev pub ASSUMES : ℕ
+ASSUMES = 5
+
+abbrev pub GUARANTEES : ℕ
+GUARANTEES = 6
+
+-- words of the head
+abbrev pub HEAD : ℕ
+HEAD = 7
+
+-- words of a row: kind, arg, lower, upper, where its operands start, which set is its own
+abbrev pub ROW : ℕ
+ROW = 6
+
+-- words of a set
+abbrev pub SET : ℕ
+SET = SET-WORDS
+
+-- the rows
+abbrev pub ROWS : ℕ
+ROWS = HEAD
+
+-- the operands of all rows
+abbrev pub OPERANDS : ℕ
+OPERANDS = ROWS + ROW * MOST-ROWS
+
+-- the rows that are properties, assumes first
+abbrev pub PROPERTIES : ℕ
+PROPERTIES = OPERANDS + MOST-OPERANDS
+
+-- the atoms, a word for each
+abbrev pub ATOMS : ℕ
+ATOMS = PROPERTIES + MOST-PROPERTIES
+
+-- the rows that the sets belong to, ascending
+abbrev pub OWNERS : ℕ
+OWNERS = ATOMS + MOST-ATOMS
+
+-- the sets, one after the other
+abbrev pub SETS : ℕ
+SETS = OWNERS + MOST-TEMPORALS
+
+-- all words
+abbrev pub SIZE : ℕ
+SIZE = SETS + SET * MOST-TEMPORALS

@@ -1,0 +1,111 @@
+-- A monitor in lent words: which book, clock, atoms and sets a memory holds. Definitions only.
+use Prim.Native.Nat.{ℕ, _+_, _*_}
+use mathlib.Core.Bool.{Bool, cond}
+use mathlib.Core.List.{List, []}
+use lib.ListN.{getD, take, drop}
+use lib.Dec.{eqb}
+use Rattle.numbers.specs.Limits.{MOST-OPERANDS, MOST-ATOMS}
+use Rattle.lists.specs.Lists.{listed, part}
+use Rattle.numset.specs.Runs.{Runs, runs}
+use Rattle.pmtl.specs.Book.{Range, Row, Rows, Book}
+use Rattle.pmtl.specs.Monitor.{State}
+use Rattle.book.specs.Rows.{rowFrom, temporal}
+use Rattle.memory.specs.Layout.{ROW-COUNT, BEGUN, CLOCK, WIDTH, TEMPORALS, ASSUMES, GUARANTEES, ROWS, ROW, OPERANDS, PROPERTIES, ATOMS, OWNERS, SETS, SET}
+
+-- ---- words read off a memory
+abbrev pub rowCount : List ℕ → ℕ
+rowCount m = getD m ROW-COUNT 0
+
+abbrev pub begunWord : List ℕ → ℕ
+begunWord m = getD m BEGUN 0
+
+abbrev pub clockOf : List ℕ → ℕ
+clockOf m = getD m CLOCK 0
+
+abbrev pub widthWord : List ℕ → ℕ
+widthWord m = getD m WIDTH 0
+
+abbrev pub temporals : List ℕ → ℕ
+temporals m = getD m TEMPORALS 0
+
+abbrev pub assumeCount : List ℕ → ℕ
+assumeCount m = getD m ASSUMES 0
+
+abbrev pub guaranteeCount : List ℕ → ℕ
+guaranteeCount m = getD m GUARANTEES 0
+
+abbrev pub kindAt : List ℕ → ℕ → ℕ
+kindAt m r = getD m (ROWS + ROW * r) 0
+
+abbrev pub argAt : List ℕ → ℕ → ℕ
+argAt m r = getD m (ROWS + ROW * r + 1) 0
+
+abbrev pub lowerAt : List ℕ → ℕ → ℕ
+lowerAt m r = getD m (ROWS + ROW * r + 2) 0
+
+abbrev pub upperAt : List ℕ → ℕ → ℕ
+upperAt m r = getD m (ROWS + ROW * r + 3) 0
+
+abbrev pub startAt : List ℕ → ℕ → ℕ
+startAt m r = getD m (ROWS + ROW * r + 4) 0
+
+abbrev pub slotAt : List ℕ → ℕ → ℕ
+slotAt m r = getD m (ROWS + ROW * r + 5) 0
+
+abbrev pub operandsOf : List ℕ → List ℕ
+operandsOf m = part OPERANDS MOST-OPERANDS m
+
+-- the operand at a place, and the `left` operands from there on
+abbrev pub operandAt : List ℕ → ℕ → ℕ
+operandAt m place = getD m (OPERANDS + place) 0
+
+abbrev pub operandsFrom : List ℕ → ℕ → ℕ → List ℕ
+operandsFrom m place left = take left (drop place (operandsOf m))
+
+-- the range of a row
+abbrev pub rangeAt : List ℕ → ℕ → Range
+rangeAt m r = record { lower = lowerAt m r; upper = upperAt m r }
+
+-- the atoms, a byte for each
+abbrev pub atomAt : List ℕ → ℕ → ℕ
+atomAt m i = getD m (ATOMS + i) 0
+
+abbrev pub atomsOf : List ℕ → List ℕ
+atomsOf m = listed (atomAt m) MOST-ATOMS
+
+abbrev pub ownerAt : List ℕ → ℕ → ℕ
+ownerAt m j = getD m (OWNERS + j) 0
+
+abbrev pub setStart : ℕ → ℕ
+setStart j = SETS + SET * j
+
+abbrev pub slotWords : List ℕ → ℕ → List ℕ
+slotWords m j = part (setStart j) SET m
+
+-- ---- the monitor that a memory holds: its book
+unfoldable pub rowOf : List ℕ → ℕ → Row ℕ
+rowOf m r = rowFrom (kindAt m r) (argAt m r) (lowerAt m r) (upperAt m r) (drop (startAt m r) (operandsOf m))
+
+unfoldable pub rowsOf : List ℕ → Rows
+rowsOf m = listed (rowOf m) (rowCount m)
+
+unfoldable pub bookOf : List ℕ → Book
+bookOf m = record {
+  rows = rowsOf m;
+  assumes = part PROPERTIES (assumeCount m) m;
+  guarantees = part (PROPERTIES + assumeCount m) (guaranteeCount m) m;
+}
+
+-- and its state: a temporal row's set is that of its slot
+abbrev pub isOne : ℕ → Bool
+isOne x = eqb x 1
+
+unfoldable pub setOf : List ℕ → ℕ → Runs
+setOf m r = cond (temporal (kindAt m r)) (runs (slotWords m (slotAt m r))) []
+
+unfoldable pub stateOf : List ℕ → State
+stateOf m = record {
+  begun = isOne (begunWord m);
+  now = record { clock = clockOf m; atoms = listed (λ i. isOne (atomAt m i)) (widthWord m) };
+  sets = listed (setOf m) (rowCount m);
+}

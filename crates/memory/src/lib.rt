@@ -1,0 +1,191 @@
+// A monitor's memory: where things stand in it, and the words that are read off it.
+ghost use mathlib.Core.Path.{_≡_};
+ghost use Prim.Native.Nat.{_<_};
+ghost use lib.ListN.{getD};
+ghost use Rattle.numbers.specs.Limits.{MOST-ROWS, MOST-OPERANDS, MOST-TEMPORALS};
+ghost use Rattle.memory.specs.Layout.{SIZE};
+ghost use Rattle.memory.specs.Memory.{begunWord, clockOf, widthWord, temporals, assumeCount, guaranteeCount, kindAt, argAt, lowerAt, upperAt, startAt, operandAt, ownerAt, atomsOf, slotWords};
+ghost use Rattle.memory.specs.Kept.{Kept};
+use numbers::MOST_ATOMS;
+use numbers::MOST_OPERANDS;
+use numbers::MOST_PROPERTIES;
+use numbers::MOST_ROWS;
+use numbers::MOST_TEMPORALS;
+
+// The head: how many rows, whether a call was accepted, the clock, the largest atom plus 1, how many temporal rows, assumes and
+// guarantees.
+pub const ROW_COUNT: usize = 0;
+
+pub const BEGUN: usize = 1;
+
+pub const CLOCK: usize = 2;
+
+pub const WIDTH: usize = 3;
+
+pub const TEMPORALS: usize = 4;
+
+pub const ASSUMES: usize = 5;
+
+pub const GUARANTEES: usize = 6;
+
+const HEAD: usize = 7;
+
+// A row's words: kind, arg, lower, upper, where its operands start, which set is its own.
+pub const ROW: usize = 6;
+
+pub const ARG: usize = 1;
+
+pub const LOWER: usize = 2;
+
+pub const UPPER: usize = 3;
+
+pub const START: usize = 4;
+
+pub const SLOT: usize = 5;
+
+// A set's words.
+pub const SET: usize = numset::SET_WORDS;
+
+// The parts, each from where the one before it ends: rows, operands, properties, atoms, the rows that the sets belong to, sets.
+pub const ROWS: usize = HEAD;
+
+pub const OPERANDS: usize = ROWS + ROW * MOST_ROWS;
+
+pub const PROPERTIES: usize = OPERANDS + MOST_OPERANDS;
+
+pub const ATOMS: usize = PROPERTIES + MOST_PROPERTIES;
+
+pub const OWNERS: usize = ATOMS + MOST_ATOMS;
+
+pub const SETS: usize = OWNERS + MOST_TEMPORALS;
+
+// All words.
+pub const SIZE: usize = SETS + SET * MOST_TEMPORALS;
+
+// The word at a place.
+pub fn word(monitor: &[u64; SIZE], at: usize) -> u64
+    requires { ⌜ at < SIZE ⌝ }
+    ensures { λ r. ⌜ r ≡ getD (now (monitor .entry)) at 0 ⌝ }
+{
+    monitor[at]
+}
+
+// 1 once a call was accepted.
+pub fn begun(monitor: &[u64; SIZE]) -> u64
+    ensures { λ r. ⌜ r ≡ begunWord (now (monitor .entry)) ⌝ }
+{
+    monitor[BEGUN]
+}
+
+// The time of the last accepted time call.
+pub fn clock(monitor: &[u64; SIZE]) -> u64
+    ensures { λ r. ⌜ r ≡ clockOf (now (monitor .entry)) ⌝ }
+{
+    monitor[CLOCK]
+}
+
+// The largest atom plus 1.
+pub fn width(monitor: &[u64; SIZE]) -> usize
+    ensures { λ r. ⌜ r ≡ widthWord (now (monitor .entry)) ⌝ }
+{
+    monitor[WIDTH] as usize
+}
+
+// How many rows are temporal.
+pub fn temporal_count(monitor: &[u64; SIZE]) -> usize
+    ensures { λ r. ⌜ r ≡ temporals (now (monitor .entry)) ⌝ }
+{
+    monitor[TEMPORALS] as usize
+}
+
+// How many properties are assumed.
+pub fn assume_count(monitor: &[u64; SIZE]) -> usize
+    ensures { λ r. ⌜ r ≡ assumeCount (now (monitor .entry)) ⌝ }
+{
+    monitor[ASSUMES] as usize
+}
+
+// How many properties are guaranteed.
+pub fn guarantee_count(monitor: &[u64; SIZE]) -> usize
+    ensures { λ r. ⌜ r ≡ guaranteeCount (now (monitor .entry)) ⌝ }
+{
+    monitor[GUARANTEES] as usize
+}
+
+// The words of a row.
+pub fn kind_at(monitor: &[u64; SIZE], row: usize) -> u64
+    requires { ⌜ row < MOST-ROWS ⌝ }
+    ensures { λ r. ⌜ r ≡ kindAt (now (monitor .entry)) row ⌝ }
+{
+    monitor[ROWS + ROW * row]
+}
+
+pub fn arg_at(monitor: &[u64; SIZE], row: usize) -> usize
+    requires { ⌜ row < MOST-ROWS ⌝ }
+    ensures { λ r. ⌜ r ≡ argAt (now (monitor .entry)) row ⌝ }
+{
+    monitor[ROWS + ROW * row + ARG] as usize
+}
+
+pub fn lower_at(monitor: &[u64; SIZE], row: usize) -> u64
+    requires { ⌜ row < MOST-ROWS ⌝ }
+    ensures { λ r. ⌜ r ≡ lowerAt (now (monitor .entry)) row ⌝ }
+{
+    monitor[ROWS + ROW * row + LOWER]
+}
+
+pub fn upper_at(monitor: &[u64; SIZE], row: usize) -> u64
+    requires { ⌜ row < MOST-ROWS ⌝ }
+    ensures { λ r. ⌜ r ≡ upperAt (now (monitor .entry)) row ⌝ }
+{
+    monitor[ROWS + ROW * row + UPPER]
+}
+
+pub fn start_at(monitor: &[u64; SIZE], row: usize) -> usize
+    requires { ⌜ row < MOST-ROWS ⌝ }
+    ensures { λ r. ⌜ r ≡ startAt (now (monitor .entry)) row ⌝ }
+{
+    monitor[ROWS + ROW * row + START] as usize
+}
+
+// The operand at a place of the operand section.
+pub fn operand_at(monitor: &[u64; SIZE], place: usize) -> usize
+    requires { ⌜ place < MOST-OPERANDS ⌝ }
+    ensures { λ r. ⌜ r ≡ operandAt (now (monitor .entry)) place ⌝ }
+{
+    monitor[OPERANDS + place] as usize
+}
+
+// The row that a set belongs to.
+pub fn owner_at(monitor: &[u64; SIZE], slot: usize) -> usize
+    requires { ⌜ slot < MOST-TEMPORALS ⌝ }
+    ensures { λ r. ⌜ r ≡ ownerAt (now (monitor .entry)) slot ⌝ }
+{
+    monitor[OWNERS + slot] as usize
+}
+
+// The set of a slot.
+pub fn set_at(monitor: &[u64; SIZE], slot: usize) -> &[u64]
+    requires { ⌜ slot < MOST-TEMPORALS ⌝ }
+    ensures { λ r. ⌜ now r ≡ slotWords (now (monitor .entry)) slot ⌝ }
+{
+    let from = SETS + SET * slot;
+    let to = from + SET;
+    let words = &monitor[..];
+    &words[from..to]
+}
+
+// The atoms, a byte for each.
+pub fn read_atoms(monitor: &[u64; SIZE]) -> [u8; MOST_ATOMS]
+    requires { ⌜ Kept (now monitor) ⌝ }
+    ensures { λ r. ⌜ r ≡ atomsOf (now (monitor .entry)) ⌝ }
+{
+    let count = width(monitor);
+    let mut atoms = [0u8; MOST_ATOMS];
+    let mut i = 0;
+    while i < count {
+        atoms[i] = word(monitor, ATOMS + i) as u8;
+        i += 1;
+    }
+    atoms
+}

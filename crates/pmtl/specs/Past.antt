@@ -1,0 +1,38 @@
+-- What held after the calls of a history, and k calls ago: the words in which Once, Historically and Since are stated. With h the history of the
+-- accepted calls, drop k h is the history as it was k calls ago. Definitions only.
+use Prim.Native.Nat.{ℕ, _<_}
+use mathlib.Core.Path.{_≡_}
+use mathlib.Core.Bool.{true}
+use mathlib.Core.List.{[], _∷_}
+use lib.ListN.{length, drop}
+use Rattle.pmtl.specs.Book.{Range, inRange, Rows}
+use Rattle.pmtl.specs.Monitor.{State, initial, step, value}
+use Rattle.pmtl.specs.Calls.{History, nowOf}
+use Rattle.pmtl.specs.Meaning.{Fact}
+
+-- the state after a history
+unfoldable pub run : Rows → History → State
+run b [] = initial b
+run b (s ∷ h) = step b (run b h) s
+
+-- what a row's value was after the calls of a history
+abbrev pub held : Rows → ℕ → Fact
+held b o h = value b (run b h) o
+
+-- the call k calls ago is one of those so far, f held after it, and the range counted from it contains t
+pub record HeldAfter (b : Rows) (g : Range) (f : Fact) (h : History) (t k : ℕ) : Type 0 where
+  pub so-far : k < length h
+  pub held-then : f (drop k h) ≡ true
+  pub in-range : inRange g (nowOf b (drop k h) .clock) t ≡ true
+
+-- f held after some call so far whose range, counted from that call, contains t
+abbrev pub SomeCall : Rows → Range → Fact → History → ℕ → Type 0
+SomeCall b g f h t = (k : ℕ) × HeldAfter b g f h t k
+
+-- f held after every call later than the one k calls ago
+abbrev pub EveryLater : Fact → History → ℕ → Type 0
+EveryLater f h k = (j : ℕ) → j < k → f (drop j h) ≡ true
+
+-- right held after some such call and left after every later one
+abbrev pub SinceCall : Rows → Range → Fact → Fact → History → ℕ → Type 0
+SinceCall b g left right h t = (k : ℕ) × HeldAfter b g right h t k × EveryLater left h k

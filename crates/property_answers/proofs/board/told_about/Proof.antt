@@ -1,0 +1,44 @@
+-- `property_answers::board::told_about` meets its contract: two bits, of which none is above 1. Assumes nothing.
+use borrow.Author.Needs.{needs}
+use native.Mathlib.Omega.{arith}
+use Rattle.property_answers.proofs.Read.{bit-small}
+use Rattle.property_answers.proofs.Boards.{told-is}
+use Rattle.property_answers.proofs.board.told_about.Statement.{statement}
+use Rattle.property_answers.proofs.board.told_about.Tie as tie
+
+covers-requires : tie.Need-covers-requires
+covers-requires c κs = search needs
+
+bit-requires : tie.Need-bit-requires
+bit-requires c κs = search needs
+
+mul-result : tie.Need-mul-result
+mul-result c = let h = bit-small (c .before .covers .result) in let e = c .bit .ensures in record { fits = omega arith }
+
+gone-requires : tie.Need-gone-requires
+gone-requires c κs = search needs
+
+bit-requires-2 : tie.Need-bit-requires-2
+bit-requires-2 c κs = search needs
+
+mul-result-2 : tie.Need-mul-result-2
+mul-result-2 c = let h = bit-small (c .before .gone .result) in let e = c .bit2 .ensures in record { fits = omega arith }
+
+add-result : tie.Need-add-result
+add-result c = let g = bit-small (c .before .gone .result) in let eg = c .bit2 .ensures in let v = bit-small (c .before .before .before .covers .result) in let ev = c .before .before .bit .ensures in record { fits = omega arith }
+
+returns : tie.Need-returns
+returns c = let s = c .before .before .before .before .before in told-is (s .pre) (omega arith) (c .before .before .bit .ensures) (c .before .before .before .covers .ensures) (c .bit2 .ensures) (c .before .gone .ensures (s .args .clock))
+
+pub told-about-spec : {M : Type 1} → statement M
+told-about-spec =
+    tie.close
+    (tie.spec
+    covers-requires
+    bit-requires
+    mul-result
+    gone-requires
+    bit-requires-2
+    mul-result-2
+    add-result
+    returns)

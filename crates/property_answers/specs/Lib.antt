@@ -1,0 +1,3 @@
+pub mod Verdict
+pub mod Private
+pub mod Board

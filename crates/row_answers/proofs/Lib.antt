@@ -1,0 +1,5 @@
+pub mod Answers
+pub mod Values
+pub mod Earlies
+pub mod Settleds
+pub mod Facts

@@ -1,3 +1,0 @@
-pub mod Memory
-pub mod Facts
-pub mod Walk

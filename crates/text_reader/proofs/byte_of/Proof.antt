@@ -1,0 +1,17 @@
+-- `text_reader::byte_of` meets its contract. Assumes nothing.
+use borrow.Author.Tests.{lt-ltb, le-ltb}
+use borrow.Author.Needs.{needs}
+use Rattle.text_reader.proofs.byte_of.Statement.{statement}
+use Rattle.text_reader.proofs.byte_of.Tie as tie
+
+returns : tie.Need-returns
+returns c = rw (lt-ltb _ _ (c .if1 .taken))
+
+cast-result : tie.Need-cast-result
+cast-result c = search needs
+
+returns-2 : tie.Need-returns-2
+returns-2 c = rw (le-ltb _ _ (c .if1 .left))
+
+pub byte-of-spec : {M : Type 1} → statement M
+byte-of-spec = tie.close (tie.spec returns cast-result returns-2)

@@ -1,0 +1,156 @@
+// The book and the states of a text, read word by word into lent memory.
+ghost use mathlib.Core.Path.{_≡_};
+ghost use Prim.Native.Nat.{_+_, _*_, _≤_};
+ghost use lib.ListN.{length};
+ghost use Rattle.numbers.specs.Limits.{MOST-ATOMS};
+ghost use Rattle.text_reader.specs.Reads.{numberOf, partNumber, byteOf, WordsRead, SectionRead, BookRead, BytesRead, StateRead};
+use numbers::ACCEPTED;
+use numbers::MOST_ASSUMES;
+use numbers::MOST_ATOMS;
+use numbers::MOST_GUARANTEES;
+use numbers::MOST_OPERANDS;
+use numbers::MOST_ROWS;
+use numbers::PAST_LIMIT;
+use numbers::ROW_WORDS;
+use text::Read;
+
+// All sections at their limits, each after its count.
+pub const BOOK_WORDS: usize = 1
+    + ROW_WORDS * MOST_ROWS
+    + 1
+    + MOST_OPERANDS
+    + 1
+    + MOST_ASSUMES
+    + 1
+    + MOST_GUARANTEES;
+
+// What was read: the words stand in the memory up to a place, and the next word is looked for from another in the text; or
+// the number that ends the reading.
+pub enum Part {
+    Words(usize, usize),
+    Refused(u64),
+}
+
+// The number that ended a reading, of a word and of a part.
+pub fn number_of(r: Read) -> u64
+    ensures { λ n. ⌜ n ≡ numberOf r ⌝ }
+{
+    match r {
+        Read::Word(_, _) => 0,
+        Read::Refused(n) => n,
+    }
+}
+
+pub fn part_number(p: Part) -> u64
+    ensures { λ n. ⌜ n ≡ partNumber p ⌝ }
+{
+    match p {
+        Part::Words(_, _) => 0,
+        Part::Refused(n) => n,
+    }
+}
+
+// The next `count` words, into `words` from `at` on.
+fn words_into(input: &[u8], cursor: usize, count: usize, words: &mut [u64], at: usize) -> Part
+    requires { ⌜ at + count ≤ length (now words) ⌝ }
+    ensures { λ r. ⌜ WordsRead (now (input .entry)) cursor count (now (words .entry)) at (now (words .exit)) r ⌝ }
+{
+    let mut from = cursor;
+    let mut i = 0;
+    while i < count {
+        let r = text::next_word(input, from);
+        let Read::Word(w, next) = r else {
+            return Part::Refused(number_of(r));
+        };
+        words[at + i] = w;
+        from = next;
+        i += 1;
+    }
+    Part::Words(at + count, from)
+}
+
+// A section of up to `limit` items of `size` words, into `words` from `at` on: its count, and then its items.
+fn section(
+    input: &[u8],
+    cursor: usize,
+    limit: usize,
+    size: usize,
+    words: &mut [u64],
+    at: usize,
+) -> Part
+    requires { ⌜ at + 1 + size * limit ≤ length (now words) ⌝ }
+    ensures { λ r. ⌜ SectionRead (now (input .entry)) cursor limit size (now (words .entry)) at (now (words .exit)) r ⌝ }
+{
+    let r = text::next_word(input, cursor);
+    let Read::Word(count, from) = r else {
+        return Part::Refused(number_of(r));
+    };
+    if count > limit as u64 {
+        return Part::Refused(PAST_LIMIT);
+    }
+    words[at] = count;
+    words_into(input, from, size * count as usize, words, at + 1)
+}
+
+// The book that a text begins with, as the words that loading takes.
+pub fn book(input: &[u8], words: &mut [u64; BOOK_WORDS]) -> Part
+    ensures { λ r. ⌜ BookRead (now (input .entry)) (now (words .exit)) r ⌝ }
+{
+    let rows = section(input, 0, MOST_ROWS, ROW_WORDS, words, 0);
+    let Part::Words(a, i) = rows else {
+        return rows;
+    };
+    let operands = section(input, i, MOST_OPERANDS, 1, words, a);
+    let Part::Words(b, j) = operands else {
+        return operands;
+    };
+    let assumes = section(input, j, MOST_ASSUMES, 1, words, b);
+    let Part::Words(c, k) = assumes else {
+        return assumes;
+    };
+    section(input, k, MOST_GUARANTEES, 1, words, c)
+}
+
+// A state's word as a byte. Any word over 1 is refused, so that it need not be kept as it is.
+fn byte_of(w: u64) -> u8
+    ensures { λ r. ⌜ r ≡ byteOf w ⌝ }
+{
+    if 1 < w {
+        return 2;
+    }
+    w as u8
+}
+
+// The next `count` words, as a state's bytes.
+fn bytes_into(input: &[u8], cursor: usize, count: usize, bytes: &mut [u8]) -> Part
+    requires { ⌜ count ≤ length (now bytes) ⌝ }
+    ensures { λ r. ⌜ BytesRead (now (input .entry)) cursor count (now (bytes .exit)) r ⌝ }
+{
+    let mut from = cursor;
+    let mut i = 0;
+    while i < count {
+        let r = text::next_short(input, from);
+        let Read::Word(w, next) = r else {
+            return Part::Refused(number_of(r));
+        };
+        bytes[i] = byte_of(w);
+        from = next;
+        i += 1;
+    }
+    Part::Words(count, from)
+}
+
+// A state, after its width: so many bytes at the start of `bytes`.
+pub fn state(input: &[u8], cursor: usize, bytes: &mut [u8]) -> Part
+    requires { ⌜ MOST-ATOMS ≤ length (now bytes) ⌝ }
+    ensures { λ r. ⌜ StateRead (now (input .entry)) cursor (now (bytes .exit)) r ⌝ }
+{
+    let r = text::next_short(input, cursor);
+    let Read::Word(width, from) = r else {
+        return Part::Refused(number_of(r));
+    };
+    if width > MOST_ATOMS as u64 {
+        return Part::Refused(PAST_LIMIT);
+    }
+    bytes_into(input, from, width as usize, bytes)
+}

@@ -1,4 +1,0 @@
-pub mod Filled
-pub mod Read
-pub mod Bridge
-pub mod Boards
