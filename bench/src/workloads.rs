@@ -62,7 +62,7 @@ impl Rows {
     }
 }
 
-/// Document 01's whole case, with 4000 calls.
+/// The whole case of REFERENCE 8.6, with 4000 calls.
 fn whole_case() -> Case {
     let mut rows = Rows::default();
     let atom = rows.atom(0);

@@ -64,7 +64,7 @@ pub struct Case {
 /// How words are parted.
 #[derive(Clone, Copy)]
 pub enum Layout {
-    /// As in document 01: each row, section and call on a line of its own.
+    /// As in docs/REFERENCE.md 8.6: each row, section and call on a line of its own.
     Lines,
     OneLine,
     /// Spaces and line feeds in any number.

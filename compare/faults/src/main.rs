@@ -1,4 +1,4 @@
-//! P4 and P5 of document 01 on the original's interval set: what it does on these additions, shown by running it.
+//! P4 and P5 of docs/REFERENCE.md 6.6 on the original's interval set: what it does on these additions, shown by running it.
 
 use numset::NumSet;
 use std::ops::RangeInclusive;

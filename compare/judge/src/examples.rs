@@ -1,4 +1,4 @@
-//! Document 01's examples, run through the report.
+//! The examples of docs/REFERENCE.md, run through the report.
 
 use crate::report::{report, Nobody, LONGEST_INPUT};
 

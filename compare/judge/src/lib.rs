@@ -1,6 +1,6 @@
-//! The report of document 01, written from its text and from nothing of our program: book, calls, refusals and
-//! settled answers by 01's rules over interval sets of its own; value and early answers by the Rust original,
-//! held at every call against 01's rules for them.
+//! The report of docs/REFERENCE.md, written from the rules and from nothing of our program: book, calls, refusals and
+//! settled answers by its rules over interval sets of its own; value and early answers by the Rust original,
+//! held at every call against its rules for them.
 
 pub mod book;
 pub mod monitor;

@@ -1,4 +1,4 @@
-//! Reads an input from standard input and prints the report that document 01 asks for.
+//! Reads an input from standard input and prints the report that docs/REFERENCE.md asks for.
 
 use judge::report::{report, Nobody, LONGEST_INPUT};
 use std::io::{self, Read, Write};

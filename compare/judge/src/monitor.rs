@@ -1,4 +1,4 @@
-//! A running monitor by document 01's rules alone.
+//! A running monitor by the rules of docs/REFERENCE.md alone.
 
 use crate::book::{Book, Range, Row, H};
 use crate::rules::{self, Answer};

@@ -31,7 +31,7 @@ pub enum Call {
     State(Vec<u64>),
 }
 
-/// The report expected for an input; or, in words, where the original leaves document 01's rules for value and early.
+/// The report expected for an input; or, in words, where the original leaves the rules of REFERENCE 4.1 and 4.3 for value and early.
 pub fn report(input: &[u8], watch: &mut impl Watch) -> Result<Vec<u8>, String> {
     let mut out = Vec::new();
     if input.len() > LONGEST_INPUT {
@@ -102,7 +102,7 @@ pub fn read_call(words: &mut Reader) -> Result<Call, u64> {
     }
 }
 
-/// The monitor by 01's rules and the original beside it; a refused call does not reach the original.
+/// The monitor by the rules and the original beside it; a refused call does not reach the original.
 struct Pair {
     monitor: Monitor,
     original: Original,
@@ -136,7 +136,7 @@ impl Pair {
             let original = (values[property], early[property]);
             let rules = (self.monitor.values[row], rules_early[row]);
             if original != rules {
-                return Err(format!("call {call}, property {property}: the original says {original:?}, the rules of 01 {rules:?}"));
+                return Err(format!("call {call}, property {property}: the original says {original:?}, the rules {rules:?}"));
             }
             out.extend_from_slice(&[b' ', Answer::of(original.0).digit(), original.1.digit(), settled[row].digit()]);
         }

@@ -1,4 +1,4 @@
-//! Document 01's rules for value, early and settled, each as a table from row 0 upward.
+//! The rules of REFERENCE 4 for value, early and settled, each as a table from row 0 upward.
 
 use crate::book::{Book, Range, Row};
 use crate::runs::Runs;

@@ -1,4 +1,4 @@
-//! What the original's oracle takes from `scan_core`: its own trait, unchanged, and document 01's `Time` and
+//! What the original's oracle takes from `scan_core`: its own trait, unchanged, and this project's `Time` and
 //! `TimeRange`, which the original's files use and do not define.
 
 use std::ops::{Bound, RangeBounds};

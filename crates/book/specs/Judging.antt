@@ -1,4 +1,4 @@
--- 01, "Numbers that calls hand back": what a book is refused with, and the book that its words say. Definitions only.
+-- REFERENCE 2.5: what a book is refused with, and the book that its words say. Definitions only.
 use Prim.Native.Nat.{ℕ, zero, suc, _+_, _*_, _-_, _/_}
 use mathlib.Core.Bool.{Bool, true, false, cond, not, _&&_, _||_}
 use mathlib.Core.List.{List, [], _∷_, _++_}

@@ -1,4 +1,4 @@
--- 01, "The book": its four sections as they are read, from words in memory or in text. Definitions only.
+-- REFERENCE 2.1 and 2.5: the four sections of a book as they are read, from words in memory or in text. Definitions only.
 use Prim.Native.Nat.{ℕ, _*_}
 use mathlib.Core.Bool.{cond}
 use mathlib.Core.List.{List, [], _∷_}

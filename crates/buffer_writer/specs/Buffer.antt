@@ -1,4 +1,4 @@
--- 01, "The report": a report in the host's buffer. Definitions only.
+-- REFERENCE 9.2: a report in the host's buffer. Definitions only.
 use Prim.Native.Nat.{ℕ}
 use mathlib.Core.Bool.{cond}
 use mathlib.Core.List.{List, _++_}

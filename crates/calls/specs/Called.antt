@@ -1,4 +1,4 @@
--- What the public calls owe: the monitor that the memory then holds and the number, by the definitions of 01. Definitions only.
+-- REFERENCE 3: what the public calls owe: the monitor that the memory then holds, and the number. Definitions only.
 use Prim.Native.Nat.{ℕ}
 use mathlib.Core.Path.{_≡_}
 use mathlib.Core.List.{List}

@@ -1,4 +1,4 @@
-// Document 01's examples that are run and not proved, each refusal of a call, and early answers where the lower bound is above 0.
+// Examples of REFERENCE that are run and not proved, each refusal of a call, and early answers where the lower bound is above 0.
 // Each call has a line with the number that it handed back and, for each property, value, early and settled: 2 is open.
 mod play;
 mod words;

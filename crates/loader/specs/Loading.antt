@@ -1,4 +1,4 @@
--- What loading owes: the number, and the monitor that the memory then holds, by the definitions of 01. Definitions only.
+-- REFERENCE 2.6: what loading owes: the number, and the monitor that the memory then holds. Definitions only.
 use Prim.Native.Nat.{ℕ}
 use mathlib.Core.Path.{_≡_}
 use mathlib.Core.List.{List}

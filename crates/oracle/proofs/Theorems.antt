@@ -1,4 +1,4 @@
--- What load and the calls promise over any list of calls: the memory holds the definitions' monitor after those calls, so that document 01's
+-- What load and the calls promise over any list of calls: the memory holds the definitions' monitor after those calls, so that the
 -- demands hold of the answers that the code hands back. Nothing is assumed.
 use Prim.Native.Nat.{ℕ}
 use mathlib.Core.Path.{_≡_, sym, ap, ap₂, _∙_}

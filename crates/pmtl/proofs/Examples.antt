@@ -1,4 +1,4 @@
--- P1 to P12 of document 01, computed by the definitions: one list, one statement.
+-- P1 to P12 of REFERENCE, computed by the definitions: one list, one statement.
 use Prim.Native.Nat.{ℕ}
 use mathlib.Core.Path.{_≡_, refl}
 use mathlib.Core.List.{List, [], _∷_, map}
@@ -19,7 +19,7 @@ pub data Result : Type 0 where
   values : List ℕ → Result
   answers : List (List ℕ) → Result
 
--- what the definitions give, and what 01 says
+-- what the definitions give, and what is stated
 pub record Example : Type 0 where
   pub found : Result
   pub stated : Result
@@ -49,7 +49,7 @@ answersOf b r ks = answers (eachAfter (λ st. bitOf (value b st r) ∷ digitOf (
 abbrev pub range : ℕ → ℕ → Range
 range l u = record { lower = l; upper = u }
 
--- state calls of one atom and of two, as 01 writes them
+-- state calls of one atom and of two
 abbrev pub s0 : Call
 s0 = state (0 ∷ [])
 
@@ -89,7 +89,7 @@ examples =
     ∷ (answersOf (atom 0 ∷ historically (range 0 MAX) 0 ∷ once (range 0 MAX) 1 ∷ []) 2 (s1 ∷ s0 ∷ []) gives answers ((1 ∷ 1 ∷ 1 ∷ []) ∷ (1 ∷ 0 ∷ 1 ∷ []) ∷ []))
     ∷ []
 
--- each gives what 01 says
+-- each gives what is stated
 pub P1-to-P12 : map foundIn examples ≡ map statedIn examples
 unfolding eachAfter has covers insert union stop widthOf table answer every some retained gone staysIf addedIf renewed setRule initial valueRule value step earlyRule early settledTrue settledFalse settled refusal crowded play call after
 P1-to-P12 = refl

@@ -1,4 +1,4 @@
--- What is proved of document 01's definitions, in its words. Of a book it is asked at most that operands are below their owners (`Ordered`);
+-- What is proved of the definitions, in the words of REFERENCE 3 and 4. Of a book it is asked at most that operands are below their owners (`Ordered`);
 -- the calls are any list, the newest first, refused ones among them; r is any number, of a row or of none. Nothing is assumed.
 use Prim.Native.Nat.{ℕ, _≤_}
 use native.Mathlib.Omega.{arith}
@@ -51,9 +51,9 @@ held-is b calls r k h = let p = past-calls b calls k h in
     (p .0, p .1, ap (λ x. held b r x) (sym (p .2)) ∙ ap (λ st. value b st r) (sym (after-is b (p .0))))
 
 module _ (b : Rows) (w : Ordered b) (calls : List Call) (r : ℕ) where
-  -- each temporal row has the set of instants that 01 defines from the accepted calls so far
-  pub sets-are-01s : (t : ℕ) → has (setAt (after b calls) r) t ≡ instants (mapRow (meaning b) (rowAt b r)) (accepted b calls) t
-  sets-are-01s t = rw (after-is b calls) (sets-mean b w r (accepted b calls) (trail b calls .legal) t (horizon-none _ t))
+  -- each temporal row has the set of instants that REFERENCE 3.5 defines from the accepted calls so far
+  pub sets-are-instants : (t : ℕ) → has (setAt (after b calls) r) t ≡ instants (mapRow (meaning b) (rowAt b r)) (accepted b calls) t
+  sets-are-instants t = rw (after-is b calls) (sets-mean b w r (accepted b calls) (trail b calls .legal) t (horizon-none _ t))
 
   -- DEMAND 2: a row's value is what the row means on the history of the accepted calls
   pub demand-2 : value b (after b calls) r ≡ meaning b r (accepted b calls)

@@ -1,4 +1,4 @@
--- Demand 2: values are what they mean on the history of accepted calls, and sets are those that 01 defines. Assumes nothing.
+-- Demand 2: values are what they mean on the history of accepted calls, and sets are those of REFERENCE 3.5. Assumes nothing.
 use Prim.Native.Nat.{ℕ, _<_, _≤_}
 use native.Mathlib.Omega.{arith}
 use mathlib.Core.Path.{_≡_, refl, sym, ap, ap₂, _∙_}
@@ -34,7 +34,7 @@ module _ (r : ℕ) (v : ℕ → Bool) (m : ℕ → Fact) (h : History) (below : 
   some-same [] w = refl
   some-same (o ∷ os) w = ap₂ _||_ (below o (w .0)) (some-same os (w .1))
 
-  -- a row's value, if its set is as 01 defines it
+  -- a row's value, if its set is as REFERENCE 3.5 defines it
   row-value : (b : Rows) (row : Row ℕ) → Below r row → (x : Bool) → x ≡ instants (mapRow m row) h (nowOf b h .clock)
       → valueRule (nowOf b h .atoms) x (mapRow v row) ≡ meaningRule b r (mapRow m row) h
   unfolding valueRule meaningRule
@@ -62,7 +62,7 @@ instants-none (historically g f) t = refl
 instants-none (once g f) t = refl
 instants-none (since g f k) t = refl
 
--- one call renews a row's set as 01 says
+-- one call renews a row's set as REFERENCE 3.5 says
 module _ (r : ℕ) (v : ℕ → Bool) (m : ℕ → Fact) (s : Snap) (h : History) (below : (o : ℕ) → o < r → v o ≡ m o (s ∷ h))
     (old : Runs) (ok : Canonical old) (t : ℕ) (near : horizon (s .clock) ≤ t) where
   since-step : (g : Range) (f q : Fact) (k x : Bool) → k ≡ f (s ∷ h) → x ≡ q (s ∷ h) → has old t ≡ sinceSome g f q h t
@@ -86,7 +86,7 @@ module _ (r : ℕ) (v : ℕ → Bool) (m : ℕ → Fact) (s : Snap) (h : History
   row-set (since g x y) w e = since-step g (m x) (m y) (v x) (v y) (below x (w .0)) (below y (w .1)) e
 
 module _ (b : Rows) (w : Ordered b) where
-  -- m says what the operands' values are: then a row's set has the instants that 01 defines, and its value is what the rule says
+  -- m says what the operands' values are: then a row's set has the instants that REFERENCE 3.5 defines, and its value is what the rule says
   module _ (r : ℕ) (m : ℕ → Fact) (below : (o : ℕ) → o < r → (h : History) → Legal b h → held b o h ≡ m o h) where
     set-instants : (h : History) → Legal b h → (t : ℕ) → horizon (nowOf b h .clock) ≤ t
         → has (setAt (run b h) r) t ≡ instants (mapRow m (rowAt b r)) h t
@@ -102,7 +102,7 @@ module _ (b : Rows) (w : Ordered b) where
         ∙ row-value r (value b (run b h)) m h (λ o k. below o k h l) b (rowAt b r) (w r) (has (setAt (run b h) r) (nowOf b h .clock))
         (set-instants h l (nowOf b h .clock) (horizon-now (nowOf b h .clock)))
 
-  -- over the values themselves: each row's value is what 01 says of the values that its operands had after the calls so far
+  -- over the values themselves: each row's value is what REFERENCE 4.1 says of the values that its operands had after the calls so far
   pub value-held : (r : ℕ) (h : History) → Legal b h → held b r h ≡ meaningRule b r (mapRow (held b) (rowAt b r)) h
   value-held r = value-by r (held b) (λ o k h l. refl)
 
@@ -111,7 +111,7 @@ module _ (b : Rows) (w : Ordered b) where
   values-mean = by-rows (λ r. (h : History) → Legal b h → held b r h ≡ meaning b r h) λ r below h l.
       value-by r (meaning b) below h l ∙ sym (ap (λ (f : Fact). f h) (meaning-fix b w r))
 
-  -- a row's set: the instants that 01 defines
+  -- a row's set: the instants that REFERENCE 3.5 defines
   pub sets-mean : (r : ℕ) (h : History) → Legal b h → (t : ℕ) → horizon (nowOf b h .clock) ≤ t
       → has (setAt (run b h) r) t ≡ instants (mapRow (meaning b) (rowAt b r)) h t
   sets-mean r = set-instants r (meaning b) (λ o k h l. values-mean o h l)

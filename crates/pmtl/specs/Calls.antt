@@ -1,4 +1,4 @@
--- 01, "Calls and values" and "Numbers that calls hand back": calls, refused or accepted. Definitions only.
+-- REFERENCE 3 and 5.3: calls, refused or accepted. Definitions only.
 use Prim.Native.Nat.{ℕ}
 use mathlib.Core.Bool.{Bool, true, false, cond}
 use mathlib.Core.List.{List, [], _∷_, map}

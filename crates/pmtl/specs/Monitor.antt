@@ -1,4 +1,4 @@
--- 01, "Calls and values": a monitor's state, what one call makes of it, and the value of a row. Definitions only.
+-- REFERENCE 3.1, 3.4 and 4.1: a monitor's state, what one call makes of it, and the value of a row. Definitions only.
 use Prim.Native.Nat.{ℕ}
 use mathlib.Core.Bool.{Bool, true, false, not, _||_}
 use mathlib.Core.List.{List, [], map}

@@ -1,4 +1,4 @@
--- 01, "Calls and values": how a call changes the set of a temporal row. Definitions only.
+-- REFERENCE 3.5: how a call changes the set of a temporal row. Definitions only.
 use Prim.Native.Nat.{ℕ}
 use mathlib.Core.Bool.{Bool, true, false, not}
 use mathlib.Core.List.{[], _∷_}

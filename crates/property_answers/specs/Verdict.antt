@@ -1,4 +1,4 @@
--- What a loaded monitor answers of its properties, by the definitions of 01. Definitions only.
+-- REFERENCE 4.6: what a loaded monitor answers of its properties. Definitions only.
 use Prim.Native.Nat.{ℕ}
 use mathlib.Core.Bool.{cond}
 use mathlib.Core.List.{List, _++_}

@@ -74,7 +74,7 @@ module _ (i r : ℕ) (words : List ℕ) {m m₁ : List ℕ} {at at₁ : ℕ} (nu
   unfolding digitLine
   line-refused e q = rw (ne-eqb r 0 e, append-nil) (and-then numbers q)
 
--- ---- the digits of the answers, and the line that 01 asks for
+-- ---- the digits of the answers, and the line of REFERENCE 8.3
 digit-small : (a : Answer) → digitOf a ≤ 2
 digit-small False = lit≤ tt
 digit-small True = lit≤ tt

@@ -1,4 +1,4 @@
--- 01, "The report": the report of any input, byte by byte. Definitions only.
+-- REFERENCE 8: the report of any input, byte by byte. Definitions only.
 use Prim.Native.Nat.{ℕ, zero, suc, _+_}
 use mathlib.Core.Bool.{cond}
 use mathlib.Core.List.{List, [], _∷_, _++_}

@@ -1,4 +1,4 @@
--- Numbers in decimal digits: 01, "The report". Assumes nothing.
+-- REFERENCE 7.3: numbers in decimal digits. Definitions only.
 use Prim.Native.Nat.{ℕ, suc, zero, _+_, _-_, _/_, _%_}
 use mathlib.Core.Bool.{Bool, true, false}
 use mathlib.Core.List.{List, [], _∷_, _++_}

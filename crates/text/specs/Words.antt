@@ -1,4 +1,4 @@
--- Words in text: 01, "The report". Assumes nothing.
+-- REFERENCE 7.1 and 7.2: words in text. Definitions only.
 use Prim.Native.Nat.{ℕ, suc, _+_, _*_, _-_}
 use mathlib.Core.Bool.{Bool, true, false, not, _&&_, _||_}
 use mathlib.Core.List.{List, [], _∷_}

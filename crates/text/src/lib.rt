@@ -1,4 +1,4 @@
-// Text of 01, "The report": its words, read forwards, and its numbers, written in decimal digits.
+// Text, REFERENCE 7: its words, read forwards, and its numbers, written in decimal digits.
 mod decimals;
 mod words;
 

@@ -1,4 +1,4 @@
-//! Inputs written by hand: document 01's examples, every refusal, and what is seldom drawn.
+//! Inputs written by hand: the examples of docs/REFERENCE.md, every refusal, and what is seldom drawn.
 
 /// Unbounded, in text.
 const MAX: &str = "18446744073709551615";
