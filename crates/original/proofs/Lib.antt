@@ -14,3 +14,4 @@ pub mod Replays
 pub mod Panics
 pub mod Numbers
 pub mod Theorems
+pub mod Recorded
