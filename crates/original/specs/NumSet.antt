@@ -108,7 +108,7 @@ add-assign self rhs =
       | false ↦ first-then self lower upper (binary-search-by-key self (saturating-sub lower 1) upper-of)
     ]
 
--- fn empty
+-- impl NumSet: fn empty. Of its private functions `_full` and `_contains_interval` nothing calls either, and they are left out
 abbrev pub empty : NumSet
 empty = []
 
