@@ -85,3 +85,43 @@ fn near(chance: &mut Chance, pairs: &[Interval]) -> u64 {
         end.saturating_sub(step)
     }
 }
+
+#[cfg(test)]
+mod tests {
+    use super::*;
+    use crate::file::Asked;
+    use std::collections::BTreeSet;
+
+    /// The way that an addition takes through the original, by what its two searches find.
+    fn way(before: &[Interval], addition: &Interval) -> &'static str {
+        if addition.is_empty() {
+            return "empty";
+        }
+        let first = before.binary_search_by_key(&addition.start().saturating_sub(1), |i| *i.end());
+        let (Ok(i) | Err(i)) = first;
+        let second = before[i..].binary_search_by_key(&addition.end().saturating_add(1), |i| *i.start());
+        match (first, second) {
+            (Ok(_), Ok(_)) => "joined on both sides",
+            (Ok(_), Err(_)) => "joined below",
+            (Err(_), Ok(_)) => "joined above",
+            (Err(i), Err(_)) if i == before.len() => "after all",
+            (Err(_), Err(0)) => "between",
+            (Err(_), Err(_)) => "over some",
+        }
+    }
+
+    #[test]
+    fn every_way_is_drawn_and_the_fault_shows() {
+        let asked = Asked::default();
+        let mut ways = BTreeSet::new();
+        let mut drawn = Drawn::default();
+        for i in 0..asked.additions {
+            let mut chance = Chance::new(asked.seed, i);
+            let before = pairs(&mut chance);
+            ways.insert(way(&before, &addition(&mut chance, &before)));
+            draw(&mut Chance::new(asked.seed, i), &mut drawn);
+        }
+        assert_eq!(ways.len(), 7, "{ways:?}");
+        assert!(drawn.panics > 0 && drawn.losses > 0);
+    }
+}

@@ -81,10 +81,10 @@ mod tests {
     }
 
     #[test]
-    fn the_fault_is_among_what_is_drawn() {
-        let asked = Asked::default();
-        let mut set = additions::Drawn::default();
-        (0..asked.additions).for_each(|i| additions::draw(&mut Chance::new(asked.seed, i), &mut set));
-        assert!(set.panics > 0 && set.losses > 0);
+    fn every_kind_and_every_answer_is_drawn() {
+        let file = file(&Asked::default());
+        let kinds = ["True", "False", "Atom", "And", "Or", "Not", "Implies", "Historically", "Once", "Since"];
+        assert!(kinds.iter().all(|kind| file.contains(&format!("Pmtl.{kind} "))));
+        assert!(["None ∷", "Some true ∷", "Some false ∷", "panic ∷"].iter().all(|answer| file.contains(answer)));
     }
 }
