@@ -10,7 +10,7 @@ use borrow.Author.Tests.{le-ltb, le-leb, eq-eqb, ne-eqb}
 use Rattle.numset.specs.Runs.{MAX, run, Runs, Under, Canonical, insert, union}
 use Rattle.numset.proofs.Laws.{lt-or-ge}
 use Rattle.numset.proofs.Union.{union-some, insert-past, insert-join}
-use Rattle.original.specs.Rust.{Ran, Found, saturating-add, index, split-off, binary-search-by-key}
+use Rattle.original.specs.Rust.{Ran, Found, saturating-add, index, binary-search-by-key}
 use Rattle.original.specs.TimeRange.{_to_}
 use Rattle.original.specs.NumSet.{NumSet, lower-of, upper-of, add-assign, first-then, ok-then, err-then}
 use Rattle.original.specs.Rust.Ran.{done}
@@ -21,10 +21,6 @@ use Rattle.original.proofs.Searches.{turned, length-turned, shifted, sh
 abbrev pub Reach : ℕ → ℕ → Runs → Type 0
 Reach l u [] = Unit {0}
 Reach l u (run a b ∷ rs) = (a ≤ l) × (b ≤ u)
-
--- split off at the seam
-split-at : (p q : NumSet) (n : ℕ) → length p ≡ n → split-off (p ++ q) n ≡ done (p, q)
-split-at p q n e = rw (le-leb n (length (p ++ q)) (omega (arith, length-append p q)), take-at p q n e, drop-at p q n e)
 
 module _ (l u : ℕ) (ordered : l ≤ u) (small : l < MAX) where
   -- the newest run ends more than one before l: a new run

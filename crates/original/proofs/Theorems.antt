@@ -3,8 +3,10 @@
 use Prim.Native.Nat.{ℕ, _≤_, _<_}
 use mathlib.Core.Path.{_≡_, refl, sym, ap, ap₂, _∙_}
 use mathlib.Core.Logic.{_↔_}
+use mathlib.Core.Bool.{Bool}
 use mathlib.Core.List.{List, [], _∷_, map}
-use lib.ListN.{length}
+use lib.ListN.{length, drop}
+use Rattle.numset.specs.Runs.{Run}
 use Rattle.pmtl.specs.Book.{H, Rows, Book, AllBelow}
 use Rattle.pmtl.specs.Monitor.{Snap, State, initial, value}
 use Rattle.pmtl.specs.Early.{early}
@@ -15,13 +17,16 @@ use Rattle.pmtl.proofs.Values.{values-mean}
 use Rattle.pmtl.proofs.Theorems.{after-is}
 use Rattle.original.specs.Rust.{Ran, Found, each, binary-search-by-key, Increasing, Documented, _>>=_}
 use Rattle.original.specs.Rust.Ran.{panic, done}
+use Rattle.original.specs.NumSet.{NumSet, contains}
 use Rattle.original.specs.ValPmtl.{ValPmtl, output, valuation}
 use Rattle.original.specs.PmtlOracle.{PmtlOracle}
 use Rattle.original.specs.Formulas.{oracleOf}
 use Rattle.original.specs.Proper.{Proper}
 use Rattle.original.specs.Replay.{made, replayed, allowed, replayed-all, reached}
-use Rattle.original.specs.Agrees.{optionOf, Follows, Agrees}
+use Rattle.original.specs.Agrees.{optionOf, none, Follows, Agrees}
 use Rattle.original.proofs.Documented.{documented, search-is}
+use Rattle.original.proofs.Members.{contains-safe}
+use Rattle.original.proofs.Sorted.{split-increases}
 use Rattle.original.proofs.Fulls.{Clocks}
 use Rattle.original.proofs.Grown.{grown, tree-of, output-grown}
 use Rattle.original.proofs.Valuations.{legal, valuation-grown}
@@ -153,3 +158,11 @@ module _ (b : Book) (w : Proper b) (calls : List Call) where
 pub search-is-documented : {A : Type 0} (d : A) (key : A → ℕ) (xs : List A) (k : ℕ) → Increasing d key xs
     → Documented d key xs k (binary-search-by-key xs k key) × ((f : Found) → Documented d key xs k f → f ≡ binary-search-by-key xs k key)
 search-is-documented d key xs k w = (documented d key xs k w, search-is d key xs k w)
+
+-- what `split_off` hands back of a sorted list is sorted too, so that the second search is one of those
+pub split-stays-sorted : (key : Run → ℕ) (set : NumSet) (i : ℕ) → Increasing none key set → Increasing none key (drop i set)
+split-stays-sorted = split-increases
+
+-- `contains` panics on no set at all
+pub contains-never-panics : (set : NumSet) (t : ℕ) → (x : Bool) × (contains set t ≡ done x)
+contains-never-panics = contains-safe
