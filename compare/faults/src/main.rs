@@ -1,56 +1,101 @@
+<<<<<<< HEAD
 //! P4 and P5 of docs/REFERENCE.md 6.6 on the original's interval set: what it does on these additions, shown by running it.
+=======
+//! P1 to P5 of REFERENCE in one list: what the original's interval set does, shown by running it, and beside it what the transcription
+//! is proved to give. It ends with 1 where the two differ.
+>>>>>>> original
 
-use numset::NumSet;
-use std::ops::RangeInclusive;
-use std::panic;
+use std::process::ExitCode;
+use std::{fmt, panic};
+use vectors::notation;
+use vectors::sets::{Interval, Set};
 
-include!(concat!(env!("OUT_DIR"), "/original.rs"));
+/// The proved examples of the transcription.
+const TRANSCRIBED: &str = include_str!("../../../crates/original/proofs/Examples.antt");
 
-type Interval = RangeInclusive<u64>;
-
-/// The original's set of these intervals, none of which touches another.
-fn set_of(intervals: &[Interval]) -> NumSet {
-    let mut set = NumSet::empty();
-    intervals.iter().for_each(|i| set += i.clone());
-    set
+/// An addition to a set of intervals, by its name in REFERENCE.
+struct Example {
+    name: &'static str,
+    before: Vec<Interval>,
+    addition: Interval,
 }
 
-/// The original's set after the addition, or what it panics with.
-fn added(intervals: &[Interval], addition: Interval) -> Result<NumSet, String> {
-    let mut set = set_of(intervals);
-    let result = panic::catch_unwind(panic::AssertUnwindSafe(|| set += addition));
-    match result {
-        Ok(()) => Ok(set),
-        Err(why) => Err(why.downcast_ref::<String>().cloned().unwrap_or_default()),
+/// What the original did: the intervals that it left, or what it panicked with.
+type Outcome = Result<Vec<Interval>, String>;
+
+impl Example {
+    fn new(name: &'static str, before: &[Interval], addition: Interval) -> Self {
+        Self { name, before: before.to_vec(), addition }
+    }
+
+    fn outcome(&self) -> Outcome {
+        Set::of(&self.before).added(self.addition.clone()).map(|set| set.intervals())
+    }
+
+    /// The instants that were there, or are added, and are not in what is left.
+    fn lost(&self, left: &[Interval]) -> Vec<u64> {
+        let there = self.before.iter().chain([&self.addition]).flat_map(|i| i.clone());
+        there.filter(|t| !left.iter().any(|i| i.contains(t))).collect()
+    }
+
+    /// The line that the transcription must have for this example to come out as it does on the original.
+    fn line(&self, outcome: &Outcome) -> String {
+        let left = notation::ran(outcome.as_ref().ok().map(|left| notation::set(left)));
+        let range = notation::range(*self.addition.start(), *self.addition.end());
+        format!("(add-assign ({}) {range} gives {left})", notation::set(&self.before))
+    }
+
+    /// The line that it has: the one after the example's name.
+    fn transcribed(&self) -> &'static str {
+        let named = format!("-- {} {{", self.name);
+        let mut lines = TRANSCRIBED.lines().skip_while(|line| !line.trim().starts_with(&named));
+        lines.nth(1).map_or("nothing", |line| line.trim().trim_start_matches("∷ "))
     }
 }
 
-/// The instants up to `last` that are in one of the intervals and not in the set.
-fn lost(set: &NumSet, intervals: &[Interval], last: u64) -> Vec<u64> {
-    (0..=last).filter(|t| intervals.iter().any(|i| i.contains(t)) && !set.contains(*t)).collect()
-}
+/// Intervals as REFERENCE writes them.
+struct Shown<'a>(&'a [Interval]);
 
-fn show(name: &str, intervals: &[Interval], addition: Interval) {
-    let before = set_of(intervals);
-    print!("{name} {before:?} add {addition:?}: ");
-    match added(intervals, addition.clone()) {
-        Err(why) => println!("panics: {why}"),
-        Ok(set) => {
-            let all: Vec<Interval> = intervals.iter().cloned().chain([addition]).collect();
-            let last = all.iter().map(|i| *i.end()).max().unwrap_or(0);
-            println!("{set:?}, lost {:?}", lost(&set, &all, last));
-        }
+impl fmt::Display for Shown<'_> {
+    fn fmt(&self, f: &mut fmt::Formatter<'_>) -> fmt::Result {
+        let intervals: Vec<String> = self.0.iter().map(|i| format!("[{},{}]", i.start(), i.end())).collect();
+        write!(f, "{{{}}}", intervals.join(","))
     }
 }
 
-fn main() {
-    panic::set_hook(Box::new(|_| ()));
-    show("P1", &[0..=1], 2..=3);
-    show("P2", &[0..=1, 4..=5], 2..=3);
+fn examples() -> [Example; 5] {
     #[allow(clippy::reversed_empty_ranges)]
-    show("P3", &[0..=1], 3..=2);
-    show("P4", &[0..=1, 10..=20], 5..=9);
-    show("P5", &[0..=1, 10..=20, 30..=40], 15..=29);
+    let empty = 3..=2;
+    [
+        Example::new("P1", &[0..=1], 2..=3),
+        Example::new("P2", &[0..=1, 4..=5], 2..=3),
+        Example::new("P3", &[0..=1], empty),
+        Example::new("P4", &[0..=1, 10..=20], 5..=9),
+        Example::new("P5", &[0..=1, 10..=20, 30..=40], 15..=29),
+    ]
+}
+
+/// Prints an example, and says whether the transcription agrees.
+fn show(example: &Example) -> bool {
+    let outcome = example.outcome();
+    let agrees = example.transcribed() == example.line(&outcome);
+    println!("{} {} add [{},{}]", example.name, Shown(&example.before), example.addition.start(), example.addition.end());
+    match &outcome {
+        Err(why) => println!("  the original    panics: {why}"),
+        Ok(left) => println!("  the original    {}, lost {:?}", Shown(left), example.lost(left)),
+    }
+    println!("  transcribed     {}{}", example.transcribed(), if agrees { "" } else { ": NOT THE SAME" });
+    agrees
+}
+
+fn main() -> ExitCode {
+    panic::set_hook(Box::new(|_| ()));
+    let differ = examples().iter().filter(|example| !show(example)).count();
+    if differ == 0 {
+        ExitCode::SUCCESS
+    } else {
+        ExitCode::FAILURE
+    }
 }
 
 #[cfg(test)]
@@ -59,13 +104,19 @@ mod tests {
 
     #[test]
     fn p4_panics() {
-        assert!(added(&[0..=1, 10..=20], 5..=9).unwrap_err().contains("index out of bounds"));
+        assert!(examples()[3].outcome().unwrap_err().contains("index out of bounds"));
     }
 
     #[test]
     fn p5_loses_10_to_14() {
-        let before = [0..=1, 10..=20, 30..=40];
-        let set = added(&before, 15..=29).unwrap();
-        assert_eq!(lost(&set, &before, 40), [10, 11, 12, 13, 14]);
+        let p5 = &examples()[4];
+        assert_eq!(p5.lost(&p5.outcome().unwrap()), [10, 11, 12, 13, 14]);
+    }
+
+    #[test]
+    fn the_transcription_gives_the_same() {
+        for example in examples() {
+            assert_eq!(example.transcribed(), example.line(&example.outcome()), "{}", example.name);
+        }
     }
 }

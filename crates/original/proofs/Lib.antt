@@ -1,0 +1,17 @@
+pub mod Examples
+pub mod Witness
+pub mod Documented
+pub mod Searches
+pub mod Adding
+pub mod Members
+pub mod Sorted
+pub mod Ranges
+pub mod Fulls
+pub mod Grown
+pub mod Walks
+pub mod Valuations
+pub mod Replays
+pub mod Panics
+pub mod Numbers
+pub mod Theorems
+pub mod Recorded

@@ -1,0 +1,10 @@
+pub mod Rust
+pub mod TimeRange
+pub mod NumSet
+pub mod ValPmtl
+pub mod PmtlOracle
+pub mod Formulas
+pub mod Proper
+pub mod Replay
+pub mod Agrees
+pub mod Recorded

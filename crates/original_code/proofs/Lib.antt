@@ -1,0 +1,3 @@
+pub mod Uses
+pub mod Loaded
+pub mod Theorems

@@ -1,0 +1,110 @@
+-- The book that is loaded has what is asked of a book: one that is accepted, and the empty one that a refusal leaves. Assumes nothing.
+use Prim.Native.Nat.{ℕ, zero, suc, _<_, _≤_}
+use native.Mathlib.Omega.{arith}
+use native.Mathlib.Decide.{decLt}
+use native.Mathlib.Nat.{not-suc-le-zero}
+use mathlib.Core.Path.{_≡_, refl}
+use mathlib.Core.Logic.{_⊎_, inl, inr}
+use mathlib.Core.Bool.{Bool, true, false}
+use mathlib.Core.List.{List, [], _∷_}
+use lib.ListN.{length, getD, take}
+use lib.Seq.{getD-drop}
+use lib.Dec.{eqb}
+use borrow.Author.Tests.{eqb-true, eqb-false}
+use Rattle.numbers.specs.Limits.{MAX, LAST-TIME}
+use Rattle.lists.proofs.Tests.{either}
+use Rattle.pmtl.specs.Book.{Range, Row, rowAt, emptyBook, AllBelow, Below}
+use Rattle.pmtl.specs.Book.Row.{never, always, atom, conj, disj, neg, implies, historically, once, since}
+use Rattle.pmtl.proofs.Table.{row-out}
+use Rattle.book.specs.Rows.{rowFrom, countOf}
+use Rattle.lists.proofs.Listed.{listed-length, listed-at}
+use Rattle.book.specs.Reading.{Read, got, refused, Sections, sections}
+use Rattle.book.specs.Judging.{rowsIn, startIn, rangeGood, judged, rowIn, bookIn, refusedWith, loadedFrom, whole, loaded}
+use Rattle.book.proofs.Accepted.{range, range-ordered, lower-small, upper-small, operand-below, assume-below, guarantee-below}
+use Rattle.original.specs.Proper.{Fit, RowFit, Proper}
+use Rattle.original_code.proofs.Uses.{book-used}
+
+-- ---- rows
+AllFit : List (Row ℕ) → Type 0
+AllFit [] = Unit {0}
+AllFit (row ∷ rows) = RowFit row × AllFit rows
+
+fit-at : (rows : List (Row ℕ)) (k : ℕ) → AllFit rows → RowFit (getD rows k never)
+unfolding AllFit
+fit-at [] k f = tt
+fit-at (row ∷ rows) zero f = f .0
+fit-at (row ∷ rows) (suc k) f = fit-at rows k (f .1)
+
+row-fit : (kind arg lower upper : ℕ) (os : List ℕ) → rangeGood lower upper ≡ true → RowFit (rowFrom kind arg lower upper os)
+unfolding rowFrom AllFit
+row-fit kind arg lower upper os good =
+    let g : Range = record { lower = lower; upper = upper } in
+    let x = getD os 0 0 in
+    let y = getD os 1 0 in
+    let fit : Fit g = record { ordered = range-ordered lower upper good; low = lower-small lower upper good; high = high (either (eqb upper MAX)) } in
+    fit-at (never ∷ always ∷ atom arg ∷ conj (take arg os) ∷ disj (take arg os) ∷ neg x ∷ implies x y ∷ historically g x ∷ once g x ∷ since g x y ∷ []) kind
+    (tt, (tt, (tt, (tt, (tt, (tt, (tt, (fit, (fit, (fit, tt))))))))))
+  where
+    high : (eqb upper MAX ≡ true) ⊎ (eqb upper MAX ≡ false) → (upper ≤ LAST-TIME) ⊎ (upper ≡ MAX)
+    high (inl e) = inr (eqb-true upper MAX e)
+    high (inr e) = inl (upper-small lower upper good (eqb-false upper MAX e))
+
+below-all : (n : ℕ) (xs : List ℕ) → ((i : ℕ) → i < length xs → getD xs i 0 < n) → AllBelow n xs
+below-all n [] f = tt
+below-all n (x ∷ xs) f = (f 0 (omega arith), below-all n xs (λ i h. f (suc i) (omega arith)))
+
+-- operands are below their owners
+take-below : (n : ℕ) (os : List ℕ) (r : ℕ) → ((k : ℕ) → k < n → getD os k 0 < r) → AllBelow r (take n os)
+take-below zero os r f = tt
+take-below (suc n) [] r f = tt
+take-below (suc n) (o ∷ os) r f = (f 0 (omega arith), take-below n os r (λ k h. f (suc k) (omega arith)))
+
+row-below : (kind arg lower upper : ℕ) (os : List ℕ) (r : ℕ) → ((k : ℕ) → k < countOf kind arg → getD os k 0 < r) → Below r (rowFrom kind arg lower upper os)
+unfolding rowFrom countOf
+row-below zero arg lower upper os r f = tt
+row-below (suc zero) arg lower upper os r f = tt
+row-below (suc (suc zero)) arg lower upper os r f = tt
+row-below (suc (suc (suc zero))) arg lower upper os r f = take-below arg os r f
+row-below (suc (suc (suc (suc zero)))) arg lower upper os r f = take-below arg os r f
+row-below (suc (suc (suc (suc (suc zero))))) arg lower upper os r f = f 0 (omega arith)
+row-below (suc (suc (suc (suc (suc (suc zero)))))) arg lower upper os r f = (f 0 (omega arith), f 1 (omega arith))
+row-below (suc (suc (suc (suc (suc (suc (suc zero))))))) arg lower upper os r f = f 0 (omega arith)
+row-below (suc (suc (suc (suc (suc (suc (suc (suc zero)))))))) arg lower upper os r f = f 0 (omega arith)
+row-below (suc (suc (suc (suc (suc (suc (suc (suc (suc zero))))))))) arg lower upper os r f = (f 0 (omega arith), f 1 (omega arith))
+row-below (suc (suc (suc (suc (suc (suc (suc (suc (suc (suc n)))))))))) arg lower upper os r f = tt
+
+-- ---- books
+empty-proper : Proper emptyBook
+empty-proper = record { ordered = λ r. tt; ranges = λ r. tt; assumes-there = tt; guarantees-there = tt; used = λ r h. absurd (not-suc-le-zero h) }
+
+book-proper : (s : Sections) → judged s ≡ 0 → Proper (bookIn s)
+unfolding bookIn rowIn
+book-proper s ok = record {
+  ordered = λ r. low r (decLt r (rowsIn s));
+  ranges = λ r. go r (decLt r (rowsIn s));
+  assumes-there = below-all _ (s .assumes) (λ i h. rw listed-length (assume-below s ok i h));
+  guarantees-there = below-all _ (s .guarantees) (λ i h. rw listed-length (guarantee-below s ok i h));
+  used = book-used s ok;
+}
+  where
+    low : (r : ℕ) → Dec (r < rowsIn s) → Below r (rowAt (bookIn s .rows) r)
+    low r (yes h) = rw (listed-at (rowIn s) never (rowsIn s) r h)
+        (row-below _ _ _ _ _ r (λ k l. rw (getD-drop (startIn (s .rows) r) (s .operands) k 0) (operand-below s ok r h k l)))
+    low r (no h) = rw (row-out (bookIn s .rows) r (omega (arith, listed-length (rowIn s) (rowsIn s)))) tt
+
+    go : (r : ℕ) → Dec (r < rowsIn s) → RowFit (rowAt (bookIn s .rows) r)
+    go r (yes h) = rw (listed-at (rowIn s) never (rowsIn s) r h) (row-fit _ _ _ _ _ (range s ok r h))
+    go r (no h) = rw (row-out (bookIn s .rows) r (omega (arith, listed-length (rowIn s) (rowsIn s)))) tt
+
+pub loaded-proper : (words : List ℕ) → Proper (loaded words .book)
+unfolding loaded whole loadedFrom
+loaded-proper words = go (sections 1 words)
+  where
+    picked : (s : Sections) (z : Bool) → eqb (judged s) 0 ≡ z → Proper (elim z as (λ x. Rattle.book.specs.Judging.Loaded) [ true ↦ record { number = 0; book = bookIn s } | false ↦ refusedWith (judged s) ] .book)
+    picked s true e = book-proper s (eqb-true (judged s) 0 e)
+    picked s false e = empty-proper
+
+    go : (read : Read Sections) → Proper (whole read .book)
+    go (got s []) = picked s (eqb (judged s) 0) refl
+    go (got s (w ∷ ws)) = empty-proper
+    go (refused n) = empty-proper

@@ -1,0 +1,119 @@
+-- What our code hands back, from load on and over any list of calls, is what the original answers. Assumes nothing.
+use Prim.Native.Nat.{ℕ, zero, suc, _≤_}
+use native.Mathlib.Omega.{arith}
+use mathlib.Core.Path.{_≡_, refl, sym, ap, ap₂, _∙_}
+use mathlib.Core.Logic.{_↔_}
+use mathlib.Core.Bool.{Bool, true, false, cond}
+use mathlib.Core.List.{List, [], _∷_, _++_, map, map-append}
+use lib.ListN.{length, getD, take, drop, length-map, List·getD-map}
+use lib.Seq.{ext-getD, take-at}
+use lib.Dec.{ltb}
+use Rattle.numbers.specs.Limits.{LAST-TIME, MOST-ATOMS}
+use Rattle.pmtl.specs.Book.{Book, properties}
+use Rattle.pmtl.specs.Monitor.{State, value}
+use Rattle.pmtl.specs.Early.{early}
+use Rattle.pmtl.specs.Calls.{Call, time, state, call, after, accepted}
+use Rattle.memory.specs.Memory.{stateOf}
+use Rattle.lists.specs.Lists.{listed}
+use Rattle.lists.proofs.Listed.{listed-length, listed-at, listed-agree}
+use Rattle.book.specs.Judging.{loaded}
+use Rattle.property_answers.specs.declared.Verdict.{Verdict}
+use Rattle.property_answers.specs.Verdict.{propertyAt, verdictIn, verdictOf, propertiesIn, answersNumber, answersList}
+use Rattle.calls.specs.Called.{Called}
+use Rattle.oracle.specs.Made.{Made}
+use Rattle.oracle.proofs.Theorems.{made-book, made-state, made-number, made-verdict}
+use Rattle.original.specs.Rust.{_>>=_}
+use Rattle.original.specs.Rust.Ran.{panic, done}
+use Rattle.original.specs.PmtlOracle.{PmtlOracle}
+use Rattle.original.specs.Formulas.{oracleOf}
+use Rattle.original.specs.Replay.{made, replayed}
+use Rattle.original.specs.Agrees.{optionOf, Follows, Agrees}
+use Rattle.original.specs.Recorded.{answered}
+use Rattle.original.proofs.Theorems.{never-panics, sets-are-instants, answers-agree, panics-as-7, panics-as-9}
+use Rattle.original_code.specs.Answers.{earlyIn, valueIn, handed, Answers}
+use Rattle.original_code.proofs.Loaded.{loaded-proper}
+
+-- ---- lists by their places
+map-listed : {A : Type 0} (f : ℕ → A) (d : ℕ) (xs : List ℕ) → map f xs ≡ listed (λ i. f (getD xs i d)) (length xs)
+map-listed f d xs = ext-getD (f d) (map f xs) (listed (λ i. f (getD xs i d)) (length xs))
+    (length-map xs f ∙ sym (listed-length (λ i. f (getD xs i d)) (length xs)))
+    (λ i h. List·getD-map f xs i d ∙ sym (listed-at (λ i. f (getD xs i d)) (f d) (length xs) i (omega (arith, length-map xs f))))
+
+listed-map : {A B : Type 0} (g : A → B) (f : ℕ → A) (n : ℕ) → map g (listed f n) ≡ listed (λ i. g (f i)) n
+unfolding listed
+listed-map g f zero = refl
+listed-map g f (suc n) = map-append g (listed f n) (f n ∷ []) ∙ ap (λ xs. xs ++ (g (f n) ∷ [])) (listed-map g f n)
+
+-- a list that is not too short has the records first
+records-first : (m : List ℕ) (out : List Verdict) → answersNumber m (length out) ≡ 0 → handed m out ≡ listed (verdictOf m) (propertiesIn m)
+unfolding answersNumber answersList
+records-first m out = go (ltb (length out) (propertiesIn m)) refl
+  where
+    go : (z : Bool) → ltb (length out) (propertiesIn m) ≡ z → _≡_ {A = ℕ} (cond z 12 0) 0
+        → take (propertiesIn m) (cond z out (listed (verdictOf m) (propertiesIn m) ++ drop (propertiesIn m) out)) ≡ listed (verdictOf m) (propertiesIn m)
+    go true e h = absurd (omega arith)
+    go false e h = take-at (listed (verdictOf m) (propertiesIn m)) (drop (propertiesIn m) out) (propertiesIn m) (listed-length (verdictOf m) (propertiesIn m))
+
+-- ---- the statements, of any words loaded and any calls made on what that left
+module _ (words : List ℕ) (ks : List Call) (m : List ℕ) (came : Made words ks m) where
+  book : Book
+  book = loaded words .book
+
+  -- 1. the original has made the accepted ones of them without a panic
+  pub code-never-panics : (o : PmtlOracle) × (replayed (loaded words .book) ks ≡ done o)
+  code-never-panics = never-panics (loaded words .book) (loaded-proper words) ks
+
+  -- what is answered of the properties, place by place
+  by-place : {A : Type 0} (f : ℕ → A) (g : Verdict → A) → ((i : ℕ) → f (propertyAt book i) ≡ g (verdictIn book (after (book .rows) ks) i))
+      → map f (book .assumes) ++ map f (book .guarantees) ≡ listed (λ i. g (verdictOf m i)) (propertiesIn m)
+  unfolding book
+  by-place f g e = sym (map-append f (book .assumes) (book .guarantees))
+      ∙ map-listed f (length (book .rows)) (properties book)
+      ∙ listed-agree _ _ (length (properties book)) (λ i h. e i ∙ ap g (sym (made-verdict came i)))
+      ∙ ap (λ (b : Book). listed (λ i. g (verdictOf m i)) (length (properties b))) (sym (made-book came))
+
+  module _ (o : PmtlOracle) (made-them : replayed (loaded words .book) ks ≡ done o) where
+    agreed : Agrees book (after (book .rows) ks) o
+    unfolding book
+    agreed = answers-agree book (loaded-proper words) ks o made-them
+
+    listed-answers : answered o ≡ done (listed (λ i. earlyIn (verdictOf m i)) (propertiesIn m), listed (λ i. valueIn (verdictOf m i)) (propertiesIn m))
+    unfolding answered verdictIn
+    listed-answers = rw (agreed .values-of-assumes, agreed .values-of-guarantees, answered)
+        (ap₂ (λ x y. done (x, y))
+        (ap₂ _++_ (agreed .early-of-assumes) (agreed .early-of-guarantees) ∙ by-place (λ r. optionOf (early (book .rows) (after (book .rows) ks) r)) earlyIn (λ i. refl))
+        (by-place (value (book .rows) (after (book .rows) ks)) valueIn (λ i. refl)))
+
+    -- 2. each of its sets has exactly the instants that REFERENCE 3.5 defines
+    pub code-sets : Follows (loaded words .book) (accepted (loaded words .book .rows) ks) o
+    code-sets = sets-are-instants (loaded words .book) (loaded-proper words) ks o made-them
+
+    -- 3. WHAT IT ANSWERS IS WHAT OUR CODE HANDS BACK
+    pub code-answers : Answers m o
+    unfolding stateOf book
+    code-answers = record {
+      time = agreed .clock ∙ sym (ap (λ (st : State). st .now .clock) (made-state came));
+      of-properties = listed-answers;
+      of-answers = λ out h. listed-answers ∙ sym (ap (λ vs. done (map earlyIn vs, map valueIn vs)) (records-first m out h)
+          ∙ ap₂ (λ x y. done (x, y)) (listed-map earlyIn (verdictOf m) (propertiesIn m)) (listed-map valueIn (verdictOf m) (propertiesIn m)));
+    }
+
+  -- a call hands back n exactly where the original panics, if the definitions say so
+  panics-as : (k : Call) (n : ℕ) {m′ : List ℕ} {r : ℕ} → Called k m m′ r
+      → ((replayed (loaded words .book) ks >>= λ o. made o k) ≡ panic) ↔ (call (loaded words .book .rows) (after (loaded words .book .rows) ks) k .number ≡ n)
+      → ((replayed (loaded words .book) ks >>= λ o. made o k) ≡ panic) ↔ (r ≡ n)
+  panics-as k n c e = (λ p. made-number came c ∙ e .0 p, λ p. e .1 (sym (made-number came c) ∙ p))
+
+  -- a time call hands back 7 exactly where the original's assertion on time panics
+  pub code-7 : (t : ℕ) → t ≤ LAST-TIME → {m′ : List ℕ} {r : ℕ} → Called (time t) m m′ r → ((replayed (loaded words .book) ks >>= λ o. made o (time t)) ≡ panic) ↔ (r ≡ 7)
+  code-7 t k c = panics-as (time t) 7 c (panics-as-7 (loaded words .book) (loaded-proper words) ks t k)
+
+  -- a state call hands back 9 exactly where its `state[*atom]` does
+  pub code-9 : (bytes : List ℕ) → length bytes ≤ MOST-ATOMS → {m′ : List ℕ} {r : ℕ} → Called (state bytes) m m′ r
+      → ((replayed (loaded words .book) ks >>= λ o. made o (state bytes)) ≡ panic) ↔ (r ≡ 9)
+  code-9 bytes k c = panics-as (state bytes) 9 c (panics-as-9 (loaded words .book) (loaded-proper words) ks bytes k)
+
+-- 4. ALSO BEFORE THE FIRST CALL: what a monitor just loaded answers is what the original just made answers
+pub code-before-the-first-call : (words m : List ℕ) → Made words [] m → Answers m (oracleOf (loaded words .book))
+unfolding replayed
+code-before-the-first-call words m came = code-answers words [] m came (oracleOf (loaded words .book)) refl
