@@ -1,11 +1,10 @@
 // The library's face, `PmtlOracle` of the original in lent words: a book is loaded into a memory, calls are made on it, and it answers
 // of its properties. A program uses this crate and none of those below it.
 ghost use mathlib.Core.Path.{_≡_};
-ghost use Rattle.numbers.specs.Limits.{MOST-ROWS};
 ghost use Rattle.pmtl.specs.Calls.{Call};
-ghost use Rattle.memory.specs.Memory.{clockOf};
 ghost use Rattle.memory.specs.Kept.{Kept};
 ghost use Rattle.calls.specs.Called.{Called};
+ghost use Rattle.property_answers.specs.Verdict.{propertiesIn};
 pub use book::AND;
 pub use book::ATOM;
 pub use book::FALSE;
@@ -29,7 +28,6 @@ pub use property_answers::Verdicts;
 pub use property_answers::all;
 pub use property_answers::answers;
 pub use property_answers::of_property;
-pub use property_answers::property_count;
 
 // The clock becomes `time`, and every row is evaluated anew. The answer is 0, or the number of the refusal: then nothing changed.
 pub fn update_time(monitor: &mut [u64; SIZE], time: u64) -> u64
@@ -47,4 +45,12 @@ pub fn update_state(monitor: &mut [u64; SIZE], state: &[u8]) -> u64
 {
     let mut here = [0u8; MOST_ROWS];
     calls::update_state_here(monitor, state, &mut here)
+}
+
+// How many properties the book has, assumes and guarantees.
+pub fn property_count(monitor: &[u64; SIZE]) -> usize
+    requires { ⌜ Kept (now monitor) ⌝ }
+    ensures { λ r. ⌜ r ≡ propertiesIn (now (monitor .entry)) ⌝ }
+{
+    property_answers::property_count(monitor)
 }
