@@ -56,7 +56,7 @@ sources() {
     {
         rt version
         uname -m
-        find crates/*/src crates/*/specs crates/*/proofs crates.txt scripts -type f -exec sha256sum {} + | sort
+        find crates crates.txt scripts -type f ! -path 'crates/*/must-fail/*' -exec sha256sum {} + | sort
     } | sha256sum
 }
 
