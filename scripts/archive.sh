@@ -53,10 +53,10 @@ make_archive() {
 
 sum=$(sources)
 if [ ! -f "$archive" ] || [ "$(cat "$made/sources" 2>/dev/null)" != "$sum" ]; then
-    echo "Proving the report and compiling its archive, once." >&2
+    echo "Proving the report and compiling its archive, since that was not done of these sources yet. It may take minutes." >&2
     rm -rf "$made"
     mkdir -p "$made"
-    make_archive >"$made/log" 2>&1 || { cat "$made/log" >&2; exit 1; }
+    make_archive 2>&1 | tee "$made/log" | show_progress || end 1 "There is no archive: $made/log has all that was said."
     echo "$sum" >"$made/sources"
 fi
 echo "$archive"

@@ -111,6 +111,6 @@ print_report() { # PROGRAM
     status=$?
     [ "$status" -ne "$CLOSED_PIPE" ] || exit "$CLOSED_PIPE"
     [ "$status" -ne 0 ] || [ -n "$said" ] || return 0
-    [ "$status" -eq 0 ] || said="the program ended with status $status"
+    [ "$status" -eq 0 ] || said="${said:+$said; }the program ended with status $status"
     end "$NO_REPORT" "No whole report was printed: ${said//$'\n'/; }"
 }
