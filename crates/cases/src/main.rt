@@ -7,7 +7,6 @@ ghost use Rattle.cases.specs.Held.{Held};
 ghost use Rattle.book.specs.Kept.{Kept};
 use play::load;
 use play::state;
-use play::text;
 use play::time;
 use rows::ATOM;
 use rows::FALSE;
@@ -17,6 +16,7 @@ use rows::ONCE;
 use rows::SINCE;
 use rows::SIZE;
 use rows::TRUE;
+use show::text;
 use words::Words;
 
 // Unbounded.

@@ -1,8 +1,8 @@
 // A call, the number that it handed back and the answers of every property, on one line.
 use crate::words::Words;
-use libc::STDOUT_FILENO;
-use pmtl::Answer;
 use rows::SIZE;
+use show::number;
+use show::text;
 use verdicts::Verdict;
 ghost use Rattle.cases.specs.Held.{Held};
 ghost use Rattle.book.specs.Kept.{Kept};
@@ -10,35 +10,11 @@ ghost use Rattle.book.specs.Kept.{Kept};
 // The widest state, with one byte more.
 const TOO_WIDE: usize = 257;
 
-pub fn text(bytes: &[u8]) {
-    io::write_all(STDOUT_FILENO, bytes);
-}
-
-fn number(n: u64) {
-    io::print_decimal(STDOUT_FILENO, n);
-}
-
-fn bit(b: bool) -> u64 {
-    if b { 1 } else { 0 }
-}
-
-fn digit(a: Answer) -> u64 {
-    match a {
-        Answer::False => 0,
-        Answer::True => 1,
-        Answer::Open => 2,
-    }
-}
-
 // Value, early and settled.
 fn verdict(v: Verdict) {
-    let value = v.value;
     let early = v.early;
     let settled = v.settled;
-    text(b" ");
-    number(bit(value));
-    number(digit(early));
-    number(digit(settled));
+    show::digits(v.value, pmtl::digit(early), pmtl::digit(settled));
 }
 
 fn outcome(refusal: u64, monitor: &[u64; SIZE])

@@ -1,15 +1,16 @@
+-- Each run that is printed lies within the set.
 use lib.ListN.{getD}
 use mathlib.Core.Path.{_≡_}
 use Prim.Native.Nat.{_≤_, _-_}
 use borrow.Author.Needs.{needs}
-use Rattle.lent_try.proofs.runs.Statement.{statement}
-use Rattle.lent_try.proofs.runs.Tie as tie
+use Rattle.show.proofs.runs.Statement.{statement}
+use Rattle.show.proofs.runs.Tie as tie
 
 abbrev Inv-loop : tie.InvT-loop
-Inv-loop words n j₀ t5 t6 j = (j ≤ n) × (n ≡ getD words 0 0)
+Inv-loop set n j₀ t5 t6 j = (j ≤ n) × (n ≡ getD set 0 0)
 
 abbrev μ-loop : tie.MeasureT-loop
-μ-loop words n j₀ t5 t6 j = n - j
+μ-loop set n j₀ t5 t6 j = n - j
 
 shared-slice-read-n : tie.Need-shared-slice-read-n Inv-loop μ-loop
 shared-slice-read-n c = search needs
