@@ -40,15 +40,15 @@ holds_temporary() { # FOLDER
         setpriv --reuid=65534 --regid=65534 --clear-groups test -x "$1" 2>/dev/null
 }
 
-# A folder for temporary files: TMPDIR, or another where that cannot be used.
+# A folder for temporary files: TMPDIR, or where that cannot be used the system's own.
 need_temporary() {
-    for folder in "${TMPDIR:-/tmp}" /tmp /var/tmp; do
+    for folder in "${TMPDIR-}" "$(unset TMPDIR && dirname "$(mktemp -u)")"; do
         if holds_temporary "$folder"; then
             export TMPDIR=$folder
             return
         fi
     done
-    end "$MISSING" "Temporary files can be made neither in TMPDIR nor in /tmp: set TMPDIR to a folder that you may write to."
+    end "$MISSING" "There is no folder for temporary files: set TMPDIR to one that you may write to."
 }
 
 # A sum over all that a program or an archive is made of.
@@ -70,17 +70,20 @@ show_progress() {
     done
 }
 
-# Proves and links a program, unless that was done of these very sources. It says what it does, and shows each crate as it is proved.
+# Proves and links a program, unless it is there and was made of these very sources. It says what it does, and shows each crate as
+# it is proved.
 prove_program() { # NAME
-    done_of=target/proved/$1 sum=$(sources)
-    if [ -x "target/bin/$1" ] && [ "$(cat "$done_of" 2>/dev/null)" = "$sum" ]; then return; fi
+    program=target/bin/$1 made_of=target/proved/$1 sum=$(sources)
+    if [ "$(cat "$made_of" 2>/dev/null)" = "$sum $(sha256sum 2>/dev/null <"$program")" ]; then return; fi
     need_target
     need_temporary
     echo "Proving the program $1 and what it is made of, since that was not done of these sources yet. It may take minutes." >&2
     mkdir -p target/proved target/log
+    # rt goes by its stamp, and does not look whether the program is there
+    [ -x "$program" ] || rm -f "target/stamp/$1"
     rt check "$1" </dev/null 2>&1 | tee "target/log/proving-$1" | show_progress
     [ "${PIPESTATUS[0]}" -eq 0 ] || end "$NO_REPORT" "The program $1 is not proved: target/log/proving-$1 has all that the prover said."
-    printf '%s\n' "$sum" >"$done_of"
+    echo "$sum $(sha256sum <"$program")" >"$made_of"
 }
 
 # The kit's folder, found from where rt stands, as rt itself does.
