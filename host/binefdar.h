@@ -25,10 +25,12 @@
  *   - An input of more than BINEFDAR_LONGEST_INPUT bytes gives the single line `stop 2`.
  *
  * What it asks: `input` points to `input_length` readable bytes and `report` to `report_length` writable
- * ones, and the two do not overlap. A length of 0 is fine. It needs some 60 kB of stack. Calls from several
- * threads do not disturb each other, as long as their buffers differ.
+ * ones, and the two do not overlap. A length of 0 is fine. BINEFDAR_STACK bytes of stack are enough for every
+ * input. Calls from several threads do not disturb each other, as long as their buffers differ.
  *
- * It is compiled for x86-64 Linux, into the archive that `rt staticlib report` writes.
+ * `rt staticlib report` compiles it for x86-64 Linux, into the archive target/staticlib/libreport.a;
+ * scripts/archive.sh compiles it for the machine at hand, whichever it is, and prints the archive's path. The head
+ * of counter.c has the lines that build a program over it.
  */
 #ifndef BINEFDAR_H
 #define BINEFDAR_H
@@ -48,6 +50,10 @@ extern "C" {
 
 /* No report of such an input is longer (docs/DECISIONS.md, "How long a report gets"). */
 #define BINEFDAR_LONGEST_REPORT 2300000
+
+/* The stack that a call may need, in bytes, with room to spare: of the books that were tried 127 Ands or Ors, each
+ * inside the next, take the most, 74,096 bytes on x86-64 with what a thread itself takes. */
+#define BINEFDAR_STACK 131072
 
 uint64_t binefdar_report(const uint8_t *input, size_t input_length, uint8_t *report, size_t report_length);
 

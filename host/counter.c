@@ -1,4 +1,11 @@
-/* The counter: prints the report of a file, or of standard input. Its status is 0 if the report was printed. */
+/* The counter: prints the report of a file, or of standard input. Its status is 0 if the report was printed, 1 if reading,
+ * memory or printing failed, which is said, and 2 if it was called wrongly.
+ *
+ * To build it from the repository's root, on x86-64:
+ *     rt staticlib report && cc -O2 -Ihost -o target/counter host/counter.c target/staticlib/libreport.a
+ * and on any machine, with an archive that is compiled for it:
+ *     archive=$(scripts/archive.sh) && cc -O2 -Ihost -o target/counter host/counter.c "$archive"
+ */
 #include <errno.h>
 #include <stdio.h>
 #include <stdlib.h>
@@ -6,56 +13,29 @@
 
 #include "binefdar.h"
 
-enum { FIRST_ROOM = 4096 };
-
-/* Bytes that grow as they are read. */
-struct bytes {
-    uint8_t *at;
-    size_t length;
-    size_t room;
-};
+/* Where memory is short a smaller buffer may do, down to this. */
+enum { LEAST_ROOM = 4096 };
 
 static int fail(const char *what) {
     fprintf(stderr, "counter: %s: %s\n", what, strerror(errno));
     return 1;
 }
 
-static int grow(struct bytes *b, size_t room) {
-    uint8_t *at = realloc(b->at, room);
-    if (at == NULL) {
-        return 0;
-    }
-    b->at = at;
-    b->room = room;
-    return 1;
-}
-
-/* Reads to the end; a short read is followed by another. */
-static int read_all(FILE *from, struct bytes *input) {
-    for (;;) {
-        if (input->length == input->room && !grow(input, input->room ? 2 * input->room : FIRST_ROOM)) {
-            return 0;
-        }
-        size_t got = fread(input->at + input->length, 1, input->room - input->length, from);
-        input->length += got;
-        if (got == 0) {
-            return !ferror(from);
+/* The report, in the largest buffer that there is memory for: the first that is tried holds every report. */
+static uint8_t *report_of(const uint8_t *input, size_t input_length, uint64_t *length) {
+    for (size_t room = BINEFDAR_LONGEST_REPORT; room >= LEAST_ROOM; room /= 2) {
+        uint8_t *report = malloc(room);
+        if (report != NULL) {
+            *length = binefdar_report(input, input_length, report, room);
+            if (*length != BINEFDAR_TOO_SHORT) {
+                return report;
+            }
+            free(report);
+            break;
         }
     }
-}
-
-/* The report, in a buffer that is made larger until it fits. */
-static int report_of(const struct bytes *input, struct bytes *report) {
-    for (;;) {
-        if (!grow(report, report->room ? 2 * report->room : FIRST_ROOM)) {
-            return 0;
-        }
-        uint64_t length = binefdar_report(input->at, input->length, report->at, report->room);
-        if (length != BINEFDAR_TOO_SHORT) {
-            report->length = (size_t)length;
-            return 1;
-        }
-    }
+    errno = ENOMEM;
+    return NULL;
 }
 
 int main(int count, char **words) {
@@ -68,17 +48,20 @@ int main(int count, char **words) {
     if (from == NULL) {
         return fail(name);
     }
-    struct bytes input = {0}, report = {0};
-    if (!read_all(from, &input)) {
+    /* A byte more than the longest input is enough to see that an input is longer. */
+    static uint8_t input[BINEFDAR_LONGEST_INPUT + 1];
+    size_t input_length = fread(input, 1, sizeof input, from);
+    if (ferror(from)) {
         return fail(name);
     }
-    if (!report_of(&input, &report)) {
+    uint64_t length;
+    uint8_t *report = report_of(input, input_length, &length);
+    if (report == NULL) {
         return fail("memory");
     }
-    if (fwrite(report.at, 1, report.length, stdout) != report.length || fflush(stdout) != 0) {
+    if (fwrite(report, 1, length, stdout) != length || fflush(stdout) != 0) {
         return fail("standard output");
     }
-    free(input.at);
-    free(report.at);
-    return from == stdin ? 0 : fclose(from) == 0 ? 0 : fail(name);
+    free(report);
+    return from == stdin || fclose(from) == 0 ? 0 : fail(name);
 }

@@ -4,20 +4,14 @@
 # same with a clang that also keeps the module it is handed, and that module is then compiled for this machine: the same functions,
 # by the same compiler. No proof covers a compiler, on either machine.
 set -euo pipefail
-cd "$(dirname "$0")/.."
+unset CDPATH
+cd "$(dirname -- "$(readlink -f -- "$0")")/.."
 . scripts/kit.sh
 need_kit
+need_target
 machine=$(uname -m)
 made=$PWD/target/native
 archive=$made/libreport.a
-
-# A sum over all that the archive is made of.
-sources() {
-    {
-        rt version
-        find crates/*/src crates/*/specs crates/*/proofs crates.txt scripts -type f -exec sha256sum {} + | sort
-    } | sha256sum
-}
 
 # The kit, each file a link to its own, but for a clang that keeps the module.
 keeping_kit() { # FOLDER MODULE
@@ -59,10 +53,10 @@ make_archive() {
 
 sum=$(sources)
 if [ ! -f "$archive" ] || [ "$(cat "$made/sources" 2>/dev/null)" != "$sum" ]; then
-    echo "Proving the report and compiling its archive, once." >&2
+    echo "Proving the report and compiling its archive, since that was not done of these sources yet. It may take minutes." >&2
     rm -rf "$made"
     mkdir -p "$made"
-    make_archive >"$made/log" 2>&1 || { cat "$made/log" >&2; exit 1; }
+    make_archive 2>&1 | tee "$made/log" | show_progress || end 1 "There is no archive: $made/log has all that was said."
     echo "$sum" >"$made/sources"
 fi
 echo "$archive"

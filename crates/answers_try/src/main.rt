@@ -2,40 +2,30 @@
 // list is too short. A line shows the number that was handed back, and then the list; a record that was not stored is the one
 // that stood there before.
 ghost use Rattle.memory.specs.Kept.{Kept};
-use libc::STDOUT_FILENO;
 use oracle::Answer;
 use oracle::SIZE;
 use oracle::Verdict;
 
 const ROOM: usize = 4;
 
-fn show(n: u64) {
-    let mut scratch = [0u8; 20];
-    let digits = text::decimal(n, &mut scratch);
-    io::write_all(STDOUT_FILENO, digits);
-}
-
-fn bit(b: bool) -> u64 {
-    if b { 1 } else { 0 }
-}
-
 fn show_verdict(v: Verdict) {
     let early = v.early;
     let settled = v.settled;
-    io::write_all(STDOUT_FILENO, b" ");
-    show(bit(v.value));
-    show(oracle::digit(early) as u64);
-    show(oracle::digit(settled) as u64);
+    show::digits(
+        oracle::bit(v.value),
+        oracle::digit(early),
+        oracle::digit(settled),
+    );
 }
 
 fn show_list(number: u64, list: [Verdict; ROOM]) {
-    show(number);
+    show::number(number);
     let mut i = 0;
     while i < ROOM {
         show_verdict(list[i]);
         i += 1;
     }
-    io::write_all(STDOUT_FILENO, b"\n");
+    show::text(b"\n");
 }
 
 // Lends a list to be filled, and shows it. What lends a list of structs is walked by hand, so it does nothing else.
@@ -53,13 +43,13 @@ fn show_all(monitor: &[u64; SIZE])
 {
     let verdicts = oracle::all(monitor);
     let count = verdicts.count;
-    show(count as u64);
+    show::number(count as u64);
     let mut i = 0;
     while i < count {
         show_verdict(oracle::of_property(monitor, i));
         i += 1;
     }
-    io::write_all(STDOUT_FILENO, b"\n");
+    show::text(b"\n");
 }
 
 fn show_book(words: &[u64]) {

@@ -5,6 +5,8 @@ mod words;
 
 ghost use Rattle.cases.specs.Held.{Held};
 ghost use Rattle.memory.specs.Kept.{Kept};
+use numbers::LAST_TIME;
+use numbers::MAX;
 use oracle::ATOM;
 use oracle::FALSE;
 use oracle::HISTORICALLY;
@@ -15,15 +17,9 @@ use oracle::SIZE;
 use oracle::TRUE;
 use play::load;
 use play::state;
-use play::text;
 use play::time;
+use show::text;
 use words::Words;
-
-// Unbounded.
-const MAX: u64 = 0xffff_ffff_ffff_ffff;
-
-// The last time that a call may set.
-const H: u64 = 0x7fff_ffff_ffff_ffff;
 
 // A run at every second instant from 0 up to this one makes a full set.
 const FULL: u64 = 126;
@@ -103,8 +99,8 @@ fn last_time() {
     let mut monitor = [0u64; SIZE];
     load(&mut monitor, now_or_never());
     state(&mut monitor, &[1]);
-    time(&mut monitor, H);
-    time(&mut monitor, H + 1);
+    time(&mut monitor, LAST_TIME);
+    time(&mut monitor, LAST_TIME + 1);
     state(&mut monitor, &[0]);
 }
 
@@ -135,7 +131,7 @@ fn refusals(monitor: &mut [u64; SIZE])
     ensures { λ _. ⌜ Kept (now (monitor .exit)) ⌝ }
 {
     time(monitor, 4);
-    time(monitor, H + 1);
+    time(monitor, LAST_TIME + 1);
     play::wide_state(monitor);
     state(monitor, &[0]);
     state(monitor, &[0, 2]);

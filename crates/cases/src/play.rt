@@ -1,31 +1,25 @@
 // A call, the number that it handed back and the answers of every property, on one line.
 use crate::words::Words;
-use libc::STDOUT_FILENO;
+use numbers::MOST_ATOMS;
 use oracle::SIZE;
 use oracle::Verdict;
+use show::number;
+use show::text;
 ghost use Rattle.cases.specs.Held.{Held};
 ghost use Rattle.memory.specs.Kept.{Kept};
 
 // The widest state, with one byte more.
-const TOO_WIDE: usize = 257;
-
-pub fn text(bytes: &[u8]) {
-    io::write_all(STDOUT_FILENO, bytes);
-}
-
-fn number(n: u64) {
-    io::print_decimal(STDOUT_FILENO, n);
-}
+const TOO_WIDE: usize = MOST_ATOMS + 1;
 
 // Value, early and settled.
 fn verdict(v: Verdict) {
-    let value = v.value;
     let early = v.early;
     let settled = v.settled;
-    text(b" ");
-    number(oracle::bit(value) as u64);
-    number(oracle::digit(early) as u64);
-    number(oracle::digit(settled) as u64);
+    show::digits(
+        oracle::bit(v.value),
+        oracle::digit(early),
+        oracle::digit(settled),
+    );
 }
 
 fn outcome(refusal: u64, monitor: &[u64; SIZE])

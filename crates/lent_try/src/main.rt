@@ -1,41 +1,16 @@
 // Additions to a set that is lent, printed and compared with a stored output: P1 to P5, and a full set.
-use libc::STDOUT_FILENO;
 use numbers::MOST_RUNS;
 use numset::Added;
 use numset::NumSet;
+use show::interval;
+use show::number;
+use show::runs;
+use show::text;
+ghost use Prim.Native.Nat.{_<_, _≤_};
 ghost use Rattle.numset.specs.Runs.{Good};
 
 // As many runs as a set by value has room for.
 const FULL: u64 = MOST_RUNS as u64;
-
-fn text(bytes: &[u8]) {
-    io::write_all(STDOUT_FILENO, bytes);
-}
-
-fn interval(lower: u64, upper: u64) {
-    text(b"[");
-    io::print_decimal(STDOUT_FILENO, lower);
-    text(b",");
-    io::print_decimal(STDOUT_FILENO, upper);
-    text(b"]");
-}
-
-// The runs of a set, the oldest first.
-fn runs(words: &[u64])
-    requires { ⌜ Good (now words) ⌝ }
-{
-    let n = words[0] as usize;
-    let mut j = 0;
-    text(b"{");
-    while j < n {
-        if 0 < j {
-            text(b",");
-        }
-        interval(words[2 * j + 1], words[2 * j + 2]);
-        j += 1;
-    }
-    text(b"}\n");
-}
 
 // The addition itself, of which only this is needed here: it gives a set again.
 fn added(set: NumSet, lower: u64, upper: u64) -> Added
@@ -56,7 +31,7 @@ fn add(set: NumSet, lower: u64, upper: u64) -> NumSet
     text(b"  add ");
     interval(lower, upper);
     text(b": ");
-    io::print_decimal(STDOUT_FILENO, sum.number);
+    number(sum.number);
     text(b" ");
     runs(&words);
     after

@@ -1,24 +1,18 @@
 // Loads a book from each line of the input, and shows the number that it is answered with. A line that begins with # is shown as it is.
 ghost use Prim.Native.Nat.{_≤_};
 ghost use lib.ListN.{length};
-use libc::STDIN_FILENO;
-use libc::STDOUT_FILENO;
+use console::Came;
+use numbers::LONGEST_INPUT;
+use numbers::MAX;
 use oracle::SIZE;
+use show::number;
 use text::Read;
-
-const MOST_BYTES: usize = 65536;
 
 // More than the words of the longest book, so that words left over are seen.
 const MOST_WORDS: usize = 1024;
 
 // What stands in a memory before a book is loaded into it.
-const UNKNOWN: u64 = 0xffff_ffff_ffff_ffff;
-
-fn show(n: u64) {
-    let mut scratch = [0u8; 20];
-    let digits = text::decimal(n, &mut scratch);
-    io::write_all(STDOUT_FILENO, digits);
-}
+const UNKNOWN: u64 = MAX;
 
 // Where the line ends that a place stands in.
 fn line_end(input: &[u8], from: usize) -> usize
@@ -63,11 +57,11 @@ fn number_of(line: &[u8]) -> u64 {
 
 fn show_line(line: &[u8]) {
     if line.len() > 0 && line[0] == b'#' {
-        io::write_all(STDOUT_FILENO, line);
+        show::text(line);
     } else {
-        show(number_of(line));
+        number(number_of(line));
     }
-    io::write_all(STDOUT_FILENO, b"\n");
+    show::text(b"\n");
 }
 
 fn show_lines(input: &[u8]) {
@@ -80,7 +74,10 @@ fn show_lines(input: &[u8]) {
 }
 
 fn main() {
-    let mut input = [0u8; MOST_BYTES];
-    let count = io::read_full(STDIN_FILENO, &mut input);
+    let mut input = [0u8; LONGEST_INPUT];
+    let came = console::read_all(&mut input);
+    let Came::Bytes(count) = came else {
+        return;
+    };
     show_lines(&input[..count]);
 }

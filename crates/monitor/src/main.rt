@@ -1,85 +1,73 @@
 // Reads standard input and prints its report.
-ghost use lib.ListN.{length};
-ghost use Rattle.monitor.specs.Input.{Within};
+use console::Came;
+use numbers::LONGEST_INPUT;
 
 // A byte more than the longest input that is read, so that a longer one is seen to be longer.
-const ROOM: usize = 65537;
+const ROOM: usize = LONGEST_INPUT + 1;
+
+// Most reports fit into as much.
+const SHORT_REPORT: usize = 65536;
 
 // No report is longer: 65,536 bytes hold at most 16,384 calls, and a call's line has at most 137 bytes.
 const LONGEST_REPORT: usize = 2300000;
 
-// What came of reading: so many bytes, none at the end of the input; or a read that failed.
-pub enum Came {
-    Bytes(usize),
-    Failed,
-}
+// An input so long has a short report: it holds at most 475 calls.
+const SHORT_INPUT: usize = 1900;
 
-// Reads once. Where that fails it says so on standard error.
-fn read_some(room: &mut [u8]) -> Came
-    ensures { λ r. ⌜ Within (length (now (room .entry))) r ⌝ }
-{
-    let got = libc::read(libc::STDIN_FILENO, room);
-    if got < 0 {
-        os::fail(b"standard input");
-        return Came::Failed;
-    }
-    Came::Bytes(io::count(got, room))
-}
+// The rooms for a report.
+const SHORT: u64 = 0;
 
-// Reads until the input ends or `input` is full.
-fn fill(input: &mut [u8]) -> Came
-    ensures { λ r. ⌜ Within (length (now (input .entry))) r ⌝ }
-{
-    let mut n = 0;
-    while n < input.len() {
-        let came = read_some(&mut input[n..]);
-        let Came::Bytes(k) = came else {
-            return Came::Failed;
-        };
-        if k == 0 {
-            return Came::Bytes(n);
-        }
-        n += k;
-    }
-    Came::Bytes(n)
-}
+const LONG: u64 = 1;
 
-// Reads what is left of an input that is too long, so that whoever writes it can finish. A proved loop has to end: it
-// counts its turns down from a number that no run uses up.
-fn drain() {
-    let mut room = io::buffer();
-    let mut turns: u64 = 0xffff_ffff_ffff_ffff;
-    while 0 < turns {
-        let came = read_some(&mut room);
-        let Came::Bytes(k) = came else {
-            return;
-        };
-        if k == 0 {
-            return;
-        }
-        turns -= 1;
+// The largest room that the report of an input can need.
+fn largest_room(input: &[u8]) -> u64 {
+    if input.len() <= SHORT_INPUT {
+        SHORT
+    } else {
+        LONG
     }
 }
 
-fn show(input: &[u8], out: &mut [u8]) {
+// Prints the report if it fits into `out`, and answers whether it did.
+fn shown(input: &[u8], out: &mut [u8]) -> bool {
     let length = report::binefdar_report(input, out) as usize;
     if out.len() < length {
-        return;
+        return false;
     }
-    if !io::write_all(libc::STDOUT_FILENO, &out[..length]) {
-        os::fail(b"standard output");
+    console::print(&out[..length]);
+    true
+}
+
+fn show_short(input: &[u8]) -> bool {
+    let mut out = [0u8; SHORT_REPORT];
+    shown(input, &mut out)
+}
+
+fn show_long(input: &[u8]) -> bool {
+    let mut out = [0u8; LONGEST_REPORT];
+    shown(input, &mut out)
+}
+
+// Prints the report, in the smallest of the rooms up to `room` that holds it, and answers whether one did. It calls
+// itself, so the compiler leaves the long room in a frame of its own, which is made only where it is needed.
+fn show(input: &[u8], room: u64) -> bool {
+    if room == SHORT {
+        return show_short(input);
+    }
+    show(input, room - 1) || show_long(input)
+}
+
+fn show_report(input: &[u8]) {
+    if !show(input, largest_room(input)) {
+        console::complain(b"No room holds the report.");
     }
 }
 
 fn main() {
     let mut input = [0u8; ROOM];
-    let came = fill(&mut input);
+    let came = console::read_all(&mut input);
     let Came::Bytes(n) = came else {
         return;
     };
-    if n == ROOM {
-        drain();
-    }
-    let mut out = [0u8; LONGEST_REPORT];
-    show(&input[..n], &mut out);
+    show_report(&input[..n]);
 }

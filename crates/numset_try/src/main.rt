@@ -17,7 +17,7 @@ use print::ask_value;
 use print::clear;
 use print::set_to;
 use print::tally;
-use print::text;
+use show::text;
 ghost use Prim.Native.Nat.{_<_};
 ghost use lib.ListN.{length};
 ghost use Rattle.numset.specs.Runs.{Good};

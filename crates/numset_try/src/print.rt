@@ -1,28 +1,11 @@
 // A call, and what it gave, on one line.
-use libc::STDOUT_FILENO;
-use numbers::MAX;
 use numset::NumSet;
+use show::instant;
+use show::interval;
+use show::runs;
+use show::text;
+ghost use Prim.Native.Nat.{_<_, _≤_};
 ghost use Rattle.numset.specs.Runs.{Good};
-
-pub fn text(bytes: &[u8]) {
-    io::write_all(STDOUT_FILENO, bytes);
-}
-
-fn instant(t: u64) {
-    if t == MAX {
-        text(b"MAX");
-        return;
-    }
-    io::print_decimal(STDOUT_FILENO, t);
-}
-
-fn interval(lower: u64, upper: u64) {
-    text(b"[");
-    instant(lower);
-    text(b",");
-    instant(upper);
-    text(b"]");
-}
 
 fn answer(yes: bool) {
     if yes {
@@ -30,23 +13,6 @@ fn answer(yes: bool) {
         return;
     }
     text(b": no\n");
-}
-
-// The runs of a set, the oldest first.
-fn runs(set: &[u64])
-    requires { ⌜ Good (now set) ⌝ }
-{
-    let n = set[0] as usize;
-    let mut j = 0;
-    text(b"{");
-    while j < n {
-        if 0 < j {
-            text(b",");
-        }
-        interval(set[2 * j + 1], set[2 * j + 2]);
-        j += 1;
-    }
-    text(b"}\n");
 }
 
 fn result(number: u64, set: &[u64])

@@ -1,6 +1,5 @@
 // Prints the reports of recorded inputs. Each stands on standard input after its length, in decimal, and a line feed.
-use libc::STDIN_FILENO;
-use libc::STDOUT_FILENO;
+use console::Came;
 use text::Read;
 
 // More than all inputs together, and more than any report of them.
@@ -13,7 +12,7 @@ fn show(input: &[u8]) {
     if ROOM < length {
         return;
     }
-    io::write_all(STDOUT_FILENO, &out[..length]);
+    console::print(&out[..length]);
 }
 
 // One input after the other, up to the end or to one that is cut short.
@@ -40,6 +39,9 @@ fn show_all(inputs: &[u8]) {
 
 fn main() {
     let mut inputs = [0u8; ROOM];
-    let count = io::read_full(STDIN_FILENO, &mut inputs);
+    let came = console::read_all(&mut inputs);
+    let Came::Bytes(count) = came else {
+        return;
+    };
     show_all(&inputs[..count]);
 }

@@ -1,25 +1,19 @@
 // Shows what the reader of words gives and what the writer of numbers leaves, for texts and scratches at the limits.
-use libc::STDOUT_FILENO;
 use numbers::MAX;
+use show::number;
 use text::Read;
 
-fn show(n: u64) {
-    let mut scratch = [0u8; 20];
-    let digits = text::decimal(n, &mut scratch);
-    io::write_all(STDOUT_FILENO, digits);
-}
-
 fn show_word(w: u64, next: usize) {
-    show(w);
-    io::write_all(STDOUT_FILENO, b" to ");
-    show(next as u64);
-    io::write_all(STDOUT_FILENO, b", ");
+    number(w);
+    show::text(b" to ");
+    number(next as u64);
+    show::text(b", ");
 }
 
-fn show_end(number: u64) {
-    io::write_all(STDOUT_FILENO, b"ends ");
-    show(number);
-    io::write_all(STDOUT_FILENO, b"\n");
+fn show_end(refusal: u64) {
+    show::text(b"ends ");
+    number(refusal);
+    show::text(b"\n");
 }
 
 // Each word with the place after it, and then the number that ends the reading.
@@ -42,12 +36,12 @@ fn show_words(input: &[u8]) {
 
 // The part with the digits, and then the whole scratch.
 fn show_part(n: u64, scratch: &mut [u8]) {
-    io::write_all(STDOUT_FILENO, b"<");
+    show::text(b"<");
     let digits = text::decimal(n, scratch);
-    io::write_all(STDOUT_FILENO, digits);
-    io::write_all(STDOUT_FILENO, b"> of <");
-    io::write_all(STDOUT_FILENO, scratch);
-    io::write_all(STDOUT_FILENO, b">\n");
+    show::text(digits);
+    show::text(b"> of <");
+    show::text(scratch);
+    show::text(b">\n");
 }
 
 fn show_parts(n: u64) {

@@ -1,19 +1,17 @@
--- `monitor::main` is safe and ends. Assumes nothing.
-use Prim.Native.Nat.{ℕ}
+-- What was read lies within its room, so its bytes can be lent.
 use mathlib.Core.Path.{sym}
 use lib.Seq.{length-take-le}
-use lib.ListN.{length-replicate}
 use native.Mathlib.Omega.{arith}
-use Rattle.monitor.proofs.Bounds.{within}
+use Rattle.console.proofs.Bounds.{within}
 use borrow.Author.Needs.{needs}
 use Rattle.monitor.proofs.main.Statement.{statement}
 use Rattle.monitor.proofs.main.Tie as tie
 
-slice-aggregate-fill : tie.Need-slice-aggregate-fill
-slice-aggregate-fill c = search needs
+slice-aggregate-read-all : tie.Need-slice-aggregate-read-all
+slice-aggregate-read-all c = search needs
 
-fill-requires : tie.Need-fill-requires
-fill-requires c κs = search needs
+read-all-requires : tie.Need-read-all-requires
+read-all-requires c κs = search needs
 
 enum-known-came : tie.Need-enum-known-came
 enum-known-came c = search needs
@@ -24,20 +22,14 @@ enum-told c = search needs
 returns : tie.Need-returns
 returns c = search needs
 
-drain-requires : tie.Need-drain-requires
-drain-requires c κs = search needs
-
 array-share-prefix-input : tie.Need-array-share-prefix-input
-array-share-prefix-input c = omega (arith, within (c .before .before .before .before .before .fill .ensures) (c .before .before .came .given .1))
+array-share-prefix-input c = omega (arith, within (c .before .before .before .before .read-all .ensures) (c .before .came .given .1))
 
-slice-aggregate-show : tie.Need-slice-aggregate-show
-slice-aggregate-show c = sym (length-take-le _ _ (omega (arith, within (c .before .before .before .before .before .before .fill .ensures) (c .before .before .before .came .given .1), c .before .before .before .before .before .before .fill .kept .0)))
+slice-aggregate-show-report : tie.Need-slice-aggregate-show-report
+slice-aggregate-show-report c = sym (length-take-le _ _ (omega (arith, within (c .before .before .before .before .before .read-all .ensures) (c .before .before .came .given .1), c .before .before .before .before .before .read-all .kept .0)))
 
-slice-aggregate-show-2 : tie.Need-slice-aggregate-show-2
-slice-aggregate-show-2 c = sym (length-replicate {0} {A = ℕ} 2300000 0)
-
-show-requires : tie.Need-show-requires
-show-requires c κs = search needs
+show-report-requires : tie.Need-show-report-requires
+show-report-requires c κs = search needs
 
 returns-2 : tie.Need-returns-2
 returns-2 c = search needs
@@ -46,14 +38,12 @@ pub main-spec : {M : Type 1} → statement M
 main-spec =
     tie.close
     (tie.spec
-    slice-aggregate-fill
-    fill-requires
+    slice-aggregate-read-all
+    read-all-requires
     enum-known-came
     enum-told
     returns
-    drain-requires
     array-share-prefix-input
-    slice-aggregate-show
-    slice-aggregate-show-2
-    show-requires
+    slice-aggregate-show-report
+    show-report-requires
     returns-2)

@@ -18,11 +18,11 @@ returns c = search needs
 array-share-prefix-out : tie.Need-array-share-prefix-out
 array-share-prefix-out c = search needs
 
-slice-aggregate-write-all : tie.Need-slice-aggregate-write-all
-slice-aggregate-write-all c = let k = c .before .before .before .binefdar-report .kept in sym (length-take-le _ _ (omega (arith, c .before .if1 .left)))
+slice-aggregate-print : tie.Need-slice-aggregate-print
+slice-aggregate-print c = let k = c .before .before .before .binefdar-report .kept in sym (length-take-le _ _ (omega (arith, c .before .if1 .left)))
 
-write-all-requires : tie.Need-write-all-requires
-write-all-requires c κs = search needs
+print-requires : tie.Need-print-requires
+print-requires c κs = search needs
 
 returns-2 : tie.Need-returns-2
 returns-2 c = search needs
@@ -35,6 +35,6 @@ show-spec =
     binefdar-report-requires
     returns
     array-share-prefix-out
-    slice-aggregate-write-all
-    write-all-requires
+    slice-aggregate-print
+    print-requires
     returns-2)

@@ -1,10 +1,10 @@
--- `numset_try::print::runs` is safe and ends. The loop's invariant stands first. Assumes nothing.
+-- Each run that is printed lies within the set.
 use lib.ListN.{getD}
 use mathlib.Core.Path.{_≡_}
 use Prim.Native.Nat.{_≤_, _-_}
 use borrow.Author.Needs.{needs}
-use Rattle.numset_try.proofs.print.runs.Statement.{statement}
-use Rattle.numset_try.proofs.print.runs.Tie as tie
+use Rattle.show.proofs.runs.Statement.{statement}
+use Rattle.show.proofs.runs.Tie as tie
 
 abbrev Inv-loop : tie.InvT-loop
 Inv-loop set n j₀ t5 t6 j = (j ≤ n) × (n ≡ getD set 0 0)

@@ -5,9 +5,9 @@ use mathlib.Core.List.{List}
 use native.Mathlib.Omega.{arith}
 use lib.ListN.{length, take, drop}
 use borrow.Rule.Slice.PartMut.{mid-len}
-use Rattle.monitor.specs.declared.Came.{Came}
-use Rattle.monitor.specs.declared.Came.the-variants.{Bytes}
-use Rattle.monitor.specs.Input.{Within}
+use Rattle.console.specs.declared.Came.{Came}
+use Rattle.console.specs.declared.Came.the-variants.{Bytes}
+use Rattle.console.specs.Input.{Within}
 
 pub within : {room k : ℕ} {r : Came} → Within room r → r ≡ Bytes k → k ≤ room
 within h e = rw e at h

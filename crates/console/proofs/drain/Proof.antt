@@ -1,9 +1,9 @@
--- `monitor::drain` is safe and ends. The loop's invariant stands first. Assumes nothing.
+-- The turns are counted down, so reading the rest ends.
 use lib.ListN.{length}
 use mathlib.Core.Path.{_≡_}
 use borrow.Author.Needs.{needs}
-use Rattle.monitor.proofs.drain.Statement.{statement}
-use Rattle.monitor.proofs.drain.Tie as tie
+use Rattle.console.proofs.drain.Statement.{statement}
+use Rattle.console.proofs.drain.Tie as tie
 
 abbrev Inv-loop : tie.InvT-loop
 Inv-loop room₀ turns₀ room turns = 4096 ≡ length room

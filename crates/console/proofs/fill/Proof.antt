@@ -1,13 +1,13 @@
--- `monitor::fill` is safe and ends. The loop's invariant stands first. Assumes nothing.
+-- Never more is read than there is room for.
 use borrow.Rule.Slice.PartMut.{same-len-mid}
 use native.Mathlib.Omega.{arith}
-use Rattle.monitor.proofs.Bounds.{further}
+use Rattle.console.proofs.Bounds.{further}
 use lib.ListN.{length}
 use mathlib.Core.Path.{_≡_, _∙_}
 use Prim.Native.Nat.{_-_, _≤_}
 use borrow.Author.Needs.{needs}
-use Rattle.monitor.proofs.fill.Statement.{statement}
-use Rattle.monitor.proofs.fill.Tie as tie
+use Rattle.console.proofs.fill.Statement.{statement}
+use Rattle.console.proofs.fill.Tie as tie
 
 abbrev Inv-loop : tie.InvT-loop
 Inv-loop input₀ n₀ input n = (length input ≡ length input₀) × (n ≤ length input₀)

@@ -1,0 +1,43 @@
+-- Only a report that fits is printed, so its length lies within the room.
+use mathlib.Core.Path.{sym}
+use lib.Seq.{length-take-le}
+use borrow.Author.Needs.{needs}
+use Rattle.monitor.proofs.shown.Statement.{statement}
+use Rattle.monitor.proofs.shown.Tie as tie
+
+binefdar-report-requires : tie.Need-binefdar-report-requires
+binefdar-report-requires c κs = search needs
+
+same-length : tie.Need-same-length
+same-length c = search needs
+
+returns : tie.Need-returns
+returns c = search needs
+
+slice-reshare-prefix-print : tie.Need-slice-reshare-prefix-print
+slice-reshare-prefix-print c = search needs
+
+slice-aggregate-print : tie.Need-slice-aggregate-print
+slice-aggregate-print c = sym (length-take-le _ _ (c .before .if1 .left))
+
+print-requires : tie.Need-print-requires
+print-requires c κs = search needs
+
+same-length-2 : tie.Need-same-length-2
+same-length-2 c = search needs
+
+returns-2 : tie.Need-returns-2
+returns-2 c = search needs
+
+pub shown-spec : {M : Type 1} → statement M
+shown-spec =
+    tie.close
+    (tie.spec
+    binefdar-report-requires
+    same-length
+    returns
+    slice-reshare-prefix-print
+    slice-aggregate-print
+    print-requires
+    same-length-2
+    returns-2)
