@@ -418,7 +418,7 @@ fn tally(uses: &[u64], times: &mut [u8; MOST_ROWS])
 
 // Refuses rows that are not used exactly once.
 fn once_number(times: &[u8; MOST_ROWS], count: usize) -> u64
-    requires { ⌜ (length (now times) ≡ 128) × (count ≤ 128) ⌝ }
+    requires { ⌜ (length (now times) ≡ MOST-ROWS) × (count ≤ MOST-ROWS) ⌝ }
     ensures { λ r. ⌜ r ≡ numberUnless WRONG-USE (allTo (λ row. eqb (getD (now (times .entry)) row 0) 1) count) ⌝ }
 {
     let mut row = 0;
