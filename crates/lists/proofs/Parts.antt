@@ -3,9 +3,11 @@ use Prim.Native.Nat.{ℕ, _+_, _-_, _≤_, _<_}
 use mathlib.Core.Path.{_≡_, sym, ap, _∙_}
 use mathlib.Core.List.{List}
 use native.Mathlib.Omega.{arith}
-use lib.ListN.{length, getD, take, drop, replicate, length-take, length-drop, length-replicate, getD-replicate}
+use lib.ListN.{length, getD, take, drop, replicate, length-take, length-drop, length-replicate, getD-replicate, List·getD-eq-default}
 use lib.Seq.{ext-getD, getD-take, getD-drop}
+use mathlib.Core.Logic.{⊎-elim}
 use Rattle.lists.specs.Lists.{part}
+use Rattle.lists.proofs.Tests.{lt-or-ge}
 
 -- the same place, written otherwise
 pub word-at : (m : List ℕ) (i j : ℕ) → i ≡ j → getD m i 0 ≡ getD m j 0
@@ -36,3 +38,7 @@ part-zeros a n m h f =
 -- from a up to e, which is n words on
 pub part-to : (a e n : ℕ) (m : List ℕ) → e ≡ a + n → take (e - a) (drop a m) ≡ part a n m
 part-to a e n m h = let k : e - a ≡ n = omega arith in rw k
+
+-- ---- words of zeros
+pub getD-zeros : (n i : ℕ) → _≡_ {A = ℕ} (getD (replicate n 0) i 0) 0
+getD-zeros n i = ⊎-elim (λ h. getD-replicate n i 0 0 h) (λ h. List·getD-eq-default (replicate n 0) 0 (rw length-replicate h)) (lt-or-ge i n)

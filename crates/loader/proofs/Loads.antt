@@ -3,7 +3,7 @@ use Prim.Native.Nat.{ℕ}
 use mathlib.Core.Path.{_≡_, ap, _∙_}
 use mathlib.Core.List.{List}
 use lib.ListN.{replicate, length-replicate}
-use Rattle.numset.proofs.Packs.{getD-zeros}
+use Rattle.lists.proofs.Parts.{getD-zeros}
 use Rattle.memory.specs.Layout.{SIZE}
 use Rattle.book.specs.Placing.{partsOf, Placed}
 use Rattle.book.proofs.Placing.{parts-few, accepted, accepted-book, refused-book}

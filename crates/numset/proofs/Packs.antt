@@ -1,13 +1,12 @@
 -- Words and the set that they hold: `pack` holds its runs, and good words are the `pack` of theirs. Assumes nothing.
 use Prim.Native.Nat.{ℕ, zero, suc, _+_, _*_, _-_, _^_, _≤_, _<_}
 use mathlib.Core.Path.{_≡_, refl, sym, ap, ap₂, _∙_}
-use mathlib.Core.Logic.{⊎-elim}
 use mathlib.Core.List.{List, [], _∷_, _++_, append-assoc}
 use native.Mathlib.Omega.{arith}
-use lib.ListN.{length, getD, take, drop, replicate, take-append-drop, length-append, length-drop, length-replicate, getD-replicate, List·getD-eq-default}
+use lib.ListN.{length, getD, take, drop, replicate, take-append-drop, length-append, length-drop, length-replicate, getD-replicate}
 use lib.Seq.{take-suc, ext-getD, getD-drop, getD-append-add, getD-at}
 use Rattle.numset.specs.Runs.{run, Runs, lo, hi, runsTo, runs, Under, Good, has, words, pack}
-use Rattle.lists.proofs.Tests.{lt-or-ge}
+use Rattle.lists.proofs.Parts.{getD-zeros}
 use Rattle.numset.proofs.Laws.{good-canonical}
 use Rattle.numset.proofs.Unique.{unique}
 use Rattle.numset.proofs.Words.{at, length-runs}
@@ -41,9 +40,6 @@ length-pack n rs h =
 pub runs-pack : (n : ℕ) (rs : Runs) → runs (pack n rs) ≡ rs
 unfolding pack
 runs-pack n rs = runs-words (length rs) rs _
-
-pub getD-zeros : (n i : ℕ) → _≡_ {A = ℕ} (getD (replicate n 0) i 0) 0
-getD-zeros n i = ⊎-elim (λ h. getD-replicate n i 0 0 h) (λ h. List·getD-eq-default (replicate n 0) 0 (rw length-replicate h)) (lt-or-ge i n)
 
 pub good-pack : (n : ℕ) (rs : Runs) → 2 * length rs < n → Under (2 ^ 64 + 1) rs → Good (pack n rs)
 unfolding pack

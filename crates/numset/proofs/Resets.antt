@@ -11,7 +11,8 @@ use Rattle.numset.specs.Runs.{runs, Good, union, pack, addNumber, addWor
 use Rattle.numset.specs.Private.{Cleared}
 use Rattle.lists.proofs.Tests.{lt-or-ge}
 use Rattle.numset.proofs.Union.{union-none}
-use Rattle.numset.proofs.Packs.{getD-zeros, length-pack, runs-pack, zeros-pack, good-zeros}
+use Rattle.numset.proofs.Packs.{length-pack, runs-pack, zeros-pack, good-zeros}
+use Rattle.lists.proofs.Parts.{getD-zeros}
 use Rattle.numset.proofs.Changes.{added-room, added-words, one-lacks, one-room, set-full, set-room, set-words, set-same}
 
 pub wiped : {m m′ : List ℕ} {n : ℕ} → Cleared m m′ 0 n → length m′ ≡ length m → ((i : ℕ) → n ≤ i → i < length m → getD m i 0 ≡ 0) → m′ ≡ replicate (length m) 0
