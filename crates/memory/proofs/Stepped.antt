@@ -1,5 +1,4 @@
--- What a call may change of a kept memory: whether one was accepted, the clock, the atoms that the book names, and the sets in use. It is kept
--- again, and holds the same book. Assumes nothing.
+-- Where only what a call may change is changed (the clock, the atoms named, the sets in use), the memory is kept and holds the same book. Assumes nothing.
 use Prim.Native.Nat.{ℕ, zero, suc, _+_, _*_, _≤_, _<_}
 use mathlib.Core.Path.{_≡_, refl, sym, ap, _∙_}
 use mathlib.Core.Logic.{_⊎_, inl, inr}

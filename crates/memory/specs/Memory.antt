@@ -10,6 +10,7 @@ use Rattle.numset.specs.Runs.{Runs, runs}
 use Rattle.pmtl.specs.Book.{Range, Row, Rows, Book}
 use Rattle.pmtl.specs.Monitor.{State}
 use Rattle.book.specs.Rows.{rowFrom, temporal}
+use Rattle.memory.specs.declared.RowWords.{RowWords}
 use Rattle.memory.specs.Layout.{ROW-COUNT, BEGUN, CLOCK, WIDTH, TEMPORALS, ASSUMES, GUARANTEES, ROWS, ROW, OPERANDS, PROPERTIES, ATOMS, OWNERS, SETS, SET}
 
 -- ---- words read off a memory
@@ -51,6 +52,10 @@ startAt m r = getD m (ROWS + ROW * r + 4) 0
 
 abbrev pub slotAt : List ℕ → ℕ → ℕ
 slotAt m r = getD m (ROWS + ROW * r + 5) 0
+
+-- those that a row's answer is made from
+abbrev pub wordsAt : List ℕ → ℕ → RowWords
+wordsAt m r = record { kind = kindAt m r; arg = argAt m r; lower = lowerAt m r; start = startAt m r }
 
 abbrev pub operandsOf : List ℕ → List ℕ
 operandsOf m = part OPERANDS MOST-OPERANDS m

@@ -4,7 +4,7 @@ ghost use Prim.Native.Nat.{_<_};
 ghost use lib.ListN.{getD};
 ghost use Rattle.numbers.specs.Limits.{MOST-ROWS, MOST-OPERANDS, MOST-TEMPORALS};
 ghost use Rattle.memory.specs.Layout.{SIZE};
-ghost use Rattle.memory.specs.Memory.{begunWord, clockOf, widthWord, temporals, assumeCount, guaranteeCount, kindAt, argAt, lowerAt, upperAt, startAt, operandAt, ownerAt, atomsOf, slotWords};
+ghost use Rattle.memory.specs.Memory.{begunWord, clockOf, widthWord, temporals, assumeCount, guaranteeCount, kindAt, argAt, lowerAt, upperAt, startAt, wordsAt, operandAt, ownerAt, atomsOf, slotWords};
 ghost use Rattle.memory.specs.Kept.{Kept};
 use numbers::MOST_ATOMS;
 use numbers::MOST_OPERANDS;
@@ -146,6 +146,27 @@ pub fn start_at(monitor: &[u64; SIZE], row: usize) -> usize
     ensures { λ r. ⌜ r ≡ startAt (now (monitor .entry)) row ⌝ }
 {
     monitor[ROWS + ROW * row + START] as usize
+}
+
+// What a row's answer is made from, besides its operands' answers and its set.
+pub struct RowWords {
+    pub kind: u64,
+    pub arg: usize,
+    pub lower: u64,
+    pub start: usize,
+}
+
+// A row's words, read once and by name.
+pub fn row_at(monitor: &[u64; SIZE], row: usize) -> RowWords
+    requires { ⌜ row < MOST-ROWS ⌝ }
+    ensures { λ r. ⌜ r ≡ wordsAt (now (monitor .entry)) row ⌝ }
+{
+    RowWords {
+        kind: kind_at(monitor, row),
+        arg: arg_at(monitor, row),
+        lower: lower_at(monitor, row),
+        start: start_at(monitor, row),
+    }
 }
 
 // The operand at a place of the operand section.

@@ -18,13 +18,14 @@ use Rattle.numset.proofs.Laws.{good-canonical}
 use Rattle.numset.proofs.Covering.{covers-test}
 use Rattle.pmtl.specs.declared.Answer.{Answer}
 use Rattle.pmtl.specs.Answer.{bitOf, digitOf}
+use Rattle.pmtl.specs.Book.{Book}
 use Rattle.pmtl.specs.Sets.{gone}
 use Rattle.pmtl.specs.Monitor.{setAt, value}
 use Rattle.lists.proofs.Tests.{and-left, and-right}
 use Rattle.memory.specs.Layout.{PROPERTIES}
 use Rattle.memory.specs.Memory.{rowCount, assumeCount, guaranteeCount, begunWord, clockOf, temporals, kindAt, slotAt, ownerAt, slotWords, bookOf, stateOf, isOne, atomsOf}
-use Rattle.row_answers.specs.Facts.{hereIn, coversIn, goneIn, outputOf, valuationOf, settledOf, Here}
-use Rattle.row_answers.proofs.Facts.{fact-covers, fact-gone, facts-value, facts-early, facts-settled}
+use Rattle.row_answers.specs.Facts.{hereIn, coversIn, goneIn, outputOf, valuationOf, settledOf, CoversNotGone, Here}
+use Rattle.row_answers.proofs.Facts.{fact-covers, fact-gone, fact-apart, apart-set, facts-value, facts-early, facts-settled}
 use Rattle.memory.specs.Kept.{Kept}
 use Rattle.property_answers.specs.Verdict.{propertyAt, verdictIn, verdictOf, propertiesIn}
 use Rattle.lists.specs.Lists.{filledTo}
@@ -89,6 +90,16 @@ retold-at {m} kept told long (suc n) most j h = go (ℕ-discrete j n) (λ (l : j
         let l : j < n = omega arith in
         let apart = kept .book .ascends j n l (omega arith) in
         getD-set-other (retold m told n) (ownerAt m n) (ownerAt m j) (toldOf m n) 0 (λ same. omega arith) ∙ below l
+
+-- what they are told can be
+pub retold-apart : {m : List ℕ} → Kept m → (told : List ℕ) → length told ≡ 128 → CoversNotGone told → (n : ℕ) → n ≤ temporals m → CoversNotGone (retold m told n)
+unfolding retold
+retold-apart kept told long apart zero most = apart
+retold-apart {m} kept told long apart (suc n) most =
+    let e = retold-length m told n in
+    let o = kept .book .owned n (omega arith) in
+    let few = kept .book .few in
+    apart-set (retold m told n) (ownerAt m n) (toldOf m n) (retold-apart kept told long apart n (omega arith)) (omega arith) (fact-apart false (clockOf m) (runs (slotWords m n)) (omega (arith, kept .clock)))
 
 -- ---- the answers by what the rows are told
 module _ {m : List ℕ} (kept : Kept m) where
@@ -159,15 +170,20 @@ module _ {m atoms here : List ℕ} (kept : Kept m) (atoms-are : atoms ≡ atomsO
 
 -- ---- the digits kept, asked again or not
 module _ {m : List ℕ} (kept : Kept m) where
-  pub board-asked : (told early′ settled′ : List ℕ) {early settled : List ℕ} → length told ≡ 128 → length early′ ≡ 32 → length settled′ ≡ 32
+  pub board-asked : (told early′ settled′ : List ℕ) {early settled : List ℕ} → length told ≡ 128 → CoversNotGone told → length early′ ≡ 32 → length settled′ ≡ 32
       → early ≡ filledTo (earlyBy (bookOf m) told) early′ (propertiesIn m) → settled ≡ filledTo (settledBy (bookOf m) told) settled′ (propertiesIn m) → Board (bookOf m) told early settled
-  board-asked told early′ settled′ lt le ls ee es = record {
+  board-asked told early′ settled′ lt apart le ls ee es = record {
     told-long = lt;
+    told-apart = apart;
     early-long = ap length ee ∙ filledTo-length (earlyBy (bookOf m) told) early′ (propertiesIn m) ∙ le;
     settled-long = ap length es ∙ filledTo-length (settledBy (bookOf m) told) settled′ (propertiesIn m) ∙ ls;
     early-are = λ i h. ap (λ l. getD l i 0) ee ∙ filledTo-at (earlyBy (bookOf m) told) early′ 0 (propertiesIn m) i h (let n = few-properties m kept in omega arith);
     settled-are = λ i h. ap (λ l. getD l i 0) es ∙ filledTo-at (settledBy (bookOf m) told) settled′ 0 (propertiesIn m) i h (let n = few-properties m kept in omega arith);
   }
+
+-- the rows, told anew, are told what can be
+pub apart-after : {m told : List ℕ} {b : Book} {told′ early settled : List ℕ} → Kept m → Board b told early settled → told′ ≡ retold m told (temporals m) → CoversNotGone told′
+apart-after {m} {told} kept board is = subst CoversNotGone (sym is) (retold-apart kept told (board .told-long) (board .told-apart) (temporals m) (omega arith))
 
 -- where the rows are told nothing new, they stay
 pub board-same : (m told : List ℕ) (n : ℕ) {told′ early settled : List ℕ} {same : Bool} → told′ ≡ retold m told n → same ≡ agrees m told n → same ≡ true

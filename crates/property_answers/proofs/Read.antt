@@ -1,8 +1,8 @@
 -- The atoms and facts of a kept memory, as the loops that read them leave them. Assumes nothing.
-use Prim.Native.Nat.{ℕ, zero, suc, _+_, _*_, _≤_, _<_}
+use Prim.Native.Nat.{ℕ, _+_, _*_, _/_, _%_, _≤_, _<_}
 use native.Mathlib.Omega.{arith}
 use native.Mathlib.Decide.{decLt, decLe, ℕ-discrete}
-use mathlib.Core.Path.{_≡_, refl, sym, ap, subst, _∙_}
+use mathlib.Core.Path.{_≡_, sym, ap, subst, _∙_}
 use mathlib.Core.Bool.{Bool, true, false}
 use mathlib.Core.Logic.{_↔_}
 use mathlib.Core.List.{List}
@@ -18,36 +18,37 @@ use Rattle.pmtl.specs.Answer.{bitOf}
 use Rattle.pmtl.specs.Monitor.{setAt}
 use Rattle.pmtl.specs.Sets.{gone}
 use Rattle.pmtl.proofs.Seams.{gone-none, gone-test}
-use Rattle.row_answers.specs.Facts.{factOf}
-use Rattle.memory.specs.Memory.{rowCount, clockOf, temporals, kindAt, slotAt, ownerAt, slotWords, stateOf}
-use Rattle.lists.proofs.Listed.{listed-length, listed-at}
+use Rattle.memory.specs.Memory.{rowCount, clockOf, temporals, kindAt, slotAt, ownerAt, slotWords, stateOf, isOne}
+use Rattle.lists.proofs.Listed.{listed-length, listed-at, listed-out}
 use Rattle.memory.specs.Kept.{Kept}
+use Rattle.row_answers.specs.Facts.{factOf, coversIn, goneIn, CoversNotGone}
+use Rattle.row_answers.proofs.Facts.{fact-apart}
 use Rattle.memory.proofs.Sets.{owner-set, no-set}
 use Rattle.property_answers.specs.Private.{factAbout, factAt, factsOf}
 
 -- ---- facts: those of the first slots' owners are written, every other row is told that its set is gone
-pub record Told (m facts : List ℕ) (slot : ℕ) : Type 0 where
+pub record FactsTo (m facts : List ℕ) (slot : ℕ) : Type 0 where
   pub long : length facts ≡ 128
   pub done : (j : ℕ) → j < slot → getD facts (ownerAt m j) 0 ≡ factAt m (ownerAt m j)
   pub rest : (r : ℕ) → r < 128 → ((j : ℕ) → j < slot → r ≡ ownerAt m j → ⊥) → getD facts r 0 ≡ 4
 
-pub told-start : (m : List ℕ) → Told m (replicate 128 4) 0
-told-start m = record {
+pub facts-start : (m : List ℕ) → FactsTo m (replicate 128 4) 0
+facts-start m = record {
   long = length-replicate {A = ℕ} 128 4;
   done = λ j h. absurd (omega arith);
   rest = λ r h none. getD-replicate 128 r 4 0 h;
 }
 
 -- one slot more
-pub told-more :
-    {m facts : List ℕ} {slot row fact : ℕ} → Kept m → Told m facts slot → slot < temporals m → row ≡ ownerAt m slot
-    → fact ≡ factAbout (clockOf m) (runs (slotWords m slot)) → Told m (set facts row fact) (slot + 1)
-told-more {m} {facts} {slot} {row} {fact} kept told h owner is = record {
-  long = length-set facts row fact ∙ told .long;
+pub facts-more :
+    {m facts : List ℕ} {slot row fact : ℕ} → Kept m → FactsTo m facts slot → slot < temporals m → row ≡ ownerAt m slot
+    → fact ≡ factAbout (clockOf m) (runs (slotWords m slot)) → FactsTo m (set facts row fact) (slot + 1)
+facts-more {m} {facts} {slot} {row} {fact} kept so-far h owner is = record {
+  long = length-set facts row fact ∙ so-far .long;
   done = λ j below. go j below (ℕ-discrete j slot);
   rest = λ r few none.
       getD-set-other facts row r fact 0 (λ e. none slot (omega arith) (e ∙ owner))
-      ∙ told .rest r few (λ j below. none j (omega arith));
+      ∙ so-far .rest r few (λ j below. none j (omega arith));
 }
   where
     here : row < 128
@@ -55,7 +56,7 @@ told-more {m} {facts} {slot} {row} {fact} kept told h owner is = record {
 
     new : getD (set facts row fact) row 0 ≡ factAt m row
     new =
-        getD-set-same facts row fact 0 (let e = told .long in omega (arith, here))
+        getD-set-same facts row fact 0 (let e = so-far .long in omega (arith, here))
         ∙ is ∙ ap (factAbout (clockOf m)) (sym (owner-set m kept slot h) ∙ ap (setAt (stateOf m)) (sym owner))
 
     go : (j : ℕ) → j < slot + 1 → Dec (j ≡ slot) → getD (set facts row fact) (ownerAt m j) 0 ≡ factAt m (ownerAt m j)
@@ -66,18 +67,18 @@ told-more {m} {facts} {slot} {row} {fact} kept told h owner is = record {
         let earlier : j < slot = omega arith in
         let apart = kept .book .ascends j slot earlier h in
         getD-set-other facts row (ownerAt m j) fact 0 (λ e′. let o = owner in omega arith)
-        ∙ told .done j earlier
+        ∙ so-far .done j earlier
 
 -- all of them
-pub told-all : {m facts : List ℕ} {slot : ℕ} → Kept m → Told m facts slot → slot ≡ temporals m → facts ≡ factsOf m
+pub facts-all : {m facts : List ℕ} {slot : ℕ} → Kept m → FactsTo m facts slot → slot ≡ temporals m → facts ≡ factsOf m
 unfolding has covers
-told-all {m} {facts} {slot} kept told all =
-    ext-getD 0 facts (factsOf m) (told .long ∙ sym (listed-length (factAt m) 128))
-    (λ r h. let few : r < 128 = let e = told .long in omega arith in each r few (decLt r (rowCount m)) (decLe 7 (kindAt m r)) ∙ sym (listed-at (factAt m) 0 128 r few))
+facts-all {m} {facts} {slot} kept so-far all =
+    ext-getD 0 facts (factsOf m) (so-far .long ∙ sym (listed-length (factAt m) 128))
+    (λ r h. let few : r < 128 = let e = so-far .long in omega arith in each r few (decLt r (rowCount m)) (decLe 7 (kindAt m r)) ∙ sym (listed-at (factAt m) 0 128 r few))
   where
     none : (r : ℕ) → r < 128 → (r < rowCount m → kindAt m r < 7) → getD facts r 0 ≡ factAt m r
     none r few plain =
-        told .rest r few (λ j below e.
+        so-far .rest r few (λ j below e.
         let h : j < temporals m = omega arith in
         let owned : r < rowCount m = rw e (kept .book .owned j h) in
         let is : 7 ≤ kindAt m r = rw e (kept .book .temporals-are j h) in
@@ -88,9 +89,19 @@ told-all {m} {facts} {slot} kept told all =
     each : (r : ℕ) → r < 128 → Dec (r < rowCount m) → Dec (7 ≤ kindAt m r) → getD facts r 0 ≡ factAt m r
     each r few (yes h) (yes is) =
         let k = kept .book .rows r h in
-        subst (λ o. getD facts o 0 ≡ factAt m o) (k .owner is) (told .done (slotAt m r) (let s = k .slot is in omega arith))
+        subst (λ o. getD facts o 0 ≡ factAt m o) (k .owner is) (so-far .done (slotAt m r) (let s = k .slot is in omega arith))
     each r few (yes h) (no is) = none r few (λ _. omega arith)
     each r few (no h) is = none r few (λ h′. absurd (h h′))
+
+-- they can be
+pub facts-apart : {m facts : List ℕ} → Kept m → facts ≡ factsOf m → CoversNotGone facts
+facts-apart {m} kept is = subst CoversNotGone (sym is) record { not-gone = λ r. each r (decLt r 128) }
+  where
+    each : (r : ℕ) → Dec (r < 128) → coversIn (factsOf m) r ≡ true → goneIn (factsOf m) r ≡ false
+    each r (yes h) =
+        subst (λ x. isOne (x / 2 % 2) ≡ true → isOne (x / 4 % 2) ≡ false) (sym (listed-at (factAt m) 0 128 r h))
+        (fact-apart (has (setAt (stateOf m) r) (clockOf m)) (clockOf m) (setAt (stateOf m) r) (omega (arith, kept .clock)))
+    each r (no h) = λ c. ap (λ x. isOne (x / 4 % 2)) (listed-out (factAt m) 0 128 r (omega arith))
 
 -- ---- one set
 pub gone-is : (c : ℕ) (words : List ℕ) (n : ℕ) → eqb n 0 ≡ gone c (runsTo words n)

@@ -13,7 +13,7 @@ use Rattle.pmtl.specs.Sets.{gone}
 use Rattle.pmtl.specs.Early.{earlyRule}
 use Rattle.pmtl.specs.Settled.{settledRule}
 use Rattle.memory.specs.Memory.{clockOf, ownerAt, slotWords}
-use Rattle.row_answers.specs.Facts.{factOf, coversIn, goneIn}
+use Rattle.row_answers.specs.Facts.{factOf, coversIn, goneIn, CoversNotGone}
 use Rattle.property_answers.specs.Verdict.{propertyAt}
 use Rattle.numbers.specs.Limits.{MOST-PROPERTIES, MOST-ROWS}
 
@@ -45,6 +45,7 @@ settledBy b told i = digitOf (answer (b .rows) Open (λ r row. settledRule (cove
 -- the digits that are kept are these, a place for each row and each property
 pub record Board (b : Book) (told early settled : List ℕ) : Type 0 where
   pub told-long : length told ≡ MOST-ROWS
+  pub told-apart : CoversNotGone told
   pub early-long : length early ≡ MOST-PROPERTIES
   pub settled-long : length settled ≡ MOST-PROPERTIES
   pub early-are : (i : ℕ) → i < length (properties b) → getD early i 0 ≡ earlyBy b told i

@@ -9,7 +9,7 @@ ghost use Rattle.memory.specs.Memory.{temporals, bookOf};
 ghost use Rattle.memory.specs.Kept.{Kept};
 ghost use Rattle.property_answers.specs.Verdict.{verdictOf, propertiesIn};
 ghost use Rattle.lists.specs.Lists.{filledTo};
-ghost use Rattle.row_answers.specs.Facts.{Here};
+ghost use Rattle.row_answers.specs.Facts.{CoversNotGone, Here};
 ghost use Rattle.property_answers.specs.Board.{toldAbout, retold, agrees, earlyBy, settledBy, Board};
 use crate::gone;
 use crate::property_count;
@@ -64,6 +64,7 @@ pub fn ask<'a>(
     settled: &mut [u8; MOST_PROPERTIES],
 )
     requires { ⌜ Kept (now monitor) ⌝ }
+    requires { ⌜ CoversNotGone (now told) ⌝ }
     ensures { λ _. ⌜ (now (early .exit) ≡ filledTo (earlyBy (bookOf (now (monitor .entry))) (now (told .entry))) (now (early .entry)) (propertiesIn (now (monitor .entry)))) × (now (settled .exit) ≡ filledTo (settledBy (bookOf (now (monitor .entry))) (now (told .entry))) (now (settled .entry)) (propertiesIn (now (monitor .entry)))) ⌝ }
 {
     let count = property_count(monitor);

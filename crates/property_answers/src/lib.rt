@@ -10,7 +10,7 @@ ghost use Rattle.pmtl.specs.Sets.{gone};
 ghost use Rattle.memory.specs.Memory.{rowCount, begunWord, assumeCount, guaranteeCount, isOne};
 ghost use Rattle.lists.specs.Lists.{listed};
 ghost use Rattle.memory.specs.Kept.{BookKept, Kept};
-ghost use Rattle.row_answers.specs.Facts.{settledOf};
+ghost use Rattle.row_answers.specs.Facts.{settledOf, CoversNotGone};
 ghost use Rattle.property_answers.specs.Verdict.{verdictOf, propertiesIn, answersNumber, answersList};
 ghost use Rattle.property_answers.specs.Private.{absent, blank, Answered, factAbout, factsOf, Seen};
 ghost use Rattle.numbers.specs.Limits.{MOST-PROPERTIES};
@@ -99,6 +99,7 @@ fn absent() -> Verdict
 // A row's settled answer: open before the first accepted call.
 fn settled_at<'a>(monitor: &'a [u64; SIZE], facts: &'a [u8; MOST_ROWS], row: usize) -> Answer
     requires { ⌜ BookKept (now monitor) ⌝ }
+    requires { ⌜ CoversNotGone (now facts) ⌝ }
     requires { ⌜ row < rowCount (now monitor) ⌝ }
     ensures { λ r. ⌜ r ≡ cond (isOne (begunWord (now (monitor .entry)))) (settledOf (now (monitor .entry)) (now (facts .entry)) row) Answer.Open ⌝ }
 {

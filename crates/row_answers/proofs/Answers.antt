@@ -1,17 +1,22 @@
 -- A row's answer from its words: one law for every kind of answer; and what a walk over rows needs. Assumes nothing.
-use Prim.Native.Nat.{ℕ, zero, suc, _+_, _-_, _*_, _^_, _<_, _≤_}
+use Prim.Native.Nat.{ℕ, zero, suc, _+_, _-_, _*_, _^_, _<_, _≤_, max}
 use native.Mathlib.Omega.{arith}
+use native.Mathlib.Nat.{lt-trans}
 use mathlib.Core.Path.{_≡_, refl, sym, ap, ap₂, _∙_}
+use mathlib.Core.Bool.{Bool}
 use mathlib.Core.Logic.{_⊎_, inl, inr, ⊎-elim}
 use mathlib.Core.List.{List}
 use lib.ListN.{getD, drop}
+use lib.Dec.{eqb}
 use Rattle.pmtl.specs.Book.{Row, mapRow, answer}
+use Rattle.pmtl.specs.Early.{fromNow}
 use Rattle.pmtl.proofs.Table.{answer-in}
+use Rattle.memory.specs.declared.RowWords.{RowWords}
 use Rattle.memory.specs.Layout.{OPERANDS}
-use Rattle.memory.specs.Memory.{argAt, lowerAt, upperAt, operandsOf, rowsOf}
+use Rattle.memory.specs.Memory.{rowCount, argAt, lowerAt, upperAt, wordsAt, operandAt, operandsOf, rangeAt, rowsOf}
 use Rattle.book.specs.Rows.{rowFrom, countOf}
-use Rattle.memory.specs.Kept.{Span}
-use Rattle.memory.proofs.Rows.{Read, rows-length, row-read, span-read, first-is, second-is, kept-ordered}
+use Rattle.memory.specs.Kept.{BookKept, Span}
+use Rattle.memory.proofs.Rows.{Read, rows-length, row-read, span-read, first-is, second-is, first-below, span-rest, kept-ordered}
 
 -- ---- a row's answer from its words, by any rule
 module _ {A : Type 0} (none : A) (rule : ℕ → Row A → A) {m : List ℕ} {r kind arg start : ℕ} (e : Read m r kind arg start) where
@@ -41,18 +46,53 @@ module _ {A : Type 0} (none : A) (rule : ℕ → Row A → A) {m : List ℕ} {r 
       answer-read ek
       ∙ ap (rule r) (es _ ∙ ap₂ (λ x y. shape (answer (rowsOf m) none rule x) (answer (rowsOf m) none rule y)) (first-is s (omega arith) ex) (second-is s two ey) ∙ ap₂ shape (sym ev) (sym ew))
 
+-- ---- what the code has read of a row, from its words
+pub read-words : (m : List ℕ) (r : ℕ) {words : RowWords} → BookKept m → r < rowCount m → words ≡ wordsAt m r → Read m r (words .kind) (words .arg) (words .start)
+read-words m r kept h e = record { kept = kept; inside = h; kind-is = ap (λ w. w .kind) e; arg-is = ap (λ w. w .arg) e; start-is = ap (λ w. w .start) e }
+
+pub zero-words : (m : List ℕ) (r : ℕ) {words : RowWords} → words ≡ wordsAt m r → {z : Bool} → z ≡ eqb (words .lower) 0 → z ≡ fromNow (rangeAt m r)
+zero-words m r e ez = ez ∙ ap (λ w. eqb (w .lower) 0) e
+
 -- ---- the measures: a row's is above those of its walk, and a walk's, while operands are left, above their rows'
-pub walk-falls : (row : ℕ) {left t : ℕ} → (row + 1) * 2 ^ 64 ≡ t → left ≤ 128 → row * 2 ^ 64 + left < t
-walk-falls row e h = omega arith
+pub walk-falls : {row above left t : ℕ} → (row + 1) * 2 ^ 64 ≡ t → above ≤ row → left ≤ 128 → above * 2 ^ 64 + left < t
+walk-falls e h l = omega arith
 
 pub row-falls : {row x t : ℕ} → (row + 1) * 2 ^ 64 ≡ t → x < row → (x + 1) * 2 ^ 64 < t
 row-falls e h = omega arith
 
-pub operand-falls : {row left x t : ℕ} → row * 2 ^ 64 + left ≡ t → x < row → 0 < left → (x + 1) * 2 ^ 64 < t
+pub operand-falls : {above left x t : ℕ} → above * 2 ^ 64 + left ≡ t → x < above → 0 < left → (x + 1) * 2 ^ 64 < t
 operand-falls e h p = omega arith
 
-pub rest-falls : (row : ℕ) {left t : ℕ} → row * 2 ^ 64 + left ≡ t → 0 < left → row * 2 ^ 64 + (left - 1) < t
-rest-falls row e p = omega arith
+pub rest-falls : {above rest left t : ℕ} → above * 2 ^ 64 + left ≡ t → rest ≤ above → 0 < left → rest * 2 ^ 64 + (left - 1) < t
+rest-falls e h p = omega arith
+
+-- ---- a walk's measure needs its owner's row only to be above it: one more than the highest of the operands that are left
+unfoldable pub above : List ℕ → (place left : ℕ) → ℕ
+above m place zero = 0
+above m place (suc n) = max (operandAt m place + 1) (above m (place + 1) n)
+
+pub above-most : {m : List ℕ} {r place : ℕ} (n : ℕ) → Span m r place n → above m place n ≤ r
+unfolding above
+above-most zero s = omega arith
+above-most {m} {r} {place} (suc n) s =
+    let one : suc n - 1 ≡ n = omega arith in
+    let rest = above-most n (rw one at (span-rest s (omega arith))) in
+    let first : operandAt m place < r = first-below s (omega arith) refl in
+    omega arith
+
+pub above-first : (m : List ℕ) (place n : ℕ) {x : ℕ} → 0 < n → x ≡ operandAt m place → x < above m place n
+unfolding above
+above-first m place zero h e = absurd (omega arith)
+above-first m place (suc n) h e = omega arith
+
+pub above-rest : (m : List ℕ) (place n : ℕ) → 0 < n → above m (place + 1) (n - 1) ≤ above m place n
+unfolding above
+above-rest m place zero h = absurd (omega arith)
+above-rest m place (suc n) h = let one : suc n - 1 ≡ n = omega arith in rw one (omega arith)
+
+-- the operands of a row are rows of the book
+pub span-book : {m : List ℕ} {r place n : ℕ} → Span m r place n → r < rowCount m → Span m (rowCount m) place n
+span-book s h = record { inside = s .inside; below = λ k l. lt-trans (s .below k l) h }
 
 -- ---- the arms of a `match` on a kind
 pub span-as : {m : List ℕ} {r kind arg start : ℕ} → Read m r kind arg start → {k : ℕ} → kind ≡ k → Span m r start (countOf k arg)

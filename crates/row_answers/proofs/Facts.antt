@@ -1,13 +1,15 @@
--- From facts to states: where each temporal row's byte says of its set what a state says, the answers by facts are those of the state.
--- Assumes nothing.
+-- Which facts can be; and where they say of each temporal row's set what a state says, the answers by facts are those of the state. Assumes nothing.
 use Prim.Native.Nat.{ℕ, zero, suc, _%_, _/_, _<_, _≤_}
 use native.Mathlib.Omega.{arith}
-use native.Mathlib.Decide.{decLt}
-use mathlib.Core.Path.{_≡_, refl, ap, ap₂, subst, _∙_}
+use native.Mathlib.Decide.{decLt, ℕ-discrete}
+use mathlib.Core.Path.{_≡_, refl, sym, ap, ap₂, subst, _∙_}
 use mathlib.Core.Bool.{Bool, true, false, not}
 use mathlib.Core.List.{List, [], _∷_, map}
-use lib.ListN.{getD, List·getD-map}
-use Rattle.numset.specs.Runs.{has, covers}
+use lib.ListN.{length, getD, set, replicate, length-replicate, getD-replicate, List·getD-map, List·getD-eq-default}
+use lib.Seq.{getD-set-same, getD-set-other}
+use Rattle.numbers.specs.Limits.{MAX}
+use Rattle.lists.proofs.Tests.{fails-by}
+use Rattle.numset.specs.Runs.{Runs, has, covers}
 use Rattle.pmtl.specs.declared.Answer.{Answer}
 use Rattle.pmtl.specs.declared.Answer.the-variants.{Open}
 use Rattle.pmtl.specs.Book.{Row, mapRow, Rows, rowAt, atomWidth, widthOf}
@@ -17,9 +19,10 @@ use Rattle.pmtl.specs.Monitor.{State, setAt, valueRule, value}
 use Rattle.pmtl.specs.Early.{earlyRule, early}
 use Rattle.pmtl.specs.Settled.{settledTrue, settledFalse, settledRule, settled}
 use Rattle.pmtl.proofs.Table.{answer-local, row-out}
+use Rattle.pmtl.proofs.Settled.{covers-not-gone}
 use Rattle.memory.specs.Memory.{rowCount, kindAt, argAt, lowerAt, upperAt, rowOf, rowsOf, isOne}
 use Rattle.book.specs.Rows.{rowFrom}
-use Rattle.row_answers.specs.Facts.{factOf, hereIn, coversIn, goneIn, outputOf, valuationOf, settledOf}
+use Rattle.row_answers.specs.Facts.{factOf, hereIn, coversIn, goneIn, outputOf, valuationOf, settledOf, CoversNotGone}
 use Rattle.memory.proofs.Rows.{rows-length, row-at}
 
 -- ---- what a byte says
@@ -52,6 +55,28 @@ fact-gone false true true = refl
 fact-gone false true false = refl
 fact-gone false false true = refl
 fact-gone false false false = refl
+
+-- ---- facts that can be: of no set does a byte say both that it covers and that it is gone
+pub fact-apart : (here : Bool) (c : ℕ) (s : Runs) → c ≤ MAX → isOne (factOf here (covers c s) (gone c s) / 2 % 2) ≡ true → isOne (factOf here (covers c s) (gone c s) / 4 % 2) ≡ false
+fact-apart here c s small h =
+    fact-gone here (covers c s) (gone c s) ∙ fails-by (gone c s) (covers-not-gone c s small (sym (fact-covers here (covers c s) (gone c s)) ∙ h))
+
+-- such facts there are: nothing is said of any set
+pub apart-none : (n : ℕ) → CoversNotGone (replicate n 0)
+apart-none n = record { not-gone = λ r h. ap (λ x. isOne (x / 4 % 2)) (zero-at r (decLt r n)) }
+  where
+    zero-at : (r : ℕ) → Dec (r < n) → _≡_ {A = ℕ} (getD (replicate n 0) r 0) 0
+    zero-at r (yes h) = getD-replicate n r 0 0 h
+    zero-at r (no h) = List·getD-eq-default (replicate n 0) 0 (let e = length-replicate {A = ℕ} n 0 in omega arith)
+
+-- one row is told anew
+pub apart-set : (facts : List ℕ) (row fact : ℕ) → CoversNotGone facts → row < length facts → (isOne (fact / 2 % 2) ≡ true → isOne (fact / 4 % 2) ≡ false)
+    → CoversNotGone (set facts row fact)
+apart-set facts row fact apart inside new = record { not-gone = λ r. go r (ℕ-discrete r row) }
+  where
+    go : (r : ℕ) → Dec (r ≡ row) → coversIn (set facts row fact) r ≡ true → goneIn (set facts row fact) r ≡ false
+    go r (yes e) = subst (λ x. isOne (x / 2 % 2) ≡ true → isOne (x / 4 % 2) ≡ false) (sym (ap (λ k. getD (set facts row fact) k 0) e ∙ getD-set-same facts row fact 0 inside)) new
+    go r (no e) = subst (λ x. isOne (x / 2 % 2) ≡ true → isOne (x / 4 % 2) ≡ false) (sym (getD-set-other facts row r fact 0 e)) (apart .not-gone r)
 
 -- ---- a rule looks at the set of a temporal row only
 abbrev Timed : {X : Type 0} → Row X → Type 0

@@ -9,7 +9,7 @@ use Rattle.pmtl.specs.Book.{Range, every, some}
 use Rattle.pmtl.specs.Book.Row.{conj, disj, neg, implies, historically, once, since}
 use Rattle.pmtl.specs.Early.{fromNow}
 use Rattle.pmtl.specs.Settled.{settledTrue, settledFalse, settledRule}
-use Rattle.row_answers.specs.Private.{takenIn, decides, settledSoFar, settledOnce, settledLeft, coversAlone}
+use Rattle.row_answers.specs.Private.{takenIn, decides, settledSoFar, settledHistorically, settledOnce, settledLeft}
 
 -- ---- And, Or
 all-open : (xs : List Answer) → settledSoFar false Open xs ≡ cond (some isFalse xs) False Open
@@ -63,13 +63,18 @@ implies-true covers gone l False h = cc
 implies-true covers gone l True h = refl
 implies-true covers gone l Open h = cc
 
-pub historically-false : (covers gone : Bool) (g : Range) (x : Answer) → coversAlone covers gone ≡ true → settledRule covers gone (historically g x) ≡ False
+pub historically-false : (covers gone : Bool) (g : Range) (x : Answer) → covers ≡ true → gone ≡ false → settledRule covers gone (historically g x) ≡ False
 unfolding settledTrue settledFalse
-historically-false true false g False h = refl
-historically-false true false g True h = refl
-historically-false true false g Open h = refl
-historically-false true true g x h = cc
-historically-false false gone g x h = cc
+historically-false true false g False h n = refl
+historically-false true false g True h n = refl
+historically-false true false g Open h n = refl
+historically-false true true g x h n = cc
+historically-false false gone g x h n = cc
+
+pub historically-asked : (covers gone : Bool) (g : Range) (x : Answer) → covers ≡ false → settledRule covers gone (historically g x) ≡ settledHistorically (fromNow g) gone x
+unfolding settledTrue settledFalse
+historically-asked false gone g x h = refl
+historically-asked true gone g x h = cc
 
 pub once-true : (covers gone : Bool) (g : Range) (x : Answer) → covers ≡ true → settledRule covers gone (once g x) ≡ True
 unfolding settledTrue settledFalse

@@ -1,7 +1,7 @@
 -- What the code of a row's answers is told of each row's set: a byte for each row. Definitions only.
 use Prim.Native.Nat.{ℕ, _+_, _*_, _/_, _%_, _<_}
 use mathlib.Core.Path.{_≡_}
-use mathlib.Core.Bool.{Bool, false}
+use mathlib.Core.Bool.{Bool, true, false}
 use mathlib.Core.List.{List, map}
 use lib.ListN.{getD}
 use Rattle.pmtl.specs.declared.Answer.{Answer}
@@ -36,6 +36,10 @@ valuationOf m facts = answer (rowsOf m) Open (λ r row. earlyRule (coversIn fact
 
 abbrev pub settledOf : List ℕ → List ℕ → ℕ → Answer
 settledOf m facts = answer (rowsOf m) Open (λ r row. settledRule (coversIn facts r) (goneIn facts r) row)
+
+-- facts that can be: a set that covers is not gone
+pub record CoversNotGone (facts : List ℕ) : Type 0 where
+  pub not-gone : (r : ℕ) → coversIn facts r ≡ true → goneIn facts r ≡ false
 
 -- bytes that say rightly, of each row with a set, whether it contains the clock
 pub record Here (m here : List ℕ) : Type 0 where

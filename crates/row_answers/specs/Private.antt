@@ -47,12 +47,9 @@ unfoldable pub settledSoFar : (any : Bool) → Answer → List Answer → Answer
 settledSoFar any sofar [] = sofar
 settledSoFar any sofar (x ∷ xs) = cond (decides any x) x (settledSoFar any (takenIn any sofar x) xs)
 
--- the temporal rows' settled rules, from whether lower is 0, the set covers, and it is gone
-abbrev pub settledHistorically : (zero covers gone : Bool) → Answer → Answer
-settledHistorically zero covers gone x = decided (isTrue x && gone) (covers || isFalse x && zero)
-
-abbrev pub coversAlone : (covers gone : Bool) → Bool
-coversAlone covers gone = covers && not gone
+-- the temporal rows' settled rules, from whether lower is 0 and the set is gone: Historically, where the set does not cover
+abbrev pub settledHistorically : (zero gone : Bool) → Answer → Answer
+settledHistorically zero gone x = decided (isTrue x && gone) (isFalse x && zero)
 
 -- Once, where the set does not cover; and Since by right, where left does not decide it
 abbrev pub settledOnce : (zero gone : Bool) → Answer → Answer

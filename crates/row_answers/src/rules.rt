@@ -129,29 +129,14 @@ pub fn decides_it(any: bool, x: Answer) -> bool
     if any { is_true(x) } else { is_false(x) }
 }
 
-pub fn settled_historically(zero: bool, covers: bool, gone: bool, x: Answer) -> Answer
-    ensures { λ r. ⌜ r ≡ settledHistorically zero covers gone x ⌝ }
+// Historically, where the set does not cover.
+pub fn settled_historically(zero: bool, gone: bool, x: Answer) -> Answer
+    ensures { λ r. ⌜ r ≡ settledHistorically zero gone x ⌝ }
 {
     match x {
-        Answer::False => {
-            if covers {
-                Answer::False
-            } else if zero {
-                Answer::False
-            } else {
-                Answer::Open
-            }
-        }
-        Answer::True => {
-            if gone {
-                Answer::True
-            } else if covers {
-                Answer::False
-            } else {
-                Answer::Open
-            }
-        }
-        Answer::Open => if covers { Answer::False } else { Answer::Open },
+        Answer::False => if zero { Answer::False } else { Answer::Open },
+        Answer::True => if gone { Answer::True } else { Answer::Open },
+        Answer::Open => Answer::Open,
     }
 }
 

@@ -1,4 +1,4 @@
--- `verdicts::read_atoms` meets its contract. The invariant: the atoms passed are written, the others 0. Assumes nothing.
+-- `memory::read_atoms` meets its contract. The invariant: the atoms passed are written, the others 0. Assumes nothing.
 use borrow.Author.Needs.{needs}
 use native.Mathlib.Omega.{arith}
 use Prim.Native.Nat.{_-_, _≤_}

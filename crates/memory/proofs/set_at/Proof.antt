@@ -1,4 +1,4 @@
--- `rows::set_at` meets its contract. Assumes nothing.
+-- `memory::set_at` meets its contract. Assumes nothing.
 use borrow.Author.Needs.{needs}
 use Prim.Native.Nat.{_+_}
 use mathlib.Core.Path.{refl}

@@ -5,12 +5,12 @@ use Prim.Native.Nat.{_-_, _≤_}
 use mathlib.Core.Path.{_≡_, _∙_, sym, subst}
 use Rattle.numset.specs.Runs.{Good}
 use Rattle.memory.specs.Memory.{clockOf, temporals}
-use Rattle.property_answers.proofs.Read.{Told, told-start, told-more, told-all}
+use Rattle.property_answers.proofs.Read.{FactsTo, facts-start, facts-more, facts-all}
 use Rattle.property_answers.proofs.read_facts.Statement.{statement}
 use Rattle.property_answers.proofs.read_facts.Tie as tie
 
 abbrev Inv-loop : tie.InvT-loop
-Inv-loop monitor clock count facts₀ slot₀ facts slot = (slot ≤ count) × (count ≡ temporals monitor) × (clock ≡ clockOf monitor) × Told monitor facts slot
+Inv-loop monitor clock count facts₀ slot₀ facts slot = (slot ≤ count) × (count ≡ temporals monitor) × (clock ≡ clockOf monitor) × FactsTo monitor facts slot
 
 abbrev μ-loop : tie.MeasureT-loop
 μ-loop monitor clock count facts₀ slot₀ facts slot = count - slot
@@ -22,7 +22,7 @@ temporal-count-requires : tie.Need-temporal-count-requires Inv-loop μ-loop
 temporal-count-requires c κs = tt
 
 loop-holds : tie.Need-loop-holds Inv-loop μ-loop
-loop-holds c = (omega arith, c .temporal-count .ensures, c .before .clock .ensures, told-start _)
+loop-holds c = (omega arith, c .temporal-count .ensures, c .before .clock .ensures, facts-start _)
 
 owner-at-requires : tie.Need-owner-at-requires Inv-loop μ-loop
 owner-at-requires c κs = let k = c .before .before .before .before .pre .book in let l = c .before .loop .inv .1 in let few = k .temporal-few in omega arith
@@ -43,10 +43,10 @@ loop-less : tie.Need-loop-less Inv-loop μ-loop
 loop-less c = search needs
 
 loop-again : tie.Need-loop-again Inv-loop μ-loop
-loop-again c = let k = c .before .before .before .before .before .before .before .pre in let l = c .before .before .before .before .loop in (omega arith, l .inv .1, l .inv .2, told-more k (l .inv .3) (let e = l .inv .1 in omega arith) (c .before .before .owner-at .ensures) (c .fact-about .ensures ∙ rw (l .inv .2, c .before .set-at .ensures)))
+loop-again c = let k = c .before .before .before .before .before .before .before .pre in let l = c .before .before .before .before .loop in (omega arith, l .inv .1, l .inv .2, facts-more k (l .inv .3) (let e = l .inv .1 in omega arith) (c .before .before .owner-at .ensures) (c .fact-about .ensures ∙ rw (l .inv .2, c .before .set-at .ensures)))
 
 returns : tie.Need-returns Inv-loop μ-loop
-returns c = let k = c .before .before .before .before .pre in let l = c .before .loop in told-all k (l .inv .3) (let e = l .inv .1 in let le = l .inv .0 in omega arith)
+returns c = let k = c .before .before .before .before .pre in let l = c .before .loop in facts-all k (l .inv .3) (let e = l .inv .1 in let le = l .inv .0 in omega arith)
 
 pub read-facts-spec : {M : Type 1} → statement M
 read-facts-spec =

@@ -2,6 +2,7 @@
 use borrow.Author.Needs.{needs}
 use native.Mathlib.Omega.{arith}
 use mathlib.Core.Path.{sym, _∙_}
+use Rattle.property_answers.proofs.Read.{facts-apart}
 use Rattle.property_answers.proofs.Bridge.{verdict-in, verdict-out}
 use Rattle.property_answers.proofs.verdict_at.Statement.{statement}
 use Rattle.property_answers.proofs.verdict_at.Tie as tie
@@ -28,7 +29,7 @@ valuation-requires : tie.Need-valuation-requires
 valuation-requires c κs = let s = c .before .before .before .before in (s .pre .kept .book, rw (c .before .word .ensures) (s .pre .kept .book .properties (s .args .i) (let e = c .before .before .before .property-count .ensures in omega arith)))
 
 settled-at-requires : tie.Need-settled-at-requires
-settled-at-requires c κs = let s = c .before .before .before .before .before in (s .pre .kept .book, rw (c .before .before .word .ensures) (s .pre .kept .book .properties (s .args .i) (let e = c .before .before .before .before .property-count .ensures in omega arith)))
+settled-at-requires c κs = let s = c .before .before .before .before .before in (s .pre .kept .book, (facts-apart (s .pre .kept) (s .pre .facts-are), rw (c .before .before .word .ensures) (s .pre .kept .book .properties (s .args .i) (let e = c .before .before .before .before .property-count .ensures in omega arith))))
 
 returns-2 : tie.Need-returns-2
 returns-2 c = let s = c .before .before .before .before .before .before in sym (verdict-in (s .pre) (s .args .i) (let e = c .before .before .before .before .before .property-count .ensures in omega arith) (c .before .before .before .word .ensures) (c .before .before .output .ensures) (c .before .valuation .ensures) (c .settled-at .ensures))

@@ -6,6 +6,7 @@ use lib.ListN.{length, replicate, length-replicate}
 use borrow.Author.Needs.{needs}
 use Rattle.memory.specs.Memory.{bookOf}
 use Rattle.property_answers.specs.Board.{Board}
+use Rattle.row_answers.proofs.Facts.{apart-none}
 use Rattle.property_answers.proofs.Boards.{board-asked}
 use Rattle.buffer_writer.proofs.Writes.{same-bytes}
 use Rattle.report.proofs.Turns.{turn-stopped}
@@ -27,12 +28,12 @@ property-count-requires : tie.Need-property-count-requires Inv-loop μ-loop
 property-count-requires c κs = c .before .before .before .pre .book
 
 ask-requires : tie.Need-ask-requires Inv-loop μ-loop
-ask-requires c κs = c .before .before .before .before .before .before .before .before .pre
+ask-requires c κs = (c .before .before .before .before .before .before .before .before .pre, apart-none 128)
 
 loop-holds : tie.Need-loop-holds Inv-loop μ-loop
 loop-holds c =
     let s = c .before .before .before .before .before .before .before .before .before in
-    (go-start _ _ _ _ _ _ (s .pre), board-asked (s .pre) (replicate 128 0) (replicate 32 0) (replicate 32 0) (length-replicate {A = ℕ} 128 0) (length-replicate {A = ℕ} 32 0) (length-replicate {A = ℕ} 32 0) (c .ask .ensures .0) (c .ask .ensures .1), length-replicate {A = ℕ} 32 0, search needs)
+    (go-start _ _ _ _ _ _ (s .pre), board-asked (s .pre) (replicate 128 0) (replicate 32 0) (replicate 32 0) (length-replicate {A = ℕ} 128 0) (apart-none 128) (length-replicate {A = ℕ} 32 0) (length-replicate {A = ℕ} 32 0) (c .ask .ensures .0) (c .ask .ensures .1), length-replicate {A = ℕ} 32 0, search needs)
 
 call-requires : tie.Need-call-requires Inv-loop μ-loop
 call-requires c κs = c .before .before .before .before .loop .inv .0 .kept

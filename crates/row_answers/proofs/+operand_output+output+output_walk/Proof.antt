@@ -13,7 +13,7 @@ use Rattle.book.specs.Rows.{rowFrom, countOf}
 use Rattle.memory.specs.Kept.{BookKept}
 use Rattle.row_answers.specs.Private.{joined}
 use Rattle.memory.proofs.Rows.{Read, below-128, first-below, second-below, span-rest, walk-cons}
-use Rattle.row_answers.proofs.Answers.{span-as, first-inside, second-inside, answer-read, answer-one, answer-two, past-seven, atom-as, some-left}
+use Rattle.row_answers.proofs.Answers.{read-words, span-as, first-inside, second-inside, answer-read, answer-one, answer-two, above, above-most, above-first, above-rest, span-book, past-seven, atom-as, some-left}
 use Rattle.row_answers.proofs.Values.{joined-nil, joined-stop, joined-on}
 use Prim.Native.Nat.{ℕ, _≤_, _<_, _+_, _-_, _*_, _^_}
 use borrow.Fn.Kinds.{In}
@@ -28,10 +28,11 @@ use Rattle.row_answers.proofs.output_walk.Reads as output-walk
 use Rattle.row_answers.proofs.output_walk.Kinds as output-walk-kinds
 use Rattle.row_answers.proofs.+operand_output+output+output_walk.Lts-output_walk as output-walk-lts
 use Rattle.memory.proofs.arg_at.Reads as arg-at-reads
-use Rattle.row_answers.proofs.here_at.Reads as here-at-reads
 use Rattle.memory.proofs.kind_at.Reads as kind-at-reads
 use Rattle.memory.proofs.operand_at.Reads as operand-at-reads
-use Rattle.memory.proofs.start_at.Reads as start-at-reads
+use Rattle.memory.proofs.row_at.Reads as row-at-reads
+use Rattle.row_answers.proofs.atom_at.Reads as atom-at-reads
+use Rattle.row_answers.proofs.here_at.Reads as here-at-reads
 use Rattle.row_answers.proofs.+operand_output+output+output_walk.{statement}
 use Rattle.row_answers.proofs.+operand_output+output+output_walk.Tie.{close}
 
@@ -43,13 +44,23 @@ abbrev μ-output : Measures 1 output-kinds.ps ℕ
 μ-output κs a = (a .1 .1 .1 .0 + 1) * 2 ^ 64
 
 abbrev μ-output-walk : Measures 1 output-walk-kinds.ps ℕ
-μ-output-walk κs a = a .1 .1 .1 .0 * 2 ^ 64 + (a .1 .1 .1 .1 .1 .0 + 1)
+μ-output-walk κs a = above (a .0 .now) (a .1 .1 .1 .0) (a .1 .1 .1 .1 .0) * 2 ^ 64 + (a .1 .1 .1 .1 .0 + 1)
 
 abbrev operand-output-at : ℕ → In 1 operand-output-kinds.ps
-operand-output-at t = and 1 operand-output-kinds.ps (is 1 operand-output-kinds.ps μ-operand-output t) operand-output.Pre
+operand-output-at t =
+    and
+    1
+    operand-output-kinds.ps
+    (is 1 operand-output-kinds.ps μ-operand-output t)
+    operand-output.Pre
 
 abbrev operand-output-below : ℕ → In 1 operand-output-kinds.ps
-operand-output-below t = and 1 operand-output-kinds.ps (falls 1 operand-output-kinds.ps _<_ μ-operand-output t) operand-output.Pre
+operand-output-below t =
+    and
+    1
+    operand-output-kinds.ps
+    (falls 1 operand-output-kinds.ps _<_ μ-operand-output t)
+    operand-output.Pre
 
 abbrev output-at : ℕ → In 1 output-kinds.ps
 output-at t = and 1 output-kinds.ps (is 1 output-kinds.ps μ-output t) output.Pre
@@ -67,28 +78,28 @@ output-walk-below t =
 
 -- what `operand-output` calls, as its needs take it
 abbrev operand-output-calls : ℕ → operand-output-lts.Claims
-operand-output-calls t = (kind-at-reads.Asked, kind-at-reads.Learnt, arg-at-reads.Asked, arg-at-reads.Learnt, here-at-reads.Asked, here-at-reads.Learnt, output-below t, output.Post)
+operand-output-calls t = (kind-at-reads.Asked, kind-at-reads.Learnt, arg-at-reads.Asked, arg-at-reads.Learnt, atom-at-reads.Asked, atom-at-reads.Learnt, here-at-reads.Asked, here-at-reads.Learnt, output-below t, output.Post)
 
 -- what `output` calls, as its needs take it
 abbrev output-calls : ℕ → output-lts.Claims
-output-calls t = (kind-at-reads.Asked, kind-at-reads.Learnt, arg-at-reads.Asked, arg-at-reads.Learnt, start-at-reads.Asked, start-at-reads.Learnt, output-walk-below t, output-walk.Post, operand-at-reads.Asked, operand-at-reads.Learnt, operand-output-below t, operand-output.Post, here-at-reads.Asked, here-at-reads.Learnt)
+output-calls t = (row-at-reads.Asked, row-at-reads.Learnt, atom-at-reads.Asked, atom-at-reads.Learnt, output-walk-below t, output-walk.Post, operand-at-reads.Asked, operand-at-reads.Learnt, operand-output-below t, operand-output.Post, here-at-reads.Asked, here-at-reads.Learnt)
 
 -- what `output-walk` calls, as its needs take it
 abbrev output-walk-calls : ℕ → output-walk-lts.Claims
 output-walk-calls t = (operand-at-reads.Asked, operand-at-reads.Learnt, operand-output-below t, operand-output.Post, output-walk-below t, output-walk.Post)
 
 -- each call falls
-walk-falls : (row : ℕ) {left t : ℕ} → (row + 1) * 2 ^ 64 ≡ t → left ≤ 128 → row * 2 ^ 64 + (left + 1) < t
-walk-falls row e h = omega arith
+walk-falls : {row above left t : ℕ} → (row + 1) * 2 ^ 64 ≡ t → above ≤ row → left ≤ 128 → above * 2 ^ 64 + (left + 1) < t
+walk-falls e h l = omega arith
 
 row-falls : {row x t : ℕ} → (row + 1) * 2 ^ 64 ≡ t → x < row → (x + 1) * 2 ^ 64 + 1 < t
 row-falls e h = omega arith
 
-operand-falls : {row left x t : ℕ} → row * 2 ^ 64 + (left + 1) ≡ t → x < row → 0 < left → (x + 1) * 2 ^ 64 + 1 < t
+operand-falls : {above left x t : ℕ} → above * 2 ^ 64 + (left + 1) ≡ t → x < above → 0 < left → (x + 1) * 2 ^ 64 + 1 < t
 operand-falls e h p = omega arith
 
-rest-falls : (row : ℕ) {left t : ℕ} → row * 2 ^ 64 + (left + 1) ≡ t → 0 < left → row * 2 ^ 64 + (left - 1 + 1) < t
-rest-falls row e p = omega arith
+rest-falls : {above rest left t : ℕ} → above * 2 ^ 64 + (left + 1) ≡ t → rest ≤ above → 0 < left → rest * 2 ^ 64 + (left - 1 + 1) < t
+rest-falls e h p = omega arith
 
 -- where `operand-output` has read the row's kind
 abbrev Leaf : ℕ → Type 0
@@ -99,31 +110,31 @@ told : (t : ℕ) (p : Leaf t) → let s = p .before in
 told t p = let s = p .before in record { kept = s .pre .1 .0; inside = s .pre .1 .1; kind-is = p .kind-at .ensures; arg-is = refl; start-is = refl }
 
 operand-output-kind-at-requires : (t : ℕ) → operand-output-lts.Need-kind-at-requires (operand-output-calls t) (operand-output-at t) operand-output.Post
-operand-output-kind-at-requires t c κs = below-128 (c .pre .1 .0) (c .pre .1 .1)
+operand-output-kind-at-requires t c κs = let s = c in below-128 (s .pre .1 .0) (s .pre .1 .1)
 
 operand-output-arg-at-requires : (t : ℕ) → operand-output-lts.Need-arg-at-requires (operand-output-calls t) (operand-output-at t) operand-output.Post
-operand-output-arg-at-requires t c κs = let s = c .before .before in below-128 (s .pre .1 .0) (s .pre .1 .1)
+operand-output-arg-at-requires t c κs = let s = (c .before .before) in below-128 (s .pre .1 .0) (s .pre .1 .1)
 
-operand-output-element-copy-out-result : (t : ℕ) → operand-output-lts.Need-element-copy-out-result (operand-output-calls t) (operand-output-at t) operand-output.Post
-operand-output-element-copy-out-result t c = rw (c .arg-at .ensures) (atom-as (told t (c .before .before)) (c .before .match .keys1))
+operand-output-atom-at-requires : (t : ℕ) → operand-output-lts.Need-atom-at-requires (operand-output-calls t) (operand-output-at t) operand-output.Post
+operand-output-atom-at-requires t c κs = rw (c .arg-at .ensures) (atom-as (told t (c .before .before)) (c .before .match .keys1))
 
 operand-output-here-at-requires : (t : ℕ) → operand-output-lts.Need-here-at-requires (operand-output-calls t) (operand-output-at t) operand-output.Post
-operand-output-here-at-requires t c κs = let s = c .before .before in below-128 (s .pre .1 .0) (s .pre .1 .1)
+operand-output-here-at-requires t c κs = let s = (c .before .before) in below-128 (s .pre .1 .0) (s .pre .1 .1)
 
 operand-output-here-at-requires-2 : (t : ℕ) → operand-output-lts.Need-here-at-requires-2 (operand-output-calls t) (operand-output-at t) operand-output.Post
-operand-output-here-at-requires-2 t c κs = let s = c .before .before in below-128 (s .pre .1 .0) (s .pre .1 .1)
+operand-output-here-at-requires-2 t c κs = let s = (c .before .before) in below-128 (s .pre .1 .0) (s .pre .1 .1)
 
 operand-output-here-at-requires-3 : (t : ℕ) → operand-output-lts.Need-here-at-requires-3 (operand-output-calls t) (operand-output-at t) operand-output.Post
-operand-output-here-at-requires-3 t c κs = let s = c .before .before in below-128 (s .pre .1 .0) (s .pre .1 .1)
+operand-output-here-at-requires-3 t c κs = let s = (c .before .before) in below-128 (s .pre .1 .0) (s .pre .1 .1)
 
 operand-output-output-requires : (t : ℕ) → operand-output-lts.Need-output-requires (operand-output-calls t) (operand-output-at t) operand-output.Post
-operand-output-output-requires t c κs = let s = c .before .before in (omega (arith, s .pre .0), s .pre .1)
+operand-output-output-requires t c κs = let s = (c .before .before) in (omega (arith, s .pre .0), s .pre .1)
 
 operand-output-returns : (t : ℕ) → operand-output-lts.Need-returns (operand-output-calls t) (operand-output-at t) operand-output.Post
 unfolding valueRule rowFrom countOf
 operand-output-returns t c =
-    let s = c .before .before .before .before in
-    ap (λ a. isOne (getD (s .args .atoms .now) a 0)) (c .before .arg-at .ensures)
+    let s = (c .before .before .before .before) in
+    c .atom-at .ensures ∙ ap (λ a. isOne (getD (s .args .atoms .now) a 0)) (c .before .arg-at .ensures)
     ∙ sym (answer-read _ _ (told t (c .before .before .before)) (c .before .before .match .keys1) ∙ List·getD-map isOne (s .args .atoms .now) (argAt (s .args .monitor .now) (s .args .row)) 0)
 
 operand-output-returns-2 : (t : ℕ) → operand-output-lts.Need-returns-2 (operand-output-calls t) (operand-output-at t) operand-output.Post
@@ -143,46 +154,38 @@ operand-output-returns-5 t c = c .output .ensures
 
 -- where `output` has read the row's words
 abbrev Place : ℕ → Type 0
-Place t = output-lts.After-start-at (output-calls t) (output-at t) output.Post
+Place t = output-lts.After-row-at (output-calls t) (output-at t) output.Post
 
-seen : (t : ℕ) (p : Place t) → let s = p .before .before .before in
-    Read (s .args .monitor .now) (s .args .row) (p .before .before .kind-at .result) (p .before .arg-at .result) (p .start-at .result)
-seen t p =
-    let s = p .before .before .before in
-    record { kept = s .pre .1 .0; inside = s .pre .1 .1; kind-is = p .before .before .kind-at .ensures; arg-is = p .before .arg-at .ensures; start-is = p .start-at .ensures }
+seen : (t : ℕ) (p : Place t) → let s = p .before in
+    Read (s .args .monitor .now) (s .args .row) (p .row-at .result .kind) (p .row-at .result .arg) (p .row-at .result .start)
+seen t p = let s = p .before in read-words (s .args .monitor .now) (s .args .row) (s .pre .1 .0) (s .pre .1 .1) (p .row-at .ensures)
 
 -- a row below is asked
-asks : (t : ℕ) (p : Place t) {x : ℕ} → let s = p .before .before .before in
+asks : (t : ℕ) (p : Place t) {x : ℕ} → let s = p .before in
     x < s .args .row → ((x + 1) * 2 ^ 64 + 1 < t) × (BookKept (s .args .monitor .now) × (x < rowCount (s .args .monitor .now)))
 asks t p lt =
-    let s = p .before .before .before in
+    let s = p .before in
     (row-falls (s .pre .0) lt, (s .pre .1 .0, lt-trans lt (s .pre .1 .1)))
 
-output-kind-at-requires : (t : ℕ) → output-lts.Need-kind-at-requires (output-calls t) (output-at t) output.Post
-output-kind-at-requires t c κs = let s = c in below-128 (s .pre .1 .0) (s .pre .1 .1)
+output-row-at-requires : (t : ℕ) → output-lts.Need-row-at-requires (output-calls t) (output-at t) output.Post
+output-row-at-requires t c κs = let s = c in below-128 (s .pre .1 .0) (s .pre .1 .1)
 
-output-arg-at-requires : (t : ℕ) → output-lts.Need-arg-at-requires (output-calls t) (output-at t) output.Post
-output-arg-at-requires t c κs = let s = c .before in below-128 (s .pre .1 .0) (s .pre .1 .1)
-
-output-start-at-requires : (t : ℕ) → output-lts.Need-start-at-requires (output-calls t) (output-at t) output.Post
-output-start-at-requires t c κs = let s = c .before .before in below-128 (s .pre .1 .0) (s .pre .1 .1)
-
-output-element-copy-out-result : (t : ℕ) → output-lts.Need-element-copy-out-result (output-calls t) (output-at t) output.Post
-output-element-copy-out-result t c = atom-as (seen t (c .before)) (c .match .keys3)
+output-atom-at-requires : (t : ℕ) → output-lts.Need-atom-at-requires (output-calls t) (output-at t) output.Post
+output-atom-at-requires t c κs = atom-as (seen t (c .before)) (c .match .keys3)
 
 output-output-walk-requires : (t : ℕ) → output-lts.Need-output-walk-requires (output-calls t) (output-at t) output.Post
 unfolding countOf
 output-output-walk-requires t c κs =
-    let s = c .before .before .before .before in
+    let s = (c .before .before) in
     let sp = span-as (seen t (c .before)) (c .match .keys4) in
-    (walk-falls (s .args .row) (s .pre .0) (omega (arith, sp .inside)), (s .pre .1 .0, (s .pre .1 .1, sp)))
+    (walk-falls (s .pre .0) (above-most (c .before .row-at .result .arg) sp) (omega (arith, sp .inside)), (s .pre .1 .0, span-book sp (s .pre .1 .1)))
 
 output-output-walk-requires-2 : (t : ℕ) → output-lts.Need-output-walk-requires-2 (output-calls t) (output-at t) output.Post
 unfolding countOf
 output-output-walk-requires-2 t c κs =
-    let s = c .before .before .before .before in
+    let s = (c .before .before) in
     let sp = span-as (seen t (c .before)) (c .match .keys5) in
-    (walk-falls (s .args .row) (s .pre .0) (omega (arith, sp .inside)), (s .pre .1 .0, (s .pre .1 .1, sp)))
+    (walk-falls (s .pre .0) (above-most (c .before .row-at .result .arg) sp) (omega (arith, sp .inside)), (s .pre .1 .0, span-book sp (s .pre .1 .1)))
 
 output-operand-at-requires : (t : ℕ) → output-lts.Need-operand-at-requires (output-calls t) (output-at t) output.Post
 unfolding countOf
@@ -202,21 +205,21 @@ output-operand-output-requires-2 t c κs = asks t (c .before .before) (first-bel
 
 output-add-operand-at : (t : ℕ) → output-lts.Need-add-operand-at (output-calls t) (output-at t) output.Post
 unfolding countOf
-output-add-operand-at t c = omega (arith, second-inside (seen t (c .before .before .before .before)) (c .before .before .before .match .keys7) (lit< tt))
+output-add-operand-at t c = omega (arith, second-inside (seen t (c .before .before .before .before .before)) (c .before .before .before .before .match .keys7) (lit< tt))
 
 output-operand-at-requires-3 : (t : ℕ) → output-lts.Need-operand-at-requires-3 (output-calls t) (output-at t) output.Post
 unfolding countOf
-output-operand-at-requires-3 t c κs = second-inside (seen t (c .before .before .before .before)) (c .before .before .before .match .keys7) (lit< tt)
+output-operand-at-requires-3 t c κs = second-inside (seen t (c .before .before .before .before .before)) (c .before .before .before .before .match .keys7) (lit< tt)
 
 output-operand-output-requires-3 : (t : ℕ) → output-lts.Need-operand-output-requires-3 (output-calls t) (output-at t) output.Post
 unfolding countOf
-output-operand-output-requires-3 t c κs = asks t (c .before .before .before .before .before) (second-below (span-as (seen t (c .before .before .before .before .before)) (c .before .before .before .before .match .keys7)) (lit< tt) (c .operand-at3 .ensures))
+output-operand-output-requires-3 t c κs = asks t (c .before .before .before .before .before .before) (second-below (span-as (seen t (c .before .before .before .before .before .before)) (c .before .before .before .before .before .match .keys7)) (lit< tt) (c .operand-at3 .ensures))
 
 output-here-at-requires : (t : ℕ) → output-lts.Need-here-at-requires (output-calls t) (output-at t) output.Post
-output-here-at-requires t c κs = let s = c .before .before .before .before in below-128 (s .pre .1 .0) (s .pre .1 .1)
+output-here-at-requires t c κs = let s = (c .before .before) in below-128 (s .pre .1 .0) (s .pre .1 .1)
 
 output-here-at-requires-2 : (t : ℕ) → output-lts.Need-here-at-requires-2 (output-calls t) (output-at t) output.Post
-output-here-at-requires-2 t c κs = let s = c .before .before .before .before in below-128 (s .pre .1 .0) (s .pre .1 .1)
+output-here-at-requires-2 t c κs = let s = (c .before .before) in below-128 (s .pre .1 .0) (s .pre .1 .1)
 
 output-returns : (t : ℕ) → output-lts.Need-returns (output-calls t) (output-at t) output.Post
 unfolding valueRule rowFrom countOf
@@ -229,7 +232,8 @@ output-returns-2 t c = sym (answer-read _ _ (seen t (c .before)) (c .match .keys
 output-returns-3 : (t : ℕ) → output-lts.Need-returns-3 (output-calls t) (output-at t) output.Post
 unfolding valueRule rowFrom countOf
 output-returns-3 t c =
-    sym (answer-read _ _ (seen t (c .before .before)) (c .before .match .keys3) ∙ List·getD-map isOne (c .before .before .before .before .before .args .atoms .now) (c .before .before .before .arg-at .result) 0)
+    let s = (c .before .before .before) in
+    c .atom-at .ensures ∙ sym (answer-read _ _ (seen t (c .before .before)) (c .before .match .keys3) ∙ List·getD-map isOne (s .args .atoms .now) (c .before .before .row-at .result .arg) 0)
 
 output-returns-4 : (t : ℕ) → output-lts.Need-returns-4 (output-calls t) (output-at t) output.Post
 unfolding valueRule rowFrom countOf
@@ -245,13 +249,11 @@ output-returns-6 t c = sym (answer-one _ _ (seen t (c .before .before .before)) 
 
 output-returns-7 : (t : ℕ) → output-lts.Need-returns-7 (output-calls t) (output-at t) output.Post
 unfolding valueRule rowFrom countOf
-output-returns-7 t c =
-    sym (answer-two _ _ (seen t (c .before .before .before .before .before .before)) (c .before .before .before .before .before .match .keys7) implies (λ os. refl) (lit< tt) (c .before .before .before .before .operand-at2 .ensures) (sym (c .before .before .if1 .taken) ∙ c .before .before .before .operand-output2 .ensures) (c .before .operand-at3 .ensures) (c .operand-output3 .ensures))
+output-returns-7 t c = sym (answer-two _ _ (seen t (c .before .before .before .before .before .before .before)) (c .before .before .before .before .before .before .match .keys7) implies (λ os. refl) (lit< tt) (c .before .before .before .before .before .operand-at2 .ensures) (sym (c .before .before .before .if1 .taken) ∙ c .before .before .before .before .operand-output2 .ensures) (c .before .operand-at3 .ensures) (c .operand-output3 .ensures))
 
 output-returns-8 : (t : ℕ) → output-lts.Need-returns-8 (output-calls t) (output-at t) output.Post
 unfolding valueRule rowFrom countOf
-output-returns-8 t c =
-    sym (answer-two _ _ (seen t (c .before .before .before .before)) (c .before .before .before .match .keys7) implies (λ os. refl) (lit< tt) (c .before .before .operand-at2 .ensures) (sym (c .if1 .left) ∙ c .before .operand-output2 .ensures) refl refl)
+output-returns-8 t c = sym (answer-two _ _ (seen t (c .before .before .before .before)) (c .before .before .before .match .keys7) implies (λ os. refl) (lit< tt) (c .before .before .operand-at2 .ensures) (sym (c .if1 .left) ∙ c .before .operand-output2 .ensures) refl refl)
 
 output-returns-9 : (t : ℕ) → output-lts.Need-returns-9 (output-calls t) (output-at t) output.Post
 unfolding valueRule rowFrom countOf
@@ -264,49 +266,50 @@ output-returns-10 t c =
     c .here-at2 .ensures ∙ sym (⊎-elim (λ k. answer-read _ _ e k) (λ k. answer-read _ _ e k) (past-seven e (c .before .match .rest)))
 
 output-walk-returns : (t : ℕ) → output-walk-lts.Need-returns (output-walk-calls t) (output-walk-at t) output-walk.Post
-output-walk-returns t c = let s = c .before in rw (c .if1 .taken) (joined-nil (s .args .stop))
+output-walk-returns t c = let s = (c .before) in rw (c .if1 .taken) (joined-nil (s .args .stop))
 
 output-walk-operand-at-requires : (t : ℕ) → output-walk-lts.Need-operand-at-requires (output-walk-calls t) (output-walk-at t) output-walk.Post
-output-walk-operand-at-requires t c κs = let s = c .before in omega (arith, s .pre .1 .1 .1 .inside, c .if1 .left)
+output-walk-operand-at-requires t c κs = let s = (c .before) in omega (arith, s .pre .1 .1 .inside, c .if1 .left)
 
 output-walk-operand-output-requires : (t : ℕ) → output-walk-lts.Need-operand-output-requires (output-walk-calls t) (output-walk-at t) output-walk.Post
 output-walk-operand-output-requires t c κs =
-    let s = c .before .before in
+    let s = (c .before .before) in
     let more = some-left (c .before .if1 .left) in
-    let lt = first-below (s .pre .1 .1 .1) more (c .operand-at .ensures) in
-    (operand-falls (s .pre .0) lt more, (s .pre .1 .0, lt-trans lt (s .pre .1 .1 .0)))
+    let e = c .operand-at .ensures in
+    (operand-falls (s .pre .0) (above-first (s .args .monitor .now) (s .args .place) (s .args .left) more e) more, (s .pre .1 .0, first-below (s .pre .1 .1) more e))
 
 output-walk-returns-2 : (t : ℕ) → output-walk-lts.Need-returns-2 (output-walk-calls t) (output-walk-at t) output-walk.Post
 output-walk-returns-2 t c =
-    let s = c .before .before .before .before in
+    let s = (c .before .before .before .before) in
     joined-stop (s .args .stop) _ _ (c .if2 .taken)
-    ∙ ap (joined (s .args .stop)) (sym (walk-cons _ (s .pre .1 .0 .long) (s .pre .1 .1 .1) (some-left (c .before .before .before .if1 .left)) (c .before .before .operand-at .ensures) (c .before .operand-output .ensures)))
+    ∙ ap (joined (s .args .stop)) (sym (walk-cons _ (s .pre .1 .0 .long) (s .pre .1 .1) (some-left (c .before .before .before .if1 .left)) (c .before .before .operand-at .ensures) (c .before .operand-output .ensures)))
 
 output-walk-add-output-walk : (t : ℕ) → output-walk-lts.Need-add-output-walk (output-walk-calls t) (output-walk-at t) output-walk.Post
-output-walk-add-output-walk t c = let s = c .before .before .before .before in omega (arith, s .pre .1 .1 .1 .inside)
+output-walk-add-output-walk t c = let s = (c .before .before .before .before) in omega (arith, s .pre .1 .1 .inside)
 
 output-walk-sub-output-walk : (t : ℕ) → output-walk-lts.Need-sub-output-walk (output-walk-calls t) (output-walk-at t) output-walk.Post
 output-walk-sub-output-walk t c = some-left (c .before .before .before .if1 .left)
 
 output-walk-output-walk-requires : (t : ℕ) → output-walk-lts.Need-output-walk-requires (output-walk-calls t) (output-walk-at t) output-walk.Post
 output-walk-output-walk-requires t c κs =
-    let s = c .before .before .before .before in
+    let s = (c .before .before .before .before) in
     let more = some-left (c .before .before .before .if1 .left) in
-    (rest-falls (s .args .row) (s .pre .0) more, (s .pre .1 .0, (s .pre .1 .1 .0, span-rest (s .pre .1 .1 .1) more)))
+    (rest-falls (s .pre .0) (above-rest (s .args .monitor .now) (s .args .place) (s .args .left) more) more, (s .pre .1 .0, span-rest (s .pre .1 .1) more))
 
 output-walk-returns-3 : (t : ℕ) → output-walk-lts.Need-returns-3 (output-walk-calls t) (output-walk-at t) output-walk.Post
 output-walk-returns-3 t c =
-    let s = c .before .before .before .before .before in
+    let s = (c .before .before .before .before .before) in
     c .output-walk .ensures ∙ joined-on (s .args .stop) _ _ (c .before .if2 .left)
-    ∙ ap (joined (s .args .stop)) (sym (walk-cons _ (s .pre .1 .0 .long) (s .pre .1 .1 .1) (some-left (c .before .before .before .before .if1 .left)) (c .before .before .before .operand-at .ensures) (c .before .before .operand-output .ensures)))
+    ∙ ap (joined (s .args .stop)) (sym (walk-cons _ (s .pre .1 .0 .long) (s .pre .1 .1) (some-left (c .before .before .before .before .if1 .left)) (c .before .before .before .operand-at .ensures) (c .before .before .operand-output .ensures)))
 
 pub +operand-output+output+output-walk-spec : {M : Type 1} → statement M
-+operand-output+output+output-walk-spec = close μ-operand-output μ-output μ-output-walk (λ t. operand-output-lts.spec (operand-output-calls t)
++operand-output+output+output-walk-spec =
+    close μ-operand-output μ-output μ-output-walk (λ t. operand-output-lts.spec (operand-output-calls t)
     (operand-output-at t)
     operand-output.Post
     (operand-output-kind-at-requires t)
     (operand-output-arg-at-requires t)
-    (operand-output-element-copy-out-result t)
+    (operand-output-atom-at-requires t)
     (operand-output-here-at-requires t)
     (operand-output-here-at-requires-2 t)
     (operand-output-here-at-requires-3 t)
@@ -319,10 +322,8 @@ pub +operand-output+output+output-walk-spec : {M : Type 1} → statement M
     (λ t. output-lts.spec (output-calls t)
     (output-at t)
     output.Post
-    (output-kind-at-requires t)
-    (output-arg-at-requires t)
-    (output-start-at-requires t)
-    (output-element-copy-out-result t)
+    (output-row-at-requires t)
+    (output-atom-at-requires t)
     (output-output-walk-requires t)
     (output-output-walk-requires-2 t)
     (output-operand-at-requires t)
