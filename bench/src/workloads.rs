@@ -16,8 +16,10 @@ pub fn workloads() -> Vec<Workload> {
         Workload { name: "desk of 16 kits", case: desk() },
         Workload { name: "nested temporal", case: nested() },
         Workload { name: "wide and/or", case: wide() },
-        Workload { name: ONE_RUN, case: runs(RUNS_IN_ONE) },
-        Workload { name: MANY_RUNS, case: runs(RUNS_APART) },
+        Workload { name: ONE_RUN, case: runs(RUNS_IN_ONE, [0, HALF_THE_RUNS]) },
+        Workload { name: MANY_RUNS, case: runs(RUNS_APART, [0, HALF_THE_RUNS]) },
+        Workload { name: "clock at the newest of 64", case: runs(RUNS_APART, [NEXT, NEXT]) },
+        Workload { name: "clock behind all 64", case: runs(RUNS_APART, [FAR_AHEAD, FAR_AHEAD]) },
     ]
 }
 
@@ -160,14 +162,20 @@ fn wide() -> Case {
 const RUNS_IN_ONE: (u64, u64) = (1063, 1);
 const RUNS_APART: (u64, u64) = (1000, 2);
 
-/// 32 Once rows over an instant, half of them now, half 63 later, so that the clock stands at the end of the first
-/// sets and within the others. After the runs are made: 2000 equal times, then 2000 steps of one.
-fn runs((start, step): (u64, u64)) -> Case {
+/// Distances of an instant from the clock: the newest of the 64 runs then meets it, half of them are ahead of it, or all
+/// of them to the last call.
+const NEXT: u64 = 1;
+const HALF_THE_RUNS: u64 = 63;
+const FAR_AHEAD: u64 = 4000;
+
+/// 32 Once rows over an instant, half of them at one distance from the clock, half at another. At 0 the clock is what a
+/// call adds, so that no set is searched. After the runs are made: 2000 equal times, then 2000 steps of one.
+fn runs((start, step): (u64, u64), distances: [u64; 2]) -> Case {
     let mut rows = Rows::default();
     let mut properties = Vec::new();
     for number in 0..32 {
         let atom = rows.atom(number);
-        let distance = if number % 2 == 0 { 0 } else { 63 };
+        let distance = distances[number as usize % 2];
         properties.push(rows.temporal(ONCE, vec![atom], distance, distance));
     }
     let guarantees = properties.split_off(16);

@@ -4,7 +4,7 @@ pub mod Unique
 pub mod Covering
 pub mod Words
 pub mod Packs
-pub mod Halving
+pub mod Looking
 pub mod Moves
 pub mod Walk
 pub mod Place

@@ -43,26 +43,22 @@ fn upper_at(set: &[u64], j: usize) -> u64
     set[2 * j + 2]
 }
 
-// Whether `t` is in the set: the newest run that begins at or before `t` decides.
+// Whether `t` is in the set. The newest run comes first, since the clock mostly meets the last runs; and the first from
+// there that begins at or before `t` decides, since every older run ends before that one begins.
 pub fn contains(set: &[u64], t: u64) -> bool
     requires { ⌜ Good (now set) ⌝ }
     ensures { λ r. ⌜ r ≡ has (runs (now (set .entry))) t ⌝ }
 {
-    // Runs below `low` begin at or before `t`, those from `high` on after it.
-    let mut low = 0;
-    let mut high = set[0] as usize;
-    while low < high {
-        let mid = low + (high - low) / 2;
-        if lower_at(set, mid) <= t {
-            low = mid + 1;
-        } else {
-            high = mid;
+    let mut run = set[0] as usize;
+    while 0 < run {
+        run -= 1;
+        let lower = lower_at(set, run);
+        let upper = upper_at(set, run);
+        if lower <= t {
+            return t <= upper;
         }
     }
-    if low == 0 {
-        return false;
-    }
-    t <= upper_at(set, low - 1)
+    false
 }
 
 // Whether every instant from `from` to MAX is in the set: `contains_unbounded_interval` of the original. Only the last run can hold MAX.

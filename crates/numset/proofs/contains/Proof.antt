@@ -1,60 +1,44 @@
--- The invariant is `Halving`: runs below `low` begin at or before `t`, those from `high` on after it.
+-- The invariant is `Looking`: the runs from `run` on begin after `t`.
 use mathlib.Core.Path.{ap, _∙_}
 use lib.Dec.{leb}
-use Prim.Native.Nat.{_-_}
 use native.Mathlib.Omega.{arith}
-use Rattle.numset.proofs.Halving.{Halving, halving-up, halving-down, halving-none, halving-one}
+use Rattle.numset.proofs.Looking.{Looking, looking-start, looking-older, looking-decides, looking-none}
 use borrow.Author.Needs.{needs}
 use Rattle.numset.proofs.contains.Statement.{statement}
 use Rattle.numset.proofs.contains.Tie as tie
 
 abbrev Inv-loop : tie.InvT-loop
-Inv-loop set t low₀ high₀ low high = Halving set t low high
+Inv-loop set t run₀ run = Looking set t run
 
 abbrev μ-loop : tie.MeasureT-loop
-μ-loop set t low₀ high₀ low high = high - low
+μ-loop set t run₀ run = run
 
-shared-slice-read-high : tie.Need-shared-slice-read-high Inv-loop μ-loop
-shared-slice-read-high c = search needs
+shared-slice-read-run : tie.Need-shared-slice-read-run Inv-loop μ-loop
+shared-slice-read-run c = search needs
 
 loop-holds : tie.Need-loop-holds Inv-loop μ-loop
-loop-holds c = search needs
+loop-holds c = looking-start _ (c .before .before .pre)
 
-sub-mid : tie.Need-sub-mid Inv-loop μ-loop
-sub-mid c = search needs
-
-add-mid : tie.Need-add-mid Inv-loop μ-loop
-add-mid c = search needs
+sub-run : tie.Need-sub-run Inv-loop μ-loop
+sub-run c = search needs
 
 lower-at-requires : tie.Need-lower-at-requires Inv-loop μ-loop
 lower-at-requires c κs = search needs
 
-add-low : tie.Need-add-low Inv-loop μ-loop
-add-low c = search needs
+upper-at-requires : tie.Need-upper-at-requires Inv-loop μ-loop
+upper-at-requires c κs = search needs
+
+returns : tie.Need-returns Inv-loop μ-loop
+returns c = ap (leb _) (c .before .upper-at .ensures) ∙ looking-decides (c .before .before .before .before .loop .inv) (omega arith) (omega arith)
 
 loop-less : tie.Need-loop-less Inv-loop μ-loop
 loop-less c = search needs
 
 loop-again : tie.Need-loop-again Inv-loop μ-loop
-loop-again c = halving-up _ (c .before .before .before .loop .inv) (omega arith) (omega arith)
-
-loop-less-2 : tie.Need-loop-less-2 Inv-loop μ-loop
-loop-less-2 c = search needs
-
-loop-again-2 : tie.Need-loop-again-2 Inv-loop μ-loop
-loop-again-2 c = halving-down _ (c .before .before .before .loop .inv) (omega arith) (omega arith) (omega arith)
-
-returns : tie.Need-returns Inv-loop μ-loop
-returns c = halving-none (c .before .before .loop .inv) (omega arith) (omega arith)
-
-sub-upper-at : tie.Need-sub-upper-at Inv-loop μ-loop
-sub-upper-at c = search needs
-
-upper-at-requires : tie.Need-upper-at-requires Inv-loop μ-loop
-upper-at-requires c κs = search needs
+loop-again c = looking-older (c .before .before .before .before .loop .inv) (omega arith) (omega arith)
 
 returns-2 : tie.Need-returns-2 Inv-loop μ-loop
-returns-2 c = ap (leb _) (c .upper-at .ensures) ∙ halving-one (c .before .before .before .loop .inv) (omega arith) (omega arith)
+returns-2 c = looking-none (c .before .loop .inv) (omega arith)
 
 pub contains-spec : {M : Type 1} → statement M
 contains-spec =
@@ -62,17 +46,12 @@ contains-spec =
     (tie.spec
     Inv-loop
     μ-loop
-    shared-slice-read-high
+    shared-slice-read-run
     loop-holds
-    sub-mid
-    add-mid
+    sub-run
     lower-at-requires
-    add-low
+    upper-at-requires
+    returns
     loop-less
     loop-again
-    loop-less-2
-    loop-again-2
-    returns
-    sub-upper-at
-    upper-at-requires
     returns-2)
