@@ -1,9 +1,5 @@
-<<<<<<< HEAD
-//! P4 and P5 of docs/REFERENCE.md 6.6 on the original's interval set: what it does on these additions, shown by running it.
-=======
 //! P1 to P5 of REFERENCE in one list: what the original's interval set does, shown by running it, and beside it what the transcription
 //! is proved to give. It ends with 1 where the two differ.
->>>>>>> original
 
 use std::process::ExitCode;
 use std::{fmt, panic};
