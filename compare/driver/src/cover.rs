@@ -125,8 +125,10 @@ fn range_kind(range: &Range) -> String {
 fn set_kind(set: &Runs, clock: u64) -> &'static str {
     if set.covers(clock) {
         "covers"
-    } else if set.is_empty() {
+    } else if set.list().is_empty() {
         "empty"
+    } else if set.gone(clock) {
+        "lapsed"
     } else {
         "does not cover"
     }

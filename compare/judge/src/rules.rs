@@ -62,7 +62,7 @@ pub fn early(book: &Book, sets: &[Runs], clock: u64) -> Vec<Answer> {
 
 /// The settled answers of all rows after an accepted call.
 pub fn settled(book: &Book, sets: &[Runs], clock: u64) -> Vec<Answer> {
-    table(book, |row, answers, number| settled_rule(row, answers, sets[number].covers(clock), sets[number].is_empty()))
+    table(book, |row, answers, number| settled_rule(row, answers, sets[number].covers(clock), sets[number].gone(clock)))
 }
 
 fn table(book: &Book, rule: impl Fn(&Row, &[Answer], usize) -> Answer) -> Vec<Answer> {
@@ -114,7 +114,7 @@ fn early_rule(row: &Row, answers: &[Answer], covers: bool) -> Answer {
     }
 }
 
-fn settled_rule(row: &Row, answers: &[Answer], covers: bool, empty: bool) -> Answer {
+fn settled_rule(row: &Row, answers: &[Answer], covers: bool, gone: bool) -> Answer {
     match row {
         Row::And(operands) => {
             let all = |a: Answer| operands.iter().all(|&o| answers[o] == a);
@@ -128,17 +128,17 @@ fn settled_rule(row: &Row, answers: &[Answer], covers: bool, empty: bool) -> Ans
         }
         Row::Once(argument, Range { lower, .. }) => {
             let argument = answers[*argument];
-            two_tests(covers || (argument == True && *lower == 0), argument == False && empty)
+            two_tests(covers || (argument == True && *lower == 0), argument == False && gone)
         }
         Row::Historically(argument, Range { lower, .. }) => {
             let argument = answers[*argument];
-            two_tests(argument == True && empty, covers || (argument == False && *lower == 0))
+            two_tests(argument == True && gone, covers || (argument == False && *lower == 0))
         }
         Row::Since(left, right, Range { lower, .. }) => {
             let (left, right) = (answers[*left], answers[*right]);
             two_tests(
                 (left == True && covers) || (right == True && *lower == 0),
-                (right == False && empty) || (left == False && *lower > 0),
+                (right == False && gone) || (left == False && *lower > 0),
             )
         }
         _ => common_rule(row, answers),

@@ -10,8 +10,9 @@ impl Runs {
         &self.0
     }
 
-    pub fn is_empty(&self) -> bool {
-        self.0.is_empty()
+    /// No instant at or after t is in the set.
+    pub fn gone(&self, t: u64) -> bool {
+        self.0.iter().all(|&(_, last)| last < t)
     }
 
     pub fn contains(&self, t: u64) -> bool {

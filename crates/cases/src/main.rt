@@ -42,6 +42,7 @@ fn whole_case() {
 }
 
 // The argument is settled false, but the set is not empty: settled stays open, even when the range is left.
+// The last instant of its set is 5: at 5 it is not gone, at 6 it is, and the rule settles false.
 fn lapsed() {
     text(b"Once[0,5] Historically[0,MAX] a0\n");
     let book = Words::of(3)
@@ -55,6 +56,61 @@ fn lapsed() {
     load(&mut monitor, book);
     state(&mut monitor, &[1]);
     state(&mut monitor, &[0]);
+    time(&mut monitor, 5);
+    time(&mut monitor, 6);
+}
+
+// The last instant of its set is 5: at 5 it is not gone, at 6 it is, and the rule settles true.
+fn lapsed_historically() {
+    text(b"Historically[0,5] Once[0,MAX] a0\n");
+    let book = Words::of(3)
+        .row(ATOM, 0, 0, 0)
+        .row(ONCE, 1, 0, MAX)
+        .row(HISTORICALLY, 1, 0, 5)
+        .section(&[0, 1])
+        .section(&[])
+        .section(&[2]);
+    let mut monitor = [0u64; SIZE];
+    load(&mut monitor, book);
+    state(&mut monitor, &[0]);
+    state(&mut monitor, &[1]);
+    time(&mut monitor, 5);
+    time(&mut monitor, 6);
+}
+
+fn lapsed_since() {
+    text(b"Since(a1, Historically[0,MAX] a0)[0,5]\n");
+    let book = Words::of(4)
+        .row(ATOM, 0, 0, 0)
+        .row(HISTORICALLY, 1, 0, MAX)
+        .row(ATOM, 1, 0, 0)
+        .row(SINCE, 2, 0, 5)
+        .section(&[0, 2, 1])
+        .section(&[])
+        .section(&[3]);
+    let mut monitor = [0u64; SIZE];
+    load(&mut monitor, book);
+    state(&mut monitor, &[1, 1]);
+    state(&mut monitor, &[0, 1]);
+    time(&mut monitor, 5);
+    time(&mut monitor, 6);
+}
+
+// The range begins two instants after the call: until 5 something of it is ahead.
+fn lapsed_later() {
+    text(b"Once[2,5] Historically[0,MAX] a0\n");
+    let book = Words::of(3)
+        .row(ATOM, 0, 0, 0)
+        .row(HISTORICALLY, 1, 0, MAX)
+        .row(ONCE, 1, 2, 5)
+        .section(&[0, 1])
+        .section(&[])
+        .section(&[2]);
+    let mut monitor = [0u64; SIZE];
+    load(&mut monitor, book);
+    state(&mut monitor, &[1]);
+    state(&mut monitor, &[0]);
+    time(&mut monitor, 5);
     time(&mut monitor, 6);
 }
 
@@ -242,6 +298,9 @@ fn early_turned() {
 fn main() {
     whole_case();
     lapsed();
+    lapsed_historically();
+    lapsed_since();
+    lapsed_later();
     full();
     last_time();
     refused_calls();

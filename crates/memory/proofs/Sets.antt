@@ -1,12 +1,13 @@
 -- The sets of the state that a memory holds: a temporal row's is that of its slot, any other row has none. Assumes nothing.
-use Prim.Native.Nat.{ℕ, _<_}
+use Prim.Native.Nat.{ℕ, _≤_, _<_}
 use native.Mathlib.Omega.{arith}
-use native.Mathlib.Decide.{decLt}
-use mathlib.Core.Path.{_≡_, ap, _∙_}
+use native.Mathlib.Decide.{decLt, decLe}
+use mathlib.Core.Path.{_≡_, ap, subst, _∙_}
 use mathlib.Core.Bool.{cond}
 use mathlib.Core.List.{List, []}
 use borrow.Author.Tests.{le-leb, lt-leb}
-use Rattle.numset.specs.Runs.{runs}
+use Rattle.numset.specs.Runs.{runs, Canonical}
+use Rattle.numset.proofs.Laws.{good-canonical}
 use Rattle.pmtl.specs.Monitor.{setAt}
 use Rattle.lists.proofs.Listed.{listed-at, listed-out}
 use Rattle.memory.specs.Memory.{rowCount, temporals, kindAt, slotAt, ownerAt, slotWords, setOf, stateOf}
@@ -29,3 +30,18 @@ module _ (m : List ℕ) (kept : Kept m) where
       go : Dec (r < rowCount m) → setAt (stateOf m) r ≡ []
       go (yes h) = listed-at (setOf m) [] (rowCount m) r h ∙ ap (λ b. cond b (runs (slotWords m (slotAt m r))) []) (lt-leb 7 (kindAt m r) (plain h))
       go (no h) = listed-out (setOf m) [] (rowCount m) r (omega arith)
+
+  -- each is canonical
+  pub set-canonical : (r : ℕ) → Canonical (setAt (stateOf m) r)
+  unfolding Canonical
+  set-canonical r = go (decLt r (rowCount m)) (decLe 7 (kindAt m r))
+    where
+      go : Dec (r < rowCount m) → Dec (7 ≤ kindAt m r) → Canonical (setAt (stateOf m) r)
+      go (yes h) (yes k) =
+          let row = kept .book .rows r h in
+          let inside = row .slot k in
+          let few = kept .book .temporal-few in
+          subst (λ o. Canonical (setAt (stateOf m) o)) (row .owner k)
+          (rw (owner-set (slotAt m r) inside) (good-canonical (kept .sets (slotAt m r) (omega arith))))
+      go (yes h) (no k) = rw (no-set r (λ _. omega arith)) tt
+      go (no h) k = rw (no-set r (λ h′. absurd (h h′))) tt

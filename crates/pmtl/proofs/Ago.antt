@@ -6,7 +6,7 @@ use mathlib.Core.Path.{_≡_, refl, ap, _∙_}
 use mathlib.Core.Logic.{_↔_}
 use mathlib.Core.Bool.{Bool, true, not, _&&_, false≢true}
 use mathlib.Core.List.{[], _∷_}
-use lib.ListN.{length, drop}
+use lib.ListN.{drop}
 use borrow.Author.Tests.{not-true}
 use Rattle.lists.proofs.Tests.{clash, and-left, and-right, and-intro, or-left, or-right, or-elim, not-yes, fails-by}
 use Rattle.pmtl.specs.Book.{Range, inRange, Row, mapRow, Rows, rowAt, Ordered}

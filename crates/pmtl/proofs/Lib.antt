@@ -8,4 +8,5 @@ pub mod Settled
 pub mod Ago
 pub mod Calls
 pub mod Theorems
+pub mod Lapsed
 pub mod Examples

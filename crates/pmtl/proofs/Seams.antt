@@ -1,35 +1,49 @@
 -- What the theorems need of `gone`, `retained` and `horizon`: all else is proved from these laws, whatever the three definitions say. Assumes nothing.
-use Prim.Native.Nat.{ℕ, suc, _≤_}
+use Prim.Native.Nat.{ℕ, _≤_}
 use native.Mathlib.Omega.{arith}
 use mathlib.Core.Path.{_≡_, refl}
-use mathlib.Core.Bool.{true, false, false≢true}
+use mathlib.Core.Logic.{_↔_, ⊎-elim}
+use mathlib.Core.Bool.{true, false}
 use mathlib.Core.List.{[], _∷_}
-use lib.ListN.{length}
-use lib.Dec.{eqb}
-use borrow.Author.Tests.{ne-eqb}
-use Rattle.numset.specs.Runs.{Runs, has, Canonical}
-use Rattle.pmtl.specs.Sets.{retained, horizon, gone}
+use lib.Dec.{ltb}
+use borrow.Author.Tests.{ltb-true, lt-ltb}
+use Rattle.lists.proofs.Tests.{lt-or-ge, clash}
+use Rattle.numset.specs.Runs.{run, Runs, has, Canonical}
+use Rattle.numset.proofs.Laws.{newest-in, above-out}
+use Rattle.pmtl.specs.Sets.{retained, horizon, Gone, gone}
 
 -- gone: not one instant from the clock on is in the set, and it stays so
 pub gone-none : (c : ℕ) → gone c [] ≡ true
 unfolding gone
 gone-none c = refl
 
-pub gone-has : (c t : ℕ) (s : Runs) → c ≤ t → gone c s ≡ true → has s t ≡ false
+pub gone-has : (c t : ℕ) (s : Runs) → Canonical s → c ≤ t → gone c s ≡ true → has s t ≡ false
 unfolding gone has
-gone-has c t [] l h = refl
-gone-has c t (r ∷ rs) l h = absurd (false≢true h)
+gone-has c t [] w l h = refl
+gone-has c t (run a b ∷ rs) w l h = above-out a b rs w t (omega (arith, ltb-true b c h))
+
+has-gone : (c : ℕ) (s : Runs) → Canonical s → Gone c s → gone c s ≡ true
+unfolding gone Canonical
+has-gone c [] w h = refl
+has-gone c (run a b ∷ rs) w h =
+    ⊎-elim
+    (λ p. lt-ltb b c p)
+    (λ p. absurd (clash (newest-in a b rs b (w .0) (omega arith)) (h b p)))
+    (lt-or-ge b c)
+
+-- the test says it of a canonical set
+pub gone-iff : (c : ℕ) (s : Runs) → Canonical s → (gone c s ≡ true) ↔ Gone c s
+gone-iff c s w = (λ h t l. gone-has c t s w l h, has-gone c s w)
 
 pub gone-later : (c d : ℕ) (s : Runs) → c ≤ d → gone c s ≡ true → gone d s ≡ true
 unfolding gone
 gone-later c d [] l h = refl
-gone-later c d (r ∷ rs) l h = absurd (false≢true h)
+gone-later c d (run a b ∷ rs) l h = lt-ltb b d (omega (arith, ltb-true b c h))
 
--- as a test on runs: there is none
-pub gone-test : (c : ℕ) (s : Runs) → eqb (length s) 0 ≡ gone c s
+-- as the code finds it: there is no run, or the newest ends before
+pub gone-newest : (c l u : ℕ) (rs : Runs) → ltb u c ≡ gone c (run l u ∷ rs)
 unfolding gone
-gone-test c [] = refl
-gone-test c (r ∷ rs) = ne-eqb (suc (length rs)) 0 (λ e. omega arith)
+gone-newest c l u rs = refl
 
 -- what a call keeps of a set: all of it
 pub retained-all : (c : ℕ) (s : Runs) → retained c s ≡ s

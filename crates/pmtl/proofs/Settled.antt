@@ -26,7 +26,7 @@ use Rattle.pmtl.specs.Calls.{History}
 use Rattle.pmtl.proofs.Table.{by-rows}
 use Rattle.pmtl.proofs.Answers.{value-fix, set-fix, settled-fix, settled-out, settled-before}
 use Rattle.pmtl.proofs.Seams.{gone-has, gone-later, horizon-now}
-use Rattle.pmtl.proofs.Renewed.{renewed-canonical, renewed-has, renewed-gone}
+use Rattle.pmtl.proofs.Renewed.{renewed-canonical, renewed-has, renewed-gone, rule-canonical}
 use Rattle.pmtl.specs.Past.{run}
 use Rattle.pmtl.proofs.History.{Legal, run-canonical}
 
@@ -38,7 +38,7 @@ abbrev Sound : Answer → Bool → Type 0
 Sound a v = Right (isTrue a) (isFalse a) v
 
 -- what is settled stays so
-abbrev Stays : Answer → Answer → Type 0
+abbrev pub Stays : Answer → Answer → Type 0
 Stays a b = (isTrue a ≡ true → isTrue b ≡ true) × (isFalse a ≡ true → isFalse b ≡ true)
 
 right-sound : (y n v : Bool) → Right y n v → Sound (decided y n) v
@@ -57,7 +57,7 @@ right-stays false false y′ n′ v f g h = (λ x. absurd (false≢true x), λ x
 open-sound : (a : Answer) (v : Bool) → a ≡ Open → Sound a v
 open-sound a v e = rw e (λ x. absurd (false≢true x), λ x. absurd (false≢true x))
 
-open-stays : (a b : Answer) → a ≡ Open → Stays a b
+pub open-stays : (a b : Answer) → a ≡ Open → Stays a b
 open-stays a b e = rw e (λ x. absurd (false≢true x), λ x. absurd (false≢true x))
 
 -- lists of operands
@@ -73,12 +73,12 @@ module _ (r : ℕ) (a : ℕ → Answer) (v : ℕ → Bool) (below : (o : ℕ) �
   any-right (o ∷ os) w = (or-mono _ _ _ _ (below o (w .0) .0) (any-right os (w .1) .0), and-not-or _ _ _ _ (below o (w .0) .1) (any-right os (w .1) .1))
 
 module _ (r : ℕ) (a b : ℕ → Answer) (p : Answer → Bool) (below : (o : ℕ) → o < r → p (a o) ≡ true → p (b o) ≡ true) where
-  every-stays : (os : List ℕ) → AllBelow r os → every p (map a os) ≡ true → every p (map b os) ≡ true
+  pub every-stays : (os : List ℕ) → AllBelow r os → every p (map a os) ≡ true → every p (map b os) ≡ true
   unfolding every
   every-stays [] w = λ h. h
   every-stays (o ∷ os) w = and-mono _ _ _ _ (below o (w .0)) (every-stays os (w .1))
 
-  some-stays : (os : List ℕ) → AllBelow r os → some p (map a os) ≡ true → some p (map b os) ≡ true
+  pub some-stays : (os : List ℕ) → AllBelow r os → some p (map a os) ≡ true → some p (map b os) ≡ true
   unfolding some
   some-stays [] w = λ h. h
   some-stays (o ∷ os) w = or-mono _ _ _ _ (below o (w .0)) (some-stays os (w .1))
@@ -101,8 +101,8 @@ later g c z = outside-above (start g c) (stop g c) c (above (g .lower) (eqb-fals
 covers-has : (c : ℕ) (s : Runs) → c ≤ MAX → covers c s ≡ true → has s c ≡ true
 covers-has c s small h = covers-all c s h c (omega arith) small
 
-gone-now : (c : ℕ) (s : Runs) → gone c s ≡ true → has s c ≡ false
-gone-now c s h = gone-has c c s (omega arith) h
+gone-now : (c : ℕ) (s : Runs) → Canonical s → gone c s ≡ true → has s c ≡ false
+gone-now c s w h = gone-has c c s w (omega arith) h
 
 -- s is the set of a temporal row after a call at clock c, in which it stayed (k) and was added to (x)
 module _ (k x : Bool) (g : Range) (c : ℕ) (old : Runs) (ok : Canonical old) (small : c ≤ MAX) (s : Runs) (is : s ≡ renewed k x g c old) where
@@ -126,6 +126,9 @@ module _ (k x : Bool) (g : Range) (c : ℕ) (old : Runs) (ok : Canonical old) (s
 -- one row in one state: its tests are right of its value
 module _ (now : Snap) (small : now .clock ≤ MAX) (r : ℕ) (a : ℕ → Answer) (v : ℕ → Bool) (below : (o : ℕ) → o < r → Sound (a o) (v o))
     (old : Runs) (ok : Canonical old) where
+  made : (row : Row Bool) (s : Runs) → s ≡ setRule (now .clock) old row → Canonical s
+  made row s e = rw e (rule-canonical (now .clock) old ok row)
+
   row-right : (row : Row ℕ) → Below r row → (s : Runs) → s ≡ setRule (now .clock) old (mapRow v row)
       → Right (settledTrue (covers (now .clock) s) (gone (now .clock) s) (mapRow a row)) (settledFalse (covers (now .clock) s) (gone (now .clock) s) (mapRow a row))
       (valueRule (now .atoms) (has s (now .clock)) (mapRow v row))
@@ -141,19 +144,19 @@ module _ (now : Snap) (small : now .clock ≤ MAX) (r : ℕ) (a : ℕ → Answer
     λ h. or-no _ _ (not-no _ (below x (w .0) .0 (and-right (isFalse (a y)) _ h))) (below y (w .1) .1 (and-left _ _ h)),
   )
   row-right (historically g o) w s e = (
-    λ h. not-yes _ (gone-now _ s (and-right (isTrue (a o)) _ h)),
+    λ h. not-yes _ (gone-now _ s (made (mapRow v (historically g o)) s e) (and-right (isTrue (a o)) _ h)),
     or-elim _ _ (λ h. not-no _ (covers-has _ s small h))
         (λ h. not-no _ (added true (not (v o)) g _ old ok small s e (not-yes _ (below o w .1 (and-left _ _ h))) (and-right (isFalse (a o)) _ h))),
   )
   row-right (once g o) w s e = (
     or-elim _ _ (covers-has _ s small)
         (λ h. added true (v o) g _ old ok small s e (below o w .0 (and-left _ _ h)) (and-right (isTrue (a o)) _ h)),
-    λ h. gone-now _ s (and-right (isFalse (a o)) _ h),
+    λ h. gone-now _ s (made (mapRow v (once g o)) s e) (and-right (isFalse (a o)) _ h),
   )
   row-right (since g x y) w s e = (
     or-elim _ _ (λ h. covers-has _ s small (and-right (isTrue (a x)) _ h))
         (λ h. added (v x) (v y) g _ old ok small s e (below y (w .1) .0 (and-left _ _ h)) (and-right (isTrue (a y)) _ h)),
-    or-elim _ _ (λ h. gone-now _ s (and-right (isFalse (a y)) _ h))
+    or-elim _ _ (λ h. gone-now _ s (made (mapRow v (since g x y)) s e) (and-right (isFalse (a y)) _ h))
         (λ h. dropped (v x) (v y) g _ old ok small s e (below x (w .0) .1 (and-left _ _ h)) (not-true _ (and-right (isFalse (a x)) _ h))),
   )
 
@@ -267,7 +270,7 @@ module _ (b : Rows) (w : Ordered b) where
   to-sound a v true h e = h .0 (ap isTrue e)
   to-sound a v false h e = h .1 (ap isFalse e)
 
-  to-stays : (a a′ : Answer) (x : Bool) → Stays a a′ → a ≡ known x → a′ ≡ known x
+  pub to-stays : (a a′ : Answer) (x : Bool) → Stays a a′ → a ≡ known x → a′ ≡ known x
   to-stays a False true h e = absurd (false≢true (h .0 (ap isTrue e)))
   to-stays a True true h e = refl
   to-stays a Open true h e = absurd (false≢true (h .0 (ap isTrue e)))
@@ -324,5 +327,5 @@ tests-apart cv gn n (since g l r) h k = or-elim (isTrue l && cv) _
     (λ f. clash (and-right (isTrue r) _ t) (not-true _ (and-right (isFalse l) _ f))) k) h
 
 -- a set that covers from a clock is not gone there
-pub covers-not-gone : (c : ℕ) (s : Runs) → c ≤ MAX → covers c s ≡ true → gone c s ≡ true → ⊥
-covers-not-gone c s small v n = clash (covers-has c s small v) (gone-now c s n)
+pub covers-not-gone : (c : ℕ) (s : Runs) → Canonical s → c ≤ MAX → covers c s ≡ true → gone c s ≡ true → ⊥
+covers-not-gone c s w small v n = clash (covers-has c s small v) (gone-now c s w n)

@@ -1,7 +1,6 @@
 -- What is proved of the definitions, in the words of REFERENCE 3 and 4. Of a book it is asked at most that operands are below their owners (`Ordered`);
 -- the calls are any list, the newest first, refused ones among them; r is any number, of a row or of none. Nothing is assumed.
 use Prim.Native.Nat.{ℕ, _≤_}
-use native.Mathlib.Omega.{arith}
 use mathlib.Core.Path.{_≡_, refl, sym, ap, _∙_}
 use mathlib.Core.Logic.{_↔_}
 use mathlib.Core.Bool.{Bool, true, false, cond, not, _&&_}
@@ -101,9 +100,9 @@ pub covers-is : (b : Rows) (calls : List Call) (r : ℕ)
 covers-is b calls r = covers-iff (after b calls .now .clock) (setAt (after b calls) r) (sets-are-canonical b calls r) (clock-small b calls)
 
 -- the rules for settled true and settled false never both apply
-pub never-both : (c : ℕ) (s : Runs) → c ≤ MAX → (row : Row Answer)
+pub never-both : (c : ℕ) (s : Runs) → Canonical s → c ≤ MAX → (row : Row Answer)
     → ¬ ((settledTrue (covers c s) (gone c s) row ≡ true) × (settledFalse (covers c s) (gone c s) row ≡ true))
-never-both c s small row h = tests-apart (covers c s) (gone c s) (covers-not-gone c s small) row (h .0) (h .1)
+never-both c s w small row h = tests-apart (covers c s) (gone c s) (covers-not-gone c s w small) row (h .0) (h .1)
 
 -- Historically is Not Once Not: its set and value
 pub historically-is-not-once-not : (c : ℕ) (s : Runs) (atoms : List Bool) (here : Bool) (g : Range) (v : Bool)

@@ -7,3 +7,4 @@ pub mod Settled
 pub mod Calls
 pub mod Meaning
 pub mod Past
+pub mod Lapsed

@@ -1,8 +1,10 @@
 -- REFERENCE 3.5: how a call changes the set of a temporal row. Definitions only.
-use Prim.Native.Nat.{ℕ}
+use Prim.Native.Nat.{ℕ, _≤_}
+use mathlib.Core.Path.{_≡_}
 use mathlib.Core.Bool.{Bool, true, false, not}
 use mathlib.Core.List.{[], _∷_}
-use Rattle.numset.specs.Runs.{Runs, union}
+use lib.Dec.{ltb}
+use Rattle.numset.specs.Runs.{run, Runs, has, union}
 use Rattle.pmtl.specs.Book.{Range, start, stop, Row}
 use Rattle.pmtl.specs.Book.Row.{never, always, atom, conj, disj, neg, implies, historically, once, since}
 
@@ -13,10 +15,14 @@ retained c s = s
 unfoldable pub horizon : ℕ → ℕ
 horizon c = 0
 
--- the set is gone: it is empty
+-- the set is gone: it has no instant at or after c
+abbrev pub Gone : ℕ → Runs → Type 0
+Gone c s = (t : ℕ) → c ≤ t → has s t ≡ false
+
+-- the same as a test: the newest run ends before c, or there is none
 unfoldable pub gone : ℕ → Runs → Bool
 gone c [] = true
-gone c (r ∷ rs) = false
+gone c (run l u ∷ rs) = ltb u c
 
 -- the set stays, or is dropped
 unfoldable pub staysIf : Bool → Runs → Runs

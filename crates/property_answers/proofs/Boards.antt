@@ -99,7 +99,8 @@ retold-apart {m} kept told long apart (suc n) most =
     let e = retold-length m told n in
     let o = kept .book .owned n (omega arith) in
     let few = kept .book .few in
-    apart-set (retold m told n) (ownerAt m n) (toldOf m n) (retold-apart kept told long apart n (omega arith)) (omega arith) (fact-apart false (clockOf m) (runs (slotWords m n)) (omega (arith, kept .clock)))
+    let slots = kept .book .temporal-few in
+    apart-set (retold m told n) (ownerAt m n) (toldOf m n) (retold-apart kept told long apart n (omega arith)) (omega arith) (fact-apart false (clockOf m) (runs (slotWords m n)) (good-canonical (kept .sets n (omega arith))) (omega (arith, kept .clock)))
 
 -- ---- the answers by what the rows are told
 module _ {m : List ℕ} (kept : Kept m) where

@@ -1,29 +1,28 @@
 -- The atoms and facts of a kept memory, as the loops that read them leave them. Assumes nothing.
-use Prim.Native.Nat.{ℕ, _+_, _*_, _/_, _%_, _≤_, _<_}
+use Prim.Native.Nat.{ℕ, zero, suc, _+_, _*_, _/_, _%_, _≤_, _<_}
 use native.Mathlib.Omega.{arith}
 use native.Mathlib.Decide.{decLt, decLe, ℕ-discrete}
-use mathlib.Core.Path.{_≡_, sym, ap, subst, _∙_}
+use mathlib.Core.Path.{_≡_, refl, sym, ap, subst, _∙_}
 use mathlib.Core.Bool.{Bool, true, false}
 use mathlib.Core.Logic.{_↔_}
 use mathlib.Core.List.{List}
 use lib.ListN.{length, getD, set, replicate, length-set, length-replicate, getD-replicate}
 use lib.Seq.{ext-getD, getD-set-same, getD-set-other}
-use lib.Dec.{eqb, lit≤}
+use lib.Dec.{ltb, lit≤}
 use Rattle.numbers.specs.Limits.{MAX}
-use Rattle.numset.specs.Runs.{runs, runsTo, has, covers, Covers, Good}
+use Rattle.numset.specs.Runs.{lo, hi, runs, runsTo, has, covers, Covers, Good}
 use Rattle.numset.proofs.Laws.{good-canonical}
 use Rattle.numset.proofs.Covering.{covers-test}
-use Rattle.numset.proofs.Words.{length-runs}
 use Rattle.pmtl.specs.Answer.{bitOf}
 use Rattle.pmtl.specs.Monitor.{setAt}
 use Rattle.pmtl.specs.Sets.{gone}
-use Rattle.pmtl.proofs.Seams.{gone-none, gone-test}
+use Rattle.pmtl.proofs.Seams.{gone-none, gone-newest}
 use Rattle.memory.specs.Memory.{rowCount, clockOf, temporals, kindAt, slotAt, ownerAt, slotWords, stateOf, isOne}
 use Rattle.lists.proofs.Listed.{listed-length, listed-at, listed-out}
 use Rattle.memory.specs.Kept.{Kept}
 use Rattle.row_answers.specs.Facts.{factOf, coversIn, goneIn, CoversNotGone}
 use Rattle.row_answers.proofs.Facts.{fact-apart}
-use Rattle.memory.proofs.Sets.{owner-set, no-set}
+use Rattle.memory.proofs.Sets.{owner-set, no-set, set-canonical}
 use Rattle.property_answers.specs.Private.{factAbout, factAt, factsOf}
 
 -- ---- facts: those of the first slots' owners are written, every other row is told that its set is gone
@@ -100,12 +99,20 @@ facts-apart {m} kept is = subst CoversNotGone (sym is) record { not-gone = λ r.
     each : (r : ℕ) → Dec (r < 128) → coversIn (factsOf m) r ≡ true → goneIn (factsOf m) r ≡ false
     each r (yes h) =
         subst (λ x. isOne (x / 2 % 2) ≡ true → isOne (x / 4 % 2) ≡ false) (sym (listed-at (factAt m) 0 128 r h))
-        (fact-apart (has (setAt (stateOf m) r) (clockOf m)) (clockOf m) (setAt (stateOf m) r) (omega (arith, kept .clock)))
+        (fact-apart (has (setAt (stateOf m) r) (clockOf m)) (clockOf m) (setAt (stateOf m) r) (set-canonical m kept r) (omega (arith, kept .clock)))
     each r (no h) = λ c. ap (λ x. isOne (x / 4 % 2)) (listed-out (factAt m) 0 128 r (omega arith))
 
 -- ---- one set
-pub gone-is : (c : ℕ) (words : List ℕ) (n : ℕ) → eqb n 0 ≡ gone c (runsTo words n)
-gone-is c words n = ap (λ k. eqb k 0) (sym (length-runs words n)) ∙ gone-test c (runsTo words n)
+pub gone-empty : (c : ℕ) (words : List ℕ) (n : ℕ) → n ≡ 0 → true ≡ gone c (runsTo words n)
+unfolding runsTo
+gone-empty c words n e = rw e (sym (gone-none c))
+
+pub gone-some : (c : ℕ) (words : List ℕ) (n : ℕ) → (n ≡ 0 → ⊥) → ltb (getD words (2 * n) 0) c ≡ gone c (runsTo words n)
+unfolding runsTo
+gone-some c words zero h = absurd (h refl)
+gone-some c words (suc j) h =
+    let e : 2 * suc j ≡ 2 * j + 2 = omega arith in
+    rw e (gone-newest c (lo words j) (hi words j) (runsTo words j))
 
 pub bit-small : (b : Bool) → bitOf b ≤ 1
 bit-small true = lit≤ tt

@@ -27,7 +27,7 @@ fn told_about(set: &[u64], clock: u64) -> u8
     requires { ⌜ Good (now set) ⌝ }
     ensures { λ r. ⌜ r ≡ toldAbout clock (runs (now (set .entry))) ⌝ }
 {
-    COVERS * bit(numset::covers(set, clock)) + GONE * bit(gone(set))
+    COVERS * bit(numset::covers(set, clock)) + GONE * bit(gone(set, clock))
 }
 
 // Whether all is as before, and this is, too.

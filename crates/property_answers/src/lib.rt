@@ -2,7 +2,7 @@
 mod board;
 
 ghost use mathlib.Core.Path.{_≡_};
-ghost use Prim.Native.Nat.{ℕ, _+_, _<_};
+ghost use Prim.Native.Nat.{_+_, _<_};
 ghost use mathlib.Core.Bool.{cond};
 ghost use lib.ListN.{length, getD};
 ghost use Rattle.numset.specs.Runs.{Good, runs};
@@ -42,12 +42,16 @@ pub struct Verdicts {
     pub list: [Verdict; MOST_PROPERTIES],
 }
 
-// Whether nothing is left in a set that could matter from the clock on: it is empty.
-fn gone(set: &[u64]) -> bool
-    requires { ⌜ 0 < length (now set) ⌝ }
-    ensures { λ r. ⌜ ((c : ℕ) → r ≡ gone c (runs (now (set .entry)))) ⌝ }
+// Whether a set has no instant at or after the clock: there is no run, or the newest ends before.
+fn gone(set: &[u64], clock: u64) -> bool
+    requires { ⌜ Good (now set) ⌝ }
+    ensures { λ r. ⌜ r ≡ gone clock (runs (now (set .entry))) ⌝ }
 {
-    set[0] == 0
+    let count = set[0] as usize;
+    if count == 0 {
+        return true;
+    }
+    set[2 * count] < clock
 }
 
 // What the rows are told of a set.
@@ -57,7 +61,7 @@ fn fact_about(set: &[u64], clock: u64) -> u8
 {
     let here = bit(numset::contains(set, clock));
     let covers = bit(numset::covers(set, clock));
-    here + 2 * covers + GONE * bit(gone(set))
+    here + 2 * covers + GONE * bit(gone(set, clock))
 }
 
 // What the rows are told of their sets. A row that is not temporal has the empty set, which is gone.

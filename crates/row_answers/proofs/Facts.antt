@@ -9,7 +9,7 @@ use lib.ListN.{length, getD, set, replicate, length-replicate, getD-replicate, L
 use lib.Seq.{getD-set-same, getD-set-other}
 use Rattle.numbers.specs.Limits.{MAX}
 use Rattle.lists.proofs.Tests.{fails-by}
-use Rattle.numset.specs.Runs.{Runs, has, covers}
+use Rattle.numset.specs.Runs.{Runs, has, covers, Canonical}
 use Rattle.pmtl.specs.declared.Answer.{Answer}
 use Rattle.pmtl.specs.declared.Answer.the-variants.{Open}
 use Rattle.pmtl.specs.Book.{Row, mapRow, Rows, rowAt, atomWidth, widthOf}
@@ -57,9 +57,9 @@ fact-gone false false true = refl
 fact-gone false false false = refl
 
 -- ---- facts that can be: of no set does a byte say both that it covers and that it is gone
-pub fact-apart : (here : Bool) (c : ℕ) (s : Runs) → c ≤ MAX → isOne (factOf here (covers c s) (gone c s) / 2 % 2) ≡ true → isOne (factOf here (covers c s) (gone c s) / 4 % 2) ≡ false
-fact-apart here c s small h =
-    fact-gone here (covers c s) (gone c s) ∙ fails-by (gone c s) (covers-not-gone c s small (sym (fact-covers here (covers c s) (gone c s)) ∙ h))
+pub fact-apart : (here : Bool) (c : ℕ) (s : Runs) → Canonical s → c ≤ MAX → isOne (factOf here (covers c s) (gone c s) / 2 % 2) ≡ true → isOne (factOf here (covers c s) (gone c s) / 4 % 2) ≡ false
+fact-apart here c s w small h =
+    fact-gone here (covers c s) (gone c s) ∙ fails-by (gone c s) (covers-not-gone c s w small (sym (fact-covers here (covers c s) (gone c s)) ∙ h))
 
 -- such facts there are: nothing is said of any set
 pub apart-none : (n : ℕ) → CoversNotGone (replicate n 0)

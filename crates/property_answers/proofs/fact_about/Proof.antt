@@ -36,7 +36,7 @@ add-result-2 : tie.Need-add-result-2
 add-result-2 c = let g = bit-small (c .before .gone .result) in let eg = c .bit3 .ensures in let v = bit-small (c .before .before .before .covers .result) in let ev = c .before .before .bit2 .ensures in let h = bit-small (c .before .before .before .before .before .contains .result) in let eh = c .before .before .before .before .bit .ensures in record { fits = omega arith }
 
 returns : tie.Need-returns
-returns c = let s = c .before .before .before .before .before .before .before in fact-is (s .pre) (omega arith) (c .before .before .before .before .bit .ensures) (c .before .before .before .before .before .contains .ensures) (c .before .before .bit2 .ensures) (c .before .before .before .covers .ensures) (c .bit3 .ensures) (c .before .gone .ensures (s .args .clock))
+returns c = let s = c .before .before .before .before .before .before .before in fact-is (s .pre) (omega arith) (c .before .before .before .before .bit .ensures) (c .before .before .before .before .before .contains .ensures) (c .before .before .bit2 .ensures) (c .before .before .before .covers .ensures) (c .bit3 .ensures) (c .before .gone .ensures)
 
 pub fact-about-spec : {M : Type 1} → statement M
 fact-about-spec =

@@ -9,6 +9,12 @@ const OVER_H: &str = "9223372036854775808";
 /// Once[0,0] a.
 const NOW: &str = "2\n2 0 0 0\n8 1 0 0\n1 0\n0\n1 1\n";
 
+/// Rules that settle when their set has lapsed: Historically[0,5] Once[0,MAX] a0; Since(a1, Historically[0,MAX] a0)[0,5];
+/// Once[2,5] Historically[0,MAX] a0.
+const LAPSED_HISTORICALLY: &str = "3\n2 0 0 0\n8 1 0 18446744073709551615\n7 1 0 5\n2 0 1\n0\n1 2\n";
+const LAPSED_SINCE: &str = "4\n2 0 0 0\n7 1 0 18446744073709551615\n2 1 0 0\n9 2 0 5\n3 0 2 1\n0\n1 3\n";
+const LAPSED_LATER: &str = "3\n2 0 0 0\n7 1 0 18446744073709551615\n8 1 2 5\n2 0 1\n0\n1 2\n";
+
 /// A name and an input each.
 pub fn examples() -> Vec<(String, Vec<u8>)> {
     let mut all = of_document();
@@ -46,7 +52,10 @@ fn of_document() -> Vec<(&'static str, String)> {
         ("p10", case(&constants, &["0 0"])),
         ("p11", case(&and_or, &["0 0", "1 1 1"])),
         ("p12", case(&once_historically(MAX), &["1 1 1", "1 1 0"])),
-        ("lapsed", case(&once_historically("5"), &["1 1 1", "1 1 0", "0 6"])),
+        ("lapsed", case(&once_historically("5"), &["1 1 1", "1 1 0", "0 5", "0 6"])),
+        ("lapsed-historically", case(LAPSED_HISTORICALLY, &["1 1 0", "1 1 1", "0 5", "0 6"])),
+        ("lapsed-since", case(LAPSED_SINCE, &["1 2 1 1", "1 2 0 1", "0 5", "0 6"])),
+        ("lapsed-later", case(LAPSED_LATER, &["1 1 1", "1 1 0", "0 1", "0 5", "0 6"])),
         ("full-set", joined(NOW, full("1 1 1", &["0 128", "0 127", "0 128"]))),
         ("full-later-row", joined(full_later, full("1 2 1 1", &["1 2 1 0", "0 128", "0 127", "1 2 0 1", "0 129"]))),
         ("time-h", case(NOW, &["1 1 1", &format!("0 {OVER_H}"), &format!("0 {H}"), &format!("0 {MAX}"), "0 5"])),

@@ -28,7 +28,7 @@ add-result : tie.Need-add-result
 add-result c = let g = bit-small (c .before .gone .result) in let eg = c .bit2 .ensures in let v = bit-small (c .before .before .before .covers .result) in let ev = c .before .before .bit .ensures in record { fits = omega arith }
 
 returns : tie.Need-returns
-returns c = let s = c .before .before .before .before .before in told-is (s .pre) (omega arith) (c .before .before .bit .ensures) (c .before .before .before .covers .ensures) (c .bit2 .ensures) (c .before .gone .ensures (s .args .clock))
+returns c = let s = c .before .before .before .before .before in told-is (s .pre) (omega arith) (c .before .before .bit .ensures) (c .before .before .before .covers .ensures) (c .bit2 .ensures) (c .before .gone .ensures)
 
 pub told-about-spec : {M : Type 1} → statement M
 told-about-spec =
