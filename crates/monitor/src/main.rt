@@ -1,15 +1,13 @@
 // Reads standard input and prints its report.
 use console::Came;
 use numbers::LONGEST_INPUT;
+use numbers::LONGEST_REPORT;
 
 // A byte more than the longest input that is read, so that a longer one is seen to be longer.
 const ROOM: usize = LONGEST_INPUT + 1;
 
 // Most reports fit into as much.
 const SHORT_REPORT: usize = 65536;
-
-// No report is longer: 65,536 bytes hold at most 16,384 calls, and a call's line has at most 137 bytes.
-const LONGEST_REPORT: usize = 2300000;
 
 // An input so long has a short report: it holds at most 475 calls.
 const SHORT_INPUT: usize = 1900;
