@@ -7,9 +7,9 @@ use lib.ListN.{length, getD}
 use Rattle.text.specs.Words.{pick, parts, digit, letters, allDigits, said, plain, good, begun, writtenWords, supplied, supply}
 use Rattle.pmtl.specs.Calls.Call.{time}
 use Rattle.book.specs.Reading.{section, next, sections}
-use Rattle.report.specs.Lines.{PropertyWord, CallLine, called, lines}
+use Rattle.report.specs.Lines.{called, lines}
 use Rattle.report.specs.Report.{report}
-use Rattle.report.proofs.Examples.{reportOf, opened, caseInput, caseReport, whole}
+use Rattle.report.proofs.Examples.{reportOf, opened, caseInput, whole}
 use Rattle.slip.specs.Back.{before, pieces, wordIn, lineIn, linesIn}
 use Rattle.slip.specs.Says.{noLine, Says}
 use Rattle.slip.specs.TakenOut.{allWords, CallAt, TakenOut}

@@ -1,13 +1,13 @@
 -- How long a report gets. Assumes nothing.
-use Prim.Native.Nat.{ℕ, zero, suc, _+_, _*_, _-_, _/_, _≤_, _<_}
+use Prim.Native.Nat.{ℕ, zero, suc, _+_, _*_, _-_, _≤_, _<_}
 use native.Mathlib.Omega.{arith}
 use native.Mathlib.Decide.{decLt, ℕ-discrete}
 use borrow.Author.Tests.{eq-eqb, ne-eqb, lt-ltb}
-use mathlib.Core.Path.{_≡_, refl, sym, ap, subst, _∙_}
+use mathlib.Core.Path.{_≡_, refl, ap}
 use mathlib.Core.Bool.{Bool, true, false, cond, not, _&&_}
 use mathlib.Core.List.{List, [], _∷_, _++_, map}
 use lib.Dec.{leb, ltb, eqb}
-use lib.ListN.{length, length-append, length-map}
+use lib.ListN.{length, length-append}
 use Rattle.numbers.specs.Limits.{LAST-TIME, LONGEST-INPUT, LONGEST-REPORT, MOST-ATOMS, MOST-PROPERTIES, MOST-TEMPORALS}
 use Rattle.numbers.specs.Refusals.{ACCEPTED, PAST-LIMIT, WRONG-FORM, WRONG-RANGE, WRONG-LINK, WRONG-USE, TOO-EARLY, TOO-LATE, TOO-NARROW, NOT-A-BIT}
 use Rattle.lists.specs.Lists.{listed}
@@ -22,13 +22,13 @@ use Rattle.book.specs.Rows.{temporal}
 use Rattle.book.specs.Reading.{Read, got, refused, Sections}
 use Rattle.book.specs.Judging.{Loaded, firstOf, firstTo, formGood, rangeGood, kindIn, argIn, lowerIn, upperIn, temporalsIn, rowsIn, rowNumber, linksGood, usedOnce, judged, bookIn, refusedWith, loadedFrom}
 use Rattle.property_answers.specs.Verdict.{verdictIn}
-use Rattle.report.specs.Lines.{PropertyWord, CallLine, Ending, end, stop, Line, book, called, last, wordOf, CallsRead, callsFrom, callsAfter, lineOf, linesOf, linesFrom, lines}
+use Rattle.report.specs.Lines.{PropertyWord, CallLine, Ending, end, stop, book, called, last, wordOf, callsFrom, callsAfter, lineOf, linesOf, linesFrom, lines}
 use Rattle.report.specs.Report.{bookLine, stopLine, endLine, lastLine, propertyWord, propertyWords, callLine, line, written, report}
 use Rattle.slip.specs.Says.{sectionsSaid}
 use Rattle.slip.specs.TakenOut.{allWords}
 use Rattle.slip.specs.Longest.{WORD-BYTES, LINE-BYTES, FIRST-BYTES, LAST-BYTES, longest}
 use Rattle.slip.proofs.Words.{Few, Small, few-words, small-ending, sections-got, sections-refused}
-use Rattle.slip.proofs.Calls.{two-words-each, EndsSmall, Heard, calls-read}
+use Rattle.slip.proofs.Calls.{two-words-each, EndsSmall, calls-read}
 use Rattle.slip.proofs.Places.{lines-loaded, lines-refused, lines-unread}
 
 -- ---- refusals have at most two digits

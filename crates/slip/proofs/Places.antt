@@ -1,9 +1,8 @@
 -- Where a call's line stands, and what it says. Assumes nothing.
-use Prim.Native.Nat.{ℕ, zero, suc, _+_, _-_, _≤_, _<_}
+use Prim.Native.Nat.{ℕ, zero, suc, _+_, _≤_, _<_}
 use native.Mathlib.Omega.{arith}
 use native.Mathlib.Decide.{decLt, ℕ-discrete}
 use mathlib.Core.Path.{_≡_, refl, sym, ap, ap₂, _∙_}
-use mathlib.Core.Bool.{Bool, true, false, cond}
 use mathlib.Core.List.{List, [], _∷_, _++_, map, reverse, reverseAux}
 use lib.ListN.{length, getD, take}
 use borrow.Author.Tests.{eq-eqb, ne-eqb, lt-ltb, le-ltb}
@@ -13,12 +12,12 @@ use Rattle.text.specs.Words.{supply}
 use Rattle.pmtl.specs.Book.{Book}
 use Rattle.pmtl.specs.Monitor.{State, initial}
 use Rattle.pmtl.specs.Calls.{Call, Outcome, call, after}
-use Rattle.book.specs.Reading.{Read, got, refused, Sections, sections}
+use Rattle.book.specs.Reading.{Read, got, refused, Sections}
 use Rattle.book.specs.Judging.{Loaded, loadedFrom}
-use Rattle.report.specs.Lines.{CallLine, Ending, end, stop, Line, book, called, last, CallsRead, callsAfter, lineOf, linesOf, linesFrom, callLines, bookThen, bookLines, lines}
-use Rattle.slip.specs.Says.{sectionsSaid, loadedOf, bookSaid, wordsAfter, callsSaid, firstCalls, noLine, noCallLine, noCall, Whole, Shape}
+use Rattle.report.specs.Lines.{CallLine, Ending, book, called, last, callsAfter, lineOf, linesOf, linesFrom, callLines, bookThen, bookLines, lines}
+use Rattle.slip.specs.Says.{sectionsSaid, loadedOf, wordsAfter, callsSaid, noLine, noCallLine, noCall, Whole, Shape}
 use Rattle.slip.specs.Says.Shape.{whole, refused-book, too-long}
-use Rattle.slip.proofs.Words.{Small, small-ending, sections-refused}
+use Rattle.slip.proofs.Words.{small-ending, sections-refused}
 
 -- ---- a call's line among the others
 not-called : {A : Type 0} {e : Ending} {l : CallLine} → last e ≡ called l → A

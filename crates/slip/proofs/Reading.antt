@@ -1,5 +1,5 @@
 -- Reading back what is written gives the lines. Assumes nothing.
-use Prim.Native.Nat.{ℕ, zero, suc, _+_, _-_, _≤_, _<_}
+use Prim.Native.Nat.{ℕ, _+_, _≤_, _<_}
 use native.Mathlib.Omega.{arith}
 use mathlib.Core.Path.{_≡_, refl, sym, ap, ap₂, _∙_}
 use mathlib.Core.Bool.{true}
@@ -11,7 +11,7 @@ use Rattle.text.specs.Words.{space, lineFeed, digit0, digit, allDigits, said}
 use Rattle.text.specs.Decimals.{digitsBefore, decimal}
 use Rattle.lists.proofs.Tests.{and-left, and-right}
 use Rattle.text.proofs.Back.{decimal-digits, decimal-says}
-use Rattle.report.specs.Lines.{PropertyWord, CallLine, Ending, end, stop, Line, book, called, last}
+use Rattle.report.specs.Lines.{PropertyWord, CallLine, end, stop, Line, book, called, last}
 use Rattle.report.specs.Report.{bookLine, stopLine, endLine, lastLine, propertyWord, propertyWords, callLine, line, written}
 use Rattle.slip.specs.Back.{before, pieces, wordIn, lineIn, linesIn}
 

@@ -17,7 +17,7 @@ use Rattle.book.specs.Judging.{Loaded, judged, bookIn, refusedWith, loadedFrom}
 use Rattle.book.proofs.Ordered.{book-ordered}
 use Rattle.property_answers.specs.Verdict.{verdictIn}
 use Rattle.report.specs.Lines.{PropertyWord, CallLine, Ending, Line, book, called, last, wordOf, lineOf, lines}
-use Rattle.slip.specs.Says.{sectionsSaid, loadedOf, bookSaid, callsSaid, firstCalls, noLine, noWord, noCallLine, noCall, Says, Whole, Shape}
+use Rattle.slip.specs.Says.{loadedOf, bookSaid, callsSaid, firstCalls, noLine, noWord, noCall, Says, Whole, Shape}
 use Rattle.slip.specs.Says.Shape.{whole, refused-book, too-long}
 use Rattle.slip.proofs.Places.{at-place, one-more, shape}
 

@@ -3,7 +3,7 @@ use Prim.Native.Nat.{ℕ, _≤_}
 use native.Mathlib.Omega.{arith}
 use mathlib.Core.Path.{_≡_, refl, sym, ap, _∙_}
 use mathlib.Core.Bool.{Bool, true, false}
-use mathlib.Core.List.{List, [], _++_}
+use mathlib.Core.List.{List}
 use lib.ListN.{length, getD}
 use Rattle.numbers.specs.Limits.{LONGEST-REPORT}
 use Rattle.numbers.specs.Refusals.{ACCEPTED}
@@ -12,7 +12,7 @@ use Rattle.pmtl.specs.declared.Answer.the-variants.{False, True, Open}
 use Rattle.pmtl.specs.Answer.{digitOf, bitOf, known}
 use Rattle.pmtl.specs.Monitor.{value}
 use Rattle.pmtl.specs.Settled.{settled}
-use Rattle.pmtl.specs.Calls.{Call, after, accepted}
+use Rattle.pmtl.specs.Calls.{after, accepted}
 use Rattle.pmtl.specs.Meaning.{meaning}
 use Rattle.pmtl.proofs.Theorems.{demand-2, demand-3}
 use Rattle.property_answers.specs.Verdict.{propertyAt, verdictIn}

@@ -1,7 +1,7 @@
 -- A refused call leaves no trace in the lines: they are those of the text without it. Assumes nothing.
 use Prim.Native.Nat.{ℕ, zero, suc, _+_, _-_, _≤_, _<_}
 use native.Mathlib.Omega.{arith}
-use mathlib.Core.Path.{_≡_, refl, sym, ap, ap₂, subst, _∙_}
+use mathlib.Core.Path.{_≡_, refl, sym, ap, ap₂, _∙_}
 use mathlib.Core.List.{List, [], _∷_, _++_, map, reverse, reverseAux, append-assoc}
 use lib.ListN.{length, getD, take, drop}
 use lib.Seq.{split-at, length-take-le, take-append-seam, getD-append-seam}
@@ -14,13 +14,13 @@ use Rattle.pmtl.specs.Calls.{Call, Outcome, call, after}
 use Rattle.pmtl.proofs.Theorems.{refused-changes-nothing}
 use Rattle.book.specs.Reading.{Read, got, refused, Sections}
 use Rattle.book.specs.Judging.{Loaded, loadedFrom}
-use Rattle.report.specs.Lines.{CallLine, Ending, end, stop, Line, book, called, last, CallsRead, callThen, callsFrom, callsAfter, lineOf, linesOf, linesFrom, lines}
-use Rattle.slip.specs.Says.{sectionsSaid, loadedOf, bookSaid, wordsAfter, callsSaid, firstCalls, noLine, noCallLine, noCall, Whole, Shape}
+use Rattle.report.specs.Lines.{CallLine, Ending, Line, book, called, last, CallsRead, callThen, callsFrom, callsAfter, lineOf, linesOf, linesFrom, lines}
+use Rattle.slip.specs.Says.{sectionsSaid, wordsAfter, noLine, noCall, Whole, Shape}
 use Rattle.slip.specs.Says.Shape.{whole, refused-book, too-long}
 use Rattle.slip.specs.TakenOut.{callWords, allWords, Fits, AllFit, CallAt, TakenOut, lowered, without}
-use Rattle.slip.proofs.Words.{Small, small-ending}
+use Rattle.slip.proofs.Words.{small-ending}
 use Rattle.slip.proofs.Calls.{all-words, Heard, calls-read, callsThen, first-call, first-calls}
-use Rattle.slip.proofs.Places.{at-place, lines-length, lines-at, lines-loaded, loads-as, calls-are, shape}
+use Rattle.slip.proofs.Places.{at-place, lines-length, lines-at, lines-loaded, loads-as, shape}
 use Rattle.slip.proofs.Sayings.{not-book, lone-line, not-last}
 
 -- ---- numbered one lower

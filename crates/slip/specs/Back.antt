@@ -5,7 +5,7 @@ use mathlib.Core.List.{List, [], _∷_, map}
 use lib.ListN.{getD}
 use lib.Dec.{eqb}
 use Rattle.text.specs.Words.{space, lineFeed, digit0, said}
-use Rattle.report.specs.Lines.{PropertyWord, CallLine, Ending, end, stop, Line, book, called, last}
+use Rattle.report.specs.Lines.{PropertyWord, end, stop, Line, book, called, last}
 use Rattle.report.specs.Report.{bookWord, stopWord}
 
 -- a byte more at the front of the first piece

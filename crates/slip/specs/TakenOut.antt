@@ -7,7 +7,7 @@ use Rattle.numbers.specs.Limits.{MOST-ATOMS, LONGEST-INPUT}
 use Rattle.text.specs.Words.{supply}
 use Rattle.pmtl.specs.Calls.{Call, time, state}
 use Rattle.book.specs.Reading.{got, Sections}
-use Rattle.report.specs.Lines.{CallLine, Line, book, called, last}
+use Rattle.report.specs.Lines.{Line, book, called, last}
 use Rattle.slip.specs.Says.{sectionsSaid}
 
 -- the words of a call, and of calls in order
