@@ -14,18 +14,26 @@ use Rattle.pmtl.specs.Monitor.{State, initial}
 use Rattle.pmtl.specs.Calls.{Call, Outcome, call, after}
 use Rattle.book.specs.Reading.{Read, got, refused, Sections}
 use Rattle.book.specs.Judging.{Loaded, loadedFrom}
-use Rattle.report.specs.Lines.{CallLine, Ending, book, called, last, callsAfter, lineOf, linesOf, linesFrom, callLines, bookThen, bookLines, lines}
-use Rattle.slip.specs.Says.{sectionsSaid, loadedOf, wordsAfter, callsSaid, noLine, noCallLine, noCall, Whole, Shape}
+use Rattle.report.specs.Lines.{CallLine, Ending, Line, book, called, last, callsAfter, lineOf, linesOf, linesFrom, callLines, bookThen, bookLines, lines}
+use Rattle.slip.specs.Says.{sectionsSaid, loadedOf, bookSaid, wordsAfter, callsSaid, noLine, noCallLine, missingCall, Whole, Shape}
 use Rattle.slip.specs.Says.Shape.{whole, refused-book, too-long}
 use Rattle.slip.proofs.Words.{small-ending, sections-refused}
 
 -- ---- a call's line among the others
-not-called : {A : Type 0} {e : Ending} {l : CallLine} → last e ≡ called l → A
-not-called h = absurd (let z : _≡_ {A = ℕ} 0 1 = cc in omega arith)
+not-book : {n : ℕ} {l : CallLine} → book n ≡ called l → ⊥
+not-book h = let z : _≡_ {A = ℕ} 0 1 = cc in omega arith
+
+not-last : {e : Ending} {l : CallLine} → last e ≡ called l → ⊥
+not-last h = let z : _≡_ {A = ℕ} 0 1 = cc in omega arith
+
+-- a line alone that is no call's
+lone-line : (x : Line) (l : CallLine) → (x ≡ called l → ⊥) → (i : ℕ) → getD (x ∷ []) i noLine ≡ called l → ⊥
+lone-line x l no-call zero h = no-call h
+lone-line x l no-call (suc i) h = not-last h
 
 pub at-place : (cs : List CallLine) (e : Ending) (i : ℕ) (l : CallLine) → getD (map called cs ++ last e ∷ []) i noLine ≡ called l → (i < length cs) × (getD cs i noCallLine ≡ l)
-at-place [] e zero l h = not-called h
-at-place [] e (suc i) l h = not-called h
+at-place [] e zero l h = absurd (not-last h)
+at-place [] e (suc i) l h = absurd (not-last h)
 at-place (c ∷ cs) e zero l h = (omega arith, cc)
 at-place (c ∷ cs) e (suc i) l h = let r = at-place cs e i l h in (omega (arith, r .0), r .1)
 
@@ -36,7 +44,7 @@ lines-length b done st [] = refl
 lines-length b done st (k ∷ ks) = ap suc (lines-length b (suc done) (call (b .rows) st k .state) ks)
 
 pub lines-at : (b : Book) (done : ℕ) (past ks : List Call) (i : ℕ) → i < length ks → getD (linesOf b done (after (b .rows) past) ks) i noCallLine
-    ≡ lineOf b (suc (done + i)) (call (b .rows) (after (b .rows) (reverseAux (take i ks) past)) (getD ks i noCall))
+    ≡ lineOf b (suc (done + i)) (call (b .rows) (after (b .rows) (reverseAux (take i ks) past)) (getD ks i missingCall))
 unfolding linesOf after
 lines-at b done past [] i h = absurd (omega arith)
 lines-at b done past (k ∷ ks) zero h = let e : done + 0 ≡ done = omega arith in rw e
@@ -44,8 +52,8 @@ lines-at b done past (k ∷ ks) (suc i) h =
     let e : done + suc i ≡ suc done + i = omega arith in rw e (lines-at b (suc done) (k ∷ past) ks i (omega arith))
 
 -- line i of calls, on a fresh monitor
-abbrev sayings : ℕ → Book → List Call → CallLine
-sayings i b ks = lineOf b (suc i) (call (b .rows) (after (b .rows) (reverse (take i ks))) (getD ks i noCall))
+abbrev pub sayings : ℕ → Book → List Call → CallLine
+sayings i b ks = lineOf b (suc i) (call (b .rows) (after (b .rows) (reverse (take i ks))) (getD ks i missingCall))
 
 said-at : (b : Book) (ks : List Call) (i : ℕ) → i < length ks → getD (linesOf b 0 (initial (b .rows)) ks) i noCallLine ≡ sayings i b ks
 unfolding after
@@ -56,7 +64,7 @@ unfolding lineOf
 number-of b i o = refl
 
 -- one call more
-pub one-more : (ks past : List Call) (i : ℕ) → i < length ks → reverseAux (take (suc i) ks) past ≡ getD ks i noCall ∷ reverseAux (take i ks) past
+pub one-more : (ks past : List Call) (i : ℕ) → i < length ks → reverseAux (take (suc i) ks) past ≡ getD ks i missingCall ∷ reverseAux (take i ks) past
 one-more [] past i h = absurd (omega arith)
 one-more (k ∷ ks) past zero h = refl
 one-more (k ∷ ks) past (suc i) h = one-more ks (k ∷ past) i (omega arith)
@@ -120,3 +128,27 @@ shape input = go (decLt LONGEST-INPUT (length input))
     go : Dec (LONGEST-INPUT < length input) → Shape input
     go (yes h) = too-long h (rw (lt-ltb LONGEST-INPUT (length input) h))
     go (no h) = by-read (sectionsSaid input) (omega arith) refl
+
+-- ---- a call's line in a report
+-- line i is that of a call that the text says, after so many others
+pub record CalledLine (input : List ℕ) (i : ℕ) (l : CallLine) : Type 0 where
+  pub fits : length input ≤ LONGEST-INPUT
+  pub loads : loadedOf (sectionsSaid input) .number ≡ ACCEPTED
+  pub others : ℕ
+  pub place : i ≡ suc others
+  pub said : others < length (callsSaid input)
+  pub is : sayings others (bookSaid input) (callsSaid input) ≡ l
+
+in-whole : (input : List ℕ) → length input ≤ LONGEST-INPUT → (w : Whole input) (i : ℕ) (l : CallLine) → getD (book ACCEPTED ∷ map called (w .calls) ++ last (w .ends) ∷ []) i noLine ≡ called l → CalledLine input i l
+in-whole input f w zero l h = absurd (not-book h)
+in-whole input f w (suc i) l h =
+    let q = at-place (w .calls) (w .ends) i l h in
+    record { fits = f; loads = w .loads; others = i; place = refl; said = omega (arith, q .0, w .each); is = sym (w .in-order i (q .0)) ∙ q .1 }
+
+pub called-line : (input : List ℕ) (i : ℕ) {l : CallLine} → getD (lines input) i noLine ≡ called l → CalledLine input i l
+called-line input i {l} h = go (shape input)
+  where
+    go : Shape input → CalledLine input i l
+    go (whole f w) = in-whole input f w i l (ap (λ ls. getD ls i noLine) (sym (w .all)) ∙ h)
+    go (refused-book n e) = absurd (lone-line (book _) l not-book i (ap (λ ls. getD ls i noLine) (sym e) ∙ h))
+    go (too-long n e) = absurd (lone-line (last _) l not-last i (ap (λ ls. getD ls i noLine) (sym e) ∙ h))

@@ -7,6 +7,7 @@ use mathlib.Core.List.{List}
 use lib.ListN.{length, getD}
 use Rattle.numbers.specs.Limits.{LONGEST-REPORT}
 use Rattle.numbers.specs.Refusals.{ACCEPTED}
+use Rattle.pmtl.specs.Book.{properties}
 use Rattle.pmtl.specs.declared.Answer.{Answer}
 use Rattle.pmtl.specs.declared.Answer.the-variants.{False, True, Open}
 use Rattle.pmtl.specs.Answer.{digitOf, bitOf, known}
@@ -23,8 +24,8 @@ use Rattle.slip.specs.Says.{sectionsSaid, bookSaid, firstCalls, noLine, 
 use Rattle.slip.specs.TakenOut.{CallAt, TakenOut, without}
 use Rattle.slip.specs.Longest.{longest}
 use Rattle.slip.proofs.Reading.{lines-back}
-use Rattle.slip.proofs.Places.{shape}
-use Rattle.slip.proofs.Sayings.{ordered, word-is, calls-go-on}
+use Rattle.slip.proofs.Places.{shape, called-line}
+use Rattle.slip.proofs.Sayings.{ordered, word-each, word-is, calls-go-on}
 use Rattle.slip.proofs.Traces.{no-trace, call-at}
 use Rattle.slip.proofs.Lengths.{at-most-longest, room-enough}
 
@@ -42,6 +43,10 @@ written-once ls ls′ e = sym (lines-back ls) ∙ ap linesIn e ∙ lines-back ls
 pub word-says : (input : List ℕ) {i p : ℕ} {w : PropertyWord} → Says (lines input) i p w
     → w ≡ wordOf (verdictIn (bookSaid input) (after (bookSaid input .rows) (firstCalls input i)) p)
 word-says input s = word-is input s
+
+-- and an accepted line has such a word for each property
+pub word-for-each : (input : List ℕ) (i : ℕ) {l : CallLine} → getD (lines input) i noLine ≡ called l → l .refusal ≡ ACCEPTED → length (l .words) ≡ length (properties (bookSaid input))
+word-for-each input i h z = word-each input (called-line input i h) z
 
 -- DEMAND 2 of the slip: the value digit is what the property's row means on those of the calls up to that line that were accepted
 pub value-means : (input : List ℕ) {i p : ℕ} {w : PropertyWord} → Says (lines input) i p w

@@ -1,7 +1,7 @@
 -- A refused call leaves no trace in the lines: they are those of the text without it. Assumes nothing.
 use Prim.Native.Nat.{ℕ, zero, suc, _+_, _-_, _≤_, _<_}
 use native.Mathlib.Omega.{arith}
-use mathlib.Core.Path.{_≡_, refl, sym, ap, ap₂, _∙_}
+use mathlib.Core.Path.{_≡_, refl, sym, ap, ap₂, subst, _∙_}
 use mathlib.Core.List.{List, [], _∷_, _++_, map, reverse, reverseAux, append-assoc}
 use lib.ListN.{length, getD, take, drop}
 use lib.Seq.{split-at, length-take-le, take-append-seam, getD-append-seam}
@@ -15,13 +15,11 @@ use Rattle.pmtl.proofs.Theorems.{refused-changes-nothing}
 use Rattle.book.specs.Reading.{Read, got, refused, Sections}
 use Rattle.book.specs.Judging.{Loaded, loadedFrom}
 use Rattle.report.specs.Lines.{PropertyWord, CallLine, Ending, Line, book, called, last, CallsRead, callThen, callsFrom, callsAfter, lineOf, linesOf, linesFrom, lines}
-use Rattle.slip.specs.Says.{sectionsSaid, wordsAfter, noLine, noCall, Whole, Shape}
-use Rattle.slip.specs.Says.Shape.{whole, refused-book, too-long}
+use Rattle.slip.specs.Says.{sectionsSaid, wordsAfter, noLine, missingCall}
 use Rattle.slip.specs.TakenOut.{callWords, allWords, Fits, AllFit, CallAt, TakenOut, lowered, without}
 use Rattle.slip.proofs.Words.{small-ending}
 use Rattle.slip.proofs.Calls.{all-words, Heard, calls-read, callsThen, first-call, first-calls}
-use Rattle.slip.proofs.Places.{at-place, lines-length, lines-at, lines-loaded, loads-as, shape}
-use Rattle.slip.proofs.Sayings.{not-book, lone-line, not-last}
+use Rattle.slip.proofs.Places.{at-place, lines-length, lines-at, lines-loaded, loads-as, called-line}
 
 -- ---- numbered one lower
 module _ (b : Book) (e : Ending) where
@@ -97,7 +95,7 @@ module _ {input : List ℕ} {i : ℕ} (c : CallAt input i) where
         let q = at-place (linesOf loaded 0 (initial (loaded .rows)) ks) (later .ends) (length (c .before)) l (ap₂ (λ ls n. getD ls n noLine) (sym lines-are) (sym (c .place)) ∙ h) in
         let a = lines-at loaded 0 [] ks (length (c .before)) (omega (arith, q .0, lines-length loaded 0 (initial (loaded .rows)) ks)) in
         ap (λ (x : CallLine). x .refusal) (sym (q .1) ∙ a)
-        ∙ ap₂ (λ xs k. call (loaded .rows) (after (loaded .rows) (reverse xs)) k .number) (take-append-seam (c .before) (c .itself ∷ later .calls)) (getD-append-seam (c .before) (c .itself) (later .calls) noCall)
+        ∙ ap₂ (λ xs k. call (loaded .rows) (after (loaded .rows) (reverse xs)) k .number) (take-append-seam (c .before) (c .itself ∷ later .calls)) (getD-append-seam (c .before) (c .itself) (later .calls) missingCall)
 
     lines-cut : {other : List ℕ} → ¬ (outcome .number ≡ ACCEPTED) → TakenOut c other → lines other ≡ without i (lines input)
     unfolding without after
@@ -107,14 +105,10 @@ module _ {input : List ℕ} {i : ℕ} (c : CallAt input i) where
         ∙ ap₂ without (sym (c .place)) (sym lines-are)
 
   pub no-trace : {l : CallLine} → getD (lines input) i noLine ≡ called l → ¬ (l .refusal ≡ ACCEPTED) → {other : List ℕ} → TakenOut c other → lines other ≡ without i (lines input)
-  no-trace {l} h n {other} t = go (shape input)
-    where
-      go : Shape input → lines other ≡ without i (lines input)
-      go (whole f w) =
-          let z : loadedFrom (c .book) .number ≡ ACCEPTED = ap (λ (x : Loaded). x .number) (sym (loads-as input (c .words))) ∙ w .loads in
-          lines-cut f z (λ y. n (its-line f z h ∙ y)) t
-      go (refused-book m e) = absurd (lone-line (book _) l not-book i (ap (λ ls. getD ls i noLine) (sym e) ∙ h))
-      go (too-long m e) = absurd (lone-line (last _) l not-last i (ap (λ ls. getD ls i noLine) (sym e) ∙ h))
+  no-trace h n t =
+      let k = called-line input i h in
+      let z : loadedFrom (c .book) .number ≡ ACCEPTED = ap (λ (x : Loaded). x .number) (sym (loads-as input (c .words))) ∙ k .loads in
+      lines-cut (k .fits) z (λ y. n (its-line (k .fits) z h ∙ y)) t
 
 -- ---- every line of a call has its words in the text
 fit-take : (j : ℕ) (ks : List Call) → AllFit ks → AllFit (take j ks)
@@ -122,19 +116,19 @@ fit-take zero ks f = tt
 fit-take (suc j) [] f = tt
 fit-take (suc j) (k ∷ ks) f = (f .0, fit-take j ks (f .1))
 
-fit-at : (j : ℕ) (ks : List Call) → AllFit ks → Fits (getD ks j noCall)
+fit-at : (j : ℕ) (ks : List Call) → AllFit ks → Fits (getD ks j missingCall)
 fit-at j [] f = tt
 fit-at zero (k ∷ ks) f = f .0
 fit-at (suc j) (k ∷ ks) f = fit-at j ks (f .1)
 
 split-words : (j : ℕ) (ks : List Call) (left : List ℕ) → j < length ks
-    → allWords ks ++ left ≡ allWords (take j ks) ++ (callWords (getD ks j noCall) ++ (allWords (drop (suc j) ks) ++ left))
+    → allWords ks ++ left ≡ allWords (take j ks) ++ (callWords (getD ks j missingCall) ++ (allWords (drop (suc j) ks) ++ left))
 unfolding allWords
 split-words j ks left h =
     let a = allWords (take j ks) in
-    let k = callWords (getD ks j noCall) in
+    let k = callWords (getD ks j missingCall) in
     let d = allWords (drop (suc j) ks) in
-    ap (λ xs. xs ++ left) (ap allWords (split-at ks j noCall h) ∙ all-words (take j ks) (getD ks j noCall ∷ drop (suc j) ks))
+    ap (λ xs. xs ++ left) (ap allWords (split-at ks j missingCall h) ∙ all-words (take j ks) (getD ks j missingCall ∷ drop (suc j) ks))
     ∙ append-assoc a (k ++ d) left
     ∙ ap (λ l. a ++ l) (append-assoc k d left)
 
@@ -146,7 +140,7 @@ module _ (input : List ℕ) where
         book = s;
         fewer = count - 1;
         before = take j (r .calls);
-        itself = getD (r .calls) j noCall;
+        itself = getD (r .calls) j missingCall;
         rest = allWords (drop (suc j) (r .calls)) ++ h .left;
         place = ap suc (sym n);
         counted = omega (arith, h .counted);
@@ -161,14 +155,5 @@ module _ (input : List ℕ) where
   said-at (got s (count ∷ ws)) e j h = heard-at e (callsFrom (supply input .ending) count ws) (calls-read (supply input .ending) (small-ending input) count ws) j h
   said-at (refused n) e j h = absurd (omega arith)
 
-  in-whole : (w : Whole input) (i : ℕ) (l : CallLine) → getD (book ACCEPTED ∷ map called (w .calls) ++ last (w .ends) ∷ []) i noLine ≡ called l → CallAt input i
-  in-whole w zero l h = absurd (not-book h)
-  in-whole w (suc i) l h = said-at (sectionsSaid input) refl i (omega (arith, at-place (w .calls) (w .ends) i l h .0, w .each))
-
   pub call-at : (i : ℕ) {l : CallLine} → getD (lines input) i noLine ≡ called l → CallAt input i
-  call-at i {l} h = go (shape input)
-    where
-      go : Shape input → CallAt input i
-      go (whole f w) = in-whole w i l (ap (λ ls. getD ls i noLine) (sym (w .all)) ∙ h)
-      go (refused-book m e) = absurd (lone-line (book _) l not-book i (ap (λ ls. getD ls i noLine) (sym e) ∙ h))
-      go (too-long m e) = absurd (lone-line (last _) l not-last i (ap (λ ls. getD ls i noLine) (sym e) ∙ h))
+  call-at i h = let k = called-line input i h in subst (CallAt input) (sym (k .place)) (said-at (sectionsSaid input) refl (k .others) (k .said))

@@ -50,8 +50,8 @@ noWord = record { value = 2; early = 2; settled = 2 }
 abbrev pub noCallLine : CallLine
 noCallLine = record { number = 0; refusal = 0; words = [] }
 
-abbrev pub noCall : Call
-noCall = time 0
+abbrev pub missingCall : Call
+missingCall = time 0
 
 -- line i is that of an accepted call, and w is its word for property p
 pub record Says (ls : List Line) (i p : ℕ) (w : PropertyWord) : Type 0 where
@@ -70,7 +70,7 @@ pub record Whole (input : List ℕ) : Type 0 where
   pub each : length calls ≡ length (callsSaid input)
   pub numbered : (i : ℕ) → i < length calls → getD calls i noCallLine .number ≡ suc i
   pub in-order : (i : ℕ) → i < length calls → getD calls i noCallLine
-      ≡ lineOf (bookSaid input) (suc i) (call (bookSaid input .rows) (after (bookSaid input .rows) (firstCalls input i)) (getD (callsSaid input) i noCall))
+      ≡ lineOf (bookSaid input) (suc i) (call (bookSaid input .rows) (after (bookSaid input .rows) (firstCalls input i)) (getD (callsSaid input) i missingCall))
 
 -- the lines of a report: those; nothing after a refused book; or the one line of an input that is too long
 pub data Shape (input : List ℕ) : Type 0 where
