@@ -14,8 +14,8 @@ use Rattle.pmtl.specs.Monitor.{State, initial}
 use Rattle.pmtl.specs.Calls.{Call, Outcome, call, after}
 use Rattle.book.specs.Reading.{Read, got, refused, Sections}
 use Rattle.book.specs.Judging.{Loaded, loadedFrom}
-use Rattle.report.specs.Lines.{CallLine, Ending, Line, book, called, last, callsAfter, lineOf, linesOf, linesFrom, callLines, bookThen, bookLines, lines}
-use Rattle.slip.specs.Says.{sectionsSaid, loadedOf, bookSaid, wordsAfter, callsSaid, noLine, noCallLine, missingCall, Whole, Shape}
+use Rattle.report.specs.Lines.{CallLine, Ending, Line, book, called, last, CallsRead, callsAfter, lineOf, linesOf, linesFrom, callLines, bookThen, bookLines, lines}
+use Rattle.slip.specs.Says.{sectionsSaid, loadedOf, bookSaid, wordsAfter, readSaid, callsSaid, endSaid, noLine, noCallLine, missingCall, Whole, Shape}
 use Rattle.slip.specs.Says.Shape.{whole, refused-book, too-long}
 use Rattle.slip.proofs.Words.{small-ending, sections-refused}
 
@@ -75,9 +75,9 @@ module _ (input : List ℕ) {s : Sections} {ws : List ℕ} (e : sectionsSaid inp
   unfolding loadedOf
   loads-as = rw e
 
-  pub calls-are : callsSaid input ≡ callsAfter (supply input .ending) ws .calls
+  read-as : readSaid input ≡ callsAfter (supply input .ending) ws
   unfolding wordsAfter
-  calls-are = ap (λ r. callsAfter (supply input .ending) (wordsAfter r) .calls) e
+  read-as = ap (λ r. callsAfter (supply input .ending) (wordsAfter r)) e
 
 module _ (input : List ℕ) (fits : length input ≤ LONGEST-INPUT) where
   -- of a loaded book
@@ -100,15 +100,14 @@ module _ (input : List ℕ) (fits : length input ≤ LONGEST-INPUT) where
       let b = loadedFrom s .book in
       let ks = callsAfter (supply input .ending) ws .calls in
       let n = lines-length b 0 (initial (b .rows)) ks in
+      let said : ks ≡ callsSaid input = ap (λ (r : CallsRead). r .calls) (sym (read-as input e)) in
       record {
         calls = linesOf b 0 (initial (b .rows)) ks;
-        ends = callsAfter (supply input .ending) ws .ends;
         loads = rw (loads-as input e) z;
-        all = lines-loaded e z;
-        each = rw (calls-are input e) n;
+        all = lines-loaded e z ∙ ap (λ x. book ACCEPTED ∷ map called (linesOf b 0 (initial (b .rows)) ks) ++ last x ∷ []) (ap (λ (r : CallsRead). r .ends) (sym (read-as input e)));
+        each = n ∙ ap length said;
         numbered = λ i h. ap (λ (l : CallLine). l .number) (said-at b ks i (omega arith)) ∙ number-of b (suc i) _;
-        in-order = λ i h. said-at b ks i (omega arith)
-            ∙ ap₂ (sayings i) (sym (ap (λ (l : Loaded). l .book) (loads-as input e))) (sym (calls-are input e));
+        in-order = λ i h. said-at b ks i (omega arith) ∙ ap₂ (sayings i) (sym (ap (λ (l : Loaded). l .book) (loads-as input e))) said;
       }
 
 pub shape : (input : List ℕ) → Shape input
@@ -139,10 +138,10 @@ pub record CalledLine (input : List ℕ) (i : ℕ) (l : CallLine) : Type 0 where
   pub said : others < length (callsSaid input)
   pub is : sayings others (bookSaid input) (callsSaid input) ≡ l
 
-in-whole : (input : List ℕ) → length input ≤ LONGEST-INPUT → (w : Whole input) (i : ℕ) (l : CallLine) → getD (book ACCEPTED ∷ map called (w .calls) ++ last (w .ends) ∷ []) i noLine ≡ called l → CalledLine input i l
+in-whole : (input : List ℕ) → length input ≤ LONGEST-INPUT → (w : Whole input) (i : ℕ) (l : CallLine) → getD (book ACCEPTED ∷ map called (w .calls) ++ last (endSaid input) ∷ []) i noLine ≡ called l → CalledLine input i l
 in-whole input f w zero l h = absurd (not-book h)
 in-whole input f w (suc i) l h =
-    let q = at-place (w .calls) (w .ends) i l h in
+    let q = at-place (w .calls) (endSaid input) i l h in
     record { fits = f; loads = w .loads; others = i; place = refl; said = omega (arith, q .0, w .each); is = sym (w .in-order i (q .0)) ∙ q .1 }
 
 pub called-line : (input : List ℕ) (i : ℕ) {l : CallLine} → getD (lines input) i noLine ≡ called l → CalledLine input i l

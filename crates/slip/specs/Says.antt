@@ -11,7 +11,7 @@ use Rattle.pmtl.specs.Calls.{Call, call, after}
 use Rattle.pmtl.specs.Calls.Call.{time}
 use Rattle.book.specs.Reading.{Read, got, refused, Sections, sections}
 use Rattle.book.specs.Judging.{Loaded, refusedWith, loadedFrom}
-use Rattle.report.specs.Lines.{PropertyWord, CallLine, Ending, end, stop, Line, book, called, last, callsAfter, lineOf, lines}
+use Rattle.report.specs.Lines.{PropertyWord, CallLine, Ending, end, stop, Line, book, called, last, CallsRead, callsAfter, lineOf, lines}
 
 -- ---- what a text says
 -- the sections of its book
@@ -31,9 +31,15 @@ unfoldable pub wordsAfter : Read Sections → List ℕ
 wordsAfter (got s ws) = ws
 wordsAfter (refused n) = []
 
--- the calls after the book, in order, up to where reading them ends
+-- what is read after the book: the calls, in order, and how reading them ends
+abbrev pub readSaid : List ℕ → CallsRead
+readSaid input = callsAfter (supply input .ending) (wordsAfter (sectionsSaid input))
+
 abbrev pub callsSaid : List ℕ → List Call
-callsSaid input = callsAfter (supply input .ending) (wordsAfter (sectionsSaid input)) .calls
+callsSaid input = readSaid input .calls
+
+abbrev pub endSaid : List ℕ → Ending
+endSaid input = readSaid input .ends
 
 -- the first i of them, the newest first
 abbrev pub firstCalls : List ℕ → ℕ → List Call
@@ -64,9 +70,8 @@ pub record Says (ls : List Line) (i p : ℕ) (w : PropertyWord) : Type 0 where
 -- after a loaded book: a line for each call that the text says, in order, numbered from 1, and one last line
 pub record Whole (input : List ℕ) : Type 0 where
   pub calls : List CallLine
-  pub ends : Ending
   pub loads : loadedOf (sectionsSaid input) .number ≡ ACCEPTED
-  pub all : lines input ≡ book ACCEPTED ∷ map called calls ++ last ends ∷ []
+  pub all : lines input ≡ book ACCEPTED ∷ map called calls ++ last (endSaid input) ∷ []
   pub each : length calls ≡ length (callsSaid input)
   pub numbered : (i : ℕ) → i < length calls → getD calls i noCallLine .number ≡ suc i
   pub in-order : (i : ℕ) → i < length calls → getD calls i noCallLine
