@@ -8,3 +8,4 @@ pub mod All
 pub mod Links
 pub mod Uses
 pub mod Judges
+pub mod Ordered

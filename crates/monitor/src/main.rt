@@ -1,6 +1,13 @@
 // Reads standard input and prints its report.
+ghost use mathlib.Core.Path.{_≡_};
+ghost use mathlib.Core.Bool.{true};
+ghost use Prim.Native.Nat.{_<_};
+ghost use lib.ListN.{length};
+ghost use Rattle.numbers.specs.Limits.{MAX};
+ghost use Rattle.monitor.specs.Rooms.{SHORT-REPORT, holds, oneHolds};
 use console::Came;
 use numbers::LONGEST_INPUT;
+use numbers::LONGEST_REPORT;
 
 // A byte more than the longest input that is read, so that a longer one is seen to be longer.
 const ROOM: usize = LONGEST_INPUT + 1;
@@ -8,10 +15,7 @@ const ROOM: usize = LONGEST_INPUT + 1;
 // Most reports fit into as much.
 const SHORT_REPORT: usize = 65536;
 
-// No report is longer: 65,536 bytes hold at most 16,384 calls, and a call's line has at most 137 bytes.
-const LONGEST_REPORT: usize = 2300000;
-
-// An input so long has a short report: it holds at most 475 calls.
+// An input so long has a short report.
 const SHORT_INPUT: usize = 1900;
 
 // The rooms for a report.
@@ -20,7 +24,9 @@ const SHORT: u64 = 0;
 const LONG: u64 = 1;
 
 // The largest room that the report of an input can need.
-fn largest_room(input: &[u8]) -> u64 {
+fn largest_room(input: &[u8]) -> u64
+    ensures { λ r. ⌜ oneHolds r (now (input .entry)) ≡ true ⌝ }
+{
     if input.len() <= SHORT_INPUT {
         SHORT
     } else {
@@ -29,7 +35,10 @@ fn largest_room(input: &[u8]) -> u64 {
 }
 
 // Prints the report if it fits into `out`, and answers whether it did.
-fn shown(input: &[u8], out: &mut [u8]) -> bool {
+fn shown(input: &[u8], out: &mut [u8]) -> bool
+    requires { ⌜ length (now out) < MAX ⌝ }
+    ensures { λ r. ⌜ r ≡ holds (length (now (out .entry))) (now (input .entry)) ⌝ }
+{
     let length = report::binefdar_report(input, out) as usize;
     if out.len() < length {
         return false;
@@ -38,29 +47,37 @@ fn shown(input: &[u8], out: &mut [u8]) -> bool {
     true
 }
 
-fn show_short(input: &[u8]) -> bool {
+fn show_short(input: &[u8]) -> bool
+    ensures { λ r. ⌜ r ≡ holds SHORT-REPORT (now (input .entry)) ⌝ }
+{
     let mut out = [0u8; SHORT_REPORT];
     shown(input, &mut out)
 }
 
-fn show_long(input: &[u8]) -> bool {
+// The long room holds every report.
+fn show_long(input: &[u8]) -> bool
+    ensures { λ r. ⌜ r ≡ true ⌝ }
+{
     let mut out = [0u8; LONGEST_REPORT];
     shown(input, &mut out)
 }
 
 // Prints the report, in the smallest of the rooms up to `room` that holds it, and answers whether one did. It calls
 // itself, so the compiler leaves the long room in a frame of its own, which is made only where it is needed.
-fn show(input: &[u8], room: u64) -> bool {
+fn show(input: &[u8], room: u64) -> bool
+    ensures { λ r. ⌜ r ≡ oneHolds room (now (input .entry)) ⌝ }
+{
     if room == SHORT {
         return show_short(input);
     }
     show(input, room - 1) || show_long(input)
 }
 
-fn show_report(input: &[u8]) {
-    if !show(input, largest_room(input)) {
-        console::complain(b"No room holds the report.");
-    }
+// Prints the report: a room always holds it.
+fn show_report(input: &[u8]) -> bool
+    ensures { λ r. ⌜ r ≡ true ⌝ }
+{
+    show(input, largest_room(input))
 }
 
 fn main() {

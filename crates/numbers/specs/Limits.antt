@@ -44,3 +44,7 @@ ROW-WORDS = 4
 -- the most bytes of an input
 abbrev pub LONGEST-INPUT : ℕ
 LONGEST-INPUT = 65536
+
+-- room for every report: the crate `slip` proves that none is longer
+abbrev pub LONGEST-REPORT : ℕ
+LONGEST-REPORT = 2300000

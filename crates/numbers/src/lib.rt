@@ -32,6 +32,9 @@ pub const ROW_WORDS: usize = 4;
 // The most bytes of an input.
 pub const LONGEST_INPUT: usize = 65536;
 
+// Room for every report: the crate `slip` proves that none is longer.
+pub const LONGEST_REPORT: usize = 2300000;
+
 // Nothing is wrong.
 pub const ACCEPTED: u64 = 0;
 

@@ -8,19 +8,19 @@ use mathlib.Core.Logic.{_⊎_, inl, inr}
 use mathlib.Core.Bool.{Bool, true, false}
 use mathlib.Core.List.{List, [], _∷_}
 use lib.ListN.{length, getD, take}
-use lib.Seq.{getD-drop}
 use lib.Dec.{eqb}
 use borrow.Author.Tests.{eqb-true, eqb-false}
 use Rattle.numbers.specs.Limits.{MAX, LAST-TIME}
 use Rattle.lists.proofs.Tests.{either}
-use Rattle.pmtl.specs.Book.{Range, Row, rowAt, emptyBook, AllBelow, Below}
+use Rattle.pmtl.specs.Book.{Range, Row, rowAt, emptyBook, AllBelow}
 use Rattle.pmtl.specs.Book.Row.{never, always, atom, conj, disj, neg, implies, historically, once, since}
 use Rattle.pmtl.proofs.Table.{row-out}
-use Rattle.book.specs.Rows.{rowFrom, countOf}
+use Rattle.book.specs.Rows.{rowFrom}
 use Rattle.lists.proofs.Listed.{listed-length, listed-at}
 use Rattle.book.specs.Reading.{Read, got, refused, Sections, sections}
-use Rattle.book.specs.Judging.{rowsIn, startIn, rangeGood, judged, rowIn, bookIn, refusedWith, loadedFrom, whole, loaded}
-use Rattle.book.proofs.Accepted.{range, range-ordered, lower-small, upper-small, operand-below, assume-below, guarantee-below}
+use Rattle.book.specs.Judging.{rowsIn, rangeGood, judged, rowIn, bookIn, refusedWith, loadedFrom, whole, loaded}
+use Rattle.book.proofs.Accepted.{range, range-ordered, lower-small, upper-small, assume-below, guarantee-below}
+use Rattle.book.proofs.Ordered.{book-ordered}
 use Rattle.original.specs.Proper.{Fit, RowFit, Proper}
 use Rattle.original_code.proofs.Uses.{book-used}
 
@@ -53,26 +53,6 @@ below-all : (n : ℕ) (xs : List ℕ) → ((i : ℕ) → i < length xs → getD 
 below-all n [] f = tt
 below-all n (x ∷ xs) f = (f 0 (omega arith), below-all n xs (λ i h. f (suc i) (omega arith)))
 
--- operands are below their owners
-take-below : (n : ℕ) (os : List ℕ) (r : ℕ) → ((k : ℕ) → k < n → getD os k 0 < r) → AllBelow r (take n os)
-take-below zero os r f = tt
-take-below (suc n) [] r f = tt
-take-below (suc n) (o ∷ os) r f = (f 0 (omega arith), take-below n os r (λ k h. f (suc k) (omega arith)))
-
-row-below : (kind arg lower upper : ℕ) (os : List ℕ) (r : ℕ) → ((k : ℕ) → k < countOf kind arg → getD os k 0 < r) → Below r (rowFrom kind arg lower upper os)
-unfolding rowFrom countOf
-row-below zero arg lower upper os r f = tt
-row-below (suc zero) arg lower upper os r f = tt
-row-below (suc (suc zero)) arg lower upper os r f = tt
-row-below (suc (suc (suc zero))) arg lower upper os r f = take-below arg os r f
-row-below (suc (suc (suc (suc zero)))) arg lower upper os r f = take-below arg os r f
-row-below (suc (suc (suc (suc (suc zero))))) arg lower upper os r f = f 0 (omega arith)
-row-below (suc (suc (suc (suc (suc (suc zero)))))) arg lower upper os r f = (f 0 (omega arith), f 1 (omega arith))
-row-below (suc (suc (suc (suc (suc (suc (suc zero))))))) arg lower upper os r f = f 0 (omega arith)
-row-below (suc (suc (suc (suc (suc (suc (suc (suc zero)))))))) arg lower upper os r f = f 0 (omega arith)
-row-below (suc (suc (suc (suc (suc (suc (suc (suc (suc zero))))))))) arg lower upper os r f = (f 0 (omega arith), f 1 (omega arith))
-row-below (suc (suc (suc (suc (suc (suc (suc (suc (suc (suc n)))))))))) arg lower upper os r f = tt
-
 -- ---- books
 empty-proper : Proper emptyBook
 empty-proper = record { ordered = λ r. tt; ranges = λ r. tt; assumes-there = tt; guarantees-there = tt; used = λ r h. absurd (not-suc-le-zero h) }
@@ -80,18 +60,13 @@ empty-proper = record { ordered = λ r. tt; ranges = λ r. tt; assumes-there = t
 book-proper : (s : Sections) → judged s ≡ 0 → Proper (bookIn s)
 unfolding bookIn rowIn
 book-proper s ok = record {
-  ordered = λ r. low r (decLt r (rowsIn s));
+  ordered = book-ordered s ok;
   ranges = λ r. go r (decLt r (rowsIn s));
   assumes-there = below-all _ (s .assumes) (λ i h. rw listed-length (assume-below s ok i h));
   guarantees-there = below-all _ (s .guarantees) (λ i h. rw listed-length (guarantee-below s ok i h));
   used = book-used s ok;
 }
   where
-    low : (r : ℕ) → Dec (r < rowsIn s) → Below r (rowAt (bookIn s .rows) r)
-    low r (yes h) = rw (listed-at (rowIn s) never (rowsIn s) r h)
-        (row-below _ _ _ _ _ r (λ k l. rw (getD-drop (startIn (s .rows) r) (s .operands) k 0) (operand-below s ok r h k l)))
-    low r (no h) = rw (row-out (bookIn s .rows) r (omega (arith, listed-length (rowIn s) (rowsIn s)))) tt
-
     go : (r : ℕ) → Dec (r < rowsIn s) → RowFit (rowAt (bookIn s .rows) r)
     go r (yes h) = rw (listed-at (rowIn s) never (rowsIn s) r h) (row-fit _ _ _ _ _ (range s ok r h))
     go r (no h) = rw (row-out (bookIn s .rows) r (omega (arith, listed-length (rowIn s) (rowsIn s)))) tt

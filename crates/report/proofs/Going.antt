@@ -23,7 +23,8 @@ use Rattle.buffer_writer.specs.Finish.{finish, Wrote}
 use Rattle.report.specs.declared.text_calls.Turn.{Turn}
 use Rattle.report.specs.declared.text_calls.Turn.the-variants.{Made, Stopped}
 use Rattle.numbers.specs.Limits.{LONGEST-INPUT}
-use Rattle.report.specs.Report.{bookLine, stopLine, callLine, callFrom, orStop, lastLine, linesFrom, callLines, bookThen, bookLines, report}
+use Rattle.report.specs.Lines.{callFrom, orStop, endingOf, callsFrom, callsAfter, lineOf, linesOf, linesFrom, callLines, bookThen, bookLines, lines}
+use Rattle.report.specs.Report.{bookLine, stopLine, callLine, lastLine, line, written, report}
 use Rattle.report.specs.Private.{CallMade, Turned}
 
 outcome-is : {o : Outcome} {n : ℕ} {st : State} → n ≡ o .number → st ≡ o .state → o ≡ record { number = n; state = st }
@@ -36,7 +37,7 @@ pub record Going (input : List ℕ) (from count : ℕ) (m₀ out₀ : List ℕ) 
   pub kept : Kept m
   pub book : bookOf m ≡ bookOf m₀
   pub on : supplyFrom input cursor .ending ≡ supplyFrom input from .ending
-  pub owed : finish out at (linesFrom (bookOf m₀) (supplyFrom input from .ending) (count - done) done (stateOf m) (supplyFrom input cursor .words)) ≡ finish out₀ start (linesFrom (bookOf m₀) (supplyFrom input from .ending) count 0 (stateOf m₀) (supplyFrom input from .words))
+  pub owed : finish out at (written (linesFrom (bookOf m₀) done (stateOf m) (callsFrom (supplyFrom input from .ending) (count - done) (supplyFrom input cursor .words)))) ≡ finish out₀ start (written (linesFrom (bookOf m₀) 0 (stateOf m₀) (callsFrom (supplyFrom input from .ending) count (supplyFrom input from .words))))
 
 pub go-start : (input : List ℕ) (from count : ℕ) (m out : List ℕ) (start : ℕ) → Kept m → Going input from count m out start m out start from 0
 go-start input from count m out start k =
@@ -58,11 +59,11 @@ module _ {input : List ℕ} {from count : ℕ} {m₀ out₀ : List ℕ} {start :
     asked : callFrom (supplyFrom input from .ending) (supplyFrom input cursor .words) ≡ got (c .what) (supplyFrom input next .words)
     asked = rw (g .on) at (c .read)
 
-    step : (k : ℕ) → count - done ≡ suc k → linesFrom (bookOf m₀) (supplyFrom input from .ending) (count - done) done (stateOf m) (supplyFrom input cursor .words) ≡ callLine (bookOf m₀) (done + 1) (record { number = r; state = stateOf m′ }) ++ linesFrom (bookOf m₀) (supplyFrom input from .ending) k (done + 1) (stateOf m′) (supplyFrom input next .words)
-    unfolding linesFrom orStop
+    step : (k : ℕ) → count - done ≡ suc k → written (linesFrom (bookOf m₀) done (stateOf m) (callsFrom (supplyFrom input from .ending) (count - done) (supplyFrom input cursor .words))) ≡ callLine (lineOf (bookOf m₀) (done + 1) (record { number = r; state = stateOf m′ })) ++ written (linesFrom (bookOf m₀) (done + 1) (stateOf m′) (callsFrom (supplyFrom input from .ending) k (supplyFrom input next .words)))
+    unfolding written line linesFrom linesOf callsFrom orStop
     step k e = rw (e, asked, made, add-one)
 
-    pub go-more : {out′ : List ℕ} {at′ : ℕ} → done < count → Wrote out at (callLine (bookOf m′) (done + 1) (record { number = r; state = stateOf m′ })) out′ at′ → length out′ ≡ length out → Going input from count m₀ out₀ start m′ out′ at′ next (done + 1)
+    pub go-more : {out′ : List ℕ} {at′ : ℕ} → done < count → Wrote out at (callLine (lineOf (bookOf m′) (done + 1) (record { number = r; state = stateOf m′ }))) out′ at′ → length out′ ≡ length out → Going input from count m₀ out₀ start m′ out′ at′ next (done + 1)
     go-more h w z =
         let b : bookOf m′ ≡ bookOf m₀ = c .called .book ∙ g .book in
         let w′ = rw b at w in
@@ -72,48 +73,48 @@ module _ {input : List ℕ} {from count : ℕ} {m₀ out₀ : List ℕ} {start :
           kept = c .called .kept;
           book = b;
           on = c .ending-on ∙ g .on;
-          owed = sym (w′ .same (linesFrom (bookOf m₀) (supplyFrom input from .ending) (count - (done + 1)) (done + 1) (stateOf m′) (supplyFrom input next .words))) ∙ sym (ap (finish out at) (step (count - (done + 1)) (omega arith))) ∙ g .owed;
+          owed = sym (w′ .same (written (linesFrom (bookOf m₀) (done + 1) (stateOf m′) (callsFrom (supplyFrom input from .ending) (count - (done + 1)) (supplyFrom input next .words))))) ∙ sym (ap (finish out at) (step (count - (done + 1)) (omega arith))) ∙ g .owed;
         }
 
-  halt : {n : ℕ} (k : ℕ) → callFrom (supplyFrom input cursor .ending) (supplyFrom input cursor .words) ≡ refused n → count - done ≡ suc k → linesFrom (bookOf m₀) (supplyFrom input from .ending) (count - done) done (stateOf m) (supplyFrom input cursor .words) ≡ stopLine n
-  unfolding linesFrom orStop
-  halt k e f = let a = rw (g .on) at e in rw (f, a)
+  halt : {n : ℕ} (k : ℕ) → callFrom (supplyFrom input cursor .ending) (supplyFrom input cursor .words) ≡ refused n → count - done ≡ suc k → written (linesFrom (bookOf m₀) done (stateOf m) (callsFrom (supplyFrom input from .ending) (count - done) (supplyFrom input cursor .words))) ≡ stopLine n
+  unfolding written line lastLine linesFrom linesOf callsFrom orStop
+  halt {n} k e f = let a = rw (g .on) at e in rw (f, a) (append-nil (stopLine n))
 
   go-refused : (m′ here : List ℕ) {t : Turn} {n : ℕ} → Next m′ here t → t ≡ Stopped n → callFrom (supplyFrom input cursor .ending) (supplyFrom input cursor .words) ≡ refused n
   unfolding Turned
   go-refused m′ here k e = rw e at k
 
-  pub go-stop : (m′ here : List ℕ) {t : Turn} {h : Handed} {n k : ℕ} → Next m′ here t → t ≡ Stopped n → done < count → h ≡ finish out at (stopLine k) → k ≡ n → h ≡ finish out₀ start (linesFrom (bookOf m₀) (supplyFrom input from .ending) count 0 (stateOf m₀) (supplyFrom input from .words))
+  pub go-stop : (m′ here : List ℕ) {t : Turn} {h : Handed} {n k : ℕ} → Next m′ here t → t ≡ Stopped n → done < count → h ≡ finish out at (stopLine k) → k ≡ n → h ≡ finish out₀ start (written (linesFrom (bookOf m₀) 0 (stateOf m₀) (callsFrom (supplyFrom input from .ending) count (supplyFrom input from .words))))
   go-stop m′ here {n = n} c e l p f =
       p ∙ ap (λ (x : ℕ). finish out at (stopLine x)) f
       ∙ sym (ap (finish out at) (halt (count - (done + 1)) (go-refused m′ here c e) (omega arith))) ∙ g .owed
 
-  none : count - done ≡ zero → linesFrom (bookOf m₀) (supplyFrom input from .ending) (count - done) done (stateOf m) (supplyFrom input cursor .words) ≡ lastLine (supplyFrom input from .ending) (supplyFrom input cursor .words)
-  unfolding linesFrom
-  none e = rw e
+  none : count - done ≡ zero → written (linesFrom (bookOf m₀) done (stateOf m) (callsFrom (supplyFrom input from .ending) (count - done) (supplyFrom input cursor .words))) ≡ lastLine (endingOf (supplyFrom input from .ending) (supplyFrom input cursor .words))
+  unfolding written line linesFrom linesOf callsFrom
+  none e = rw e (append-nil (lastLine _))
 
-  pub go-end : {h : Handed} → count ≤ done → h ≡ finish out at (lastLine (supplyFrom input cursor .ending) (supplyFrom input cursor .words)) → h ≡ finish out₀ start (linesFrom (bookOf m₀) (supplyFrom input from .ending) count 0 (stateOf m₀) (supplyFrom input from .words))
+  pub go-end : {h : Handed} → count ≤ done → h ≡ finish out at (lastLine (endingOf (supplyFrom input cursor .ending) (supplyFrom input cursor .words))) → h ≡ finish out₀ start (written (linesFrom (bookOf m₀) 0 (stateOf m₀) (callsFrom (supplyFrom input from .ending) count (supplyFrom input from .words))))
   go-end {h} l p = let q = rw (g .on) at p in q ∙ sym (ap (finish out at) (none (omega arith))) ∙ g .owed
 
 -- ---- the calls after their count
 module _ (input : List ℕ) (cursor : ℕ) (out : List ℕ) (at : ℕ) (b : Book) where
-  pub no-count : {h : Handed} {r n : ℕ} → nextWord input cursor ≡ Refused r → n ≡ r → h ≡ finish out at (stopLine n) → h ≡ finish out at (callLines b (supplyFrom input cursor .ending) (supplyFrom input cursor .words))
-  unfolding callLines
-  no-count {h} e f p = let s = ended input cursor e in p ∙ rw (s, f)
+  pub no-count : {h : Handed} {r n : ℕ} → nextWord input cursor ≡ Refused r → n ≡ r → h ≡ finish out at (stopLine n) → h ≡ finish out at (written (callLines b (supplyFrom input cursor .ending) (supplyFrom input cursor .words)))
+  unfolding written line lastLine linesFrom linesOf callLines callsAfter
+  no-count {h} e f p = let s = ended input cursor e in p ∙ rw (s, f, append-nil)
 
-  pub after-count : {h : Handed} {count from : ℕ} {st : State} → nextWord input cursor ≡ Word count from → st ≡ initial (b .rows) → h ≡ finish out at (linesFrom b (supplyFrom input from .ending) count 0 st (supplyFrom input from .words)) → h ≡ finish out at (callLines b (supplyFrom input cursor .ending) (supplyFrom input cursor .words))
-  unfolding callLines
+  pub after-count : {h : Handed} {count from : ℕ} {st : State} → nextWord input cursor ≡ Word count from → st ≡ initial (b .rows) → h ≡ finish out at (written (linesFrom b 0 st (callsFrom (supplyFrom input from .ending) count (supplyFrom input from .words)))) → h ≡ finish out at (written (callLines b (supplyFrom input cursor .ending) (supplyFrom input cursor .words)))
+  unfolding callLines callsAfter
   after-count {h} e f p = let s = word input cursor e .gave in p ∙ rw (s, f)
 
 -- ---- the book, and what follows it
-pub book-accepted : (l : Loaded) (ending : ℕ) (ws : List ℕ) {out out₁ : List ℕ} {at n : ℕ} {h : Handed} {b : Book} → Wrote out 0 (bookLine n) out₁ at → n ≡ 0 → n ≡ l .number → b ≡ l .book → h ≡ finish out₁ at (callLines b ending ws) → h ≡ finish out 0 (bookThen l ending ws)
-unfolding bookThen
+pub book-accepted : (l : Loaded) (ending : ℕ) (ws : List ℕ) {out out₁ : List ℕ} {at n : ℕ} {h : Handed} {b : Book} → Wrote out 0 (bookLine n) out₁ at → n ≡ 0 → n ≡ l .number → b ≡ l .book → h ≡ finish out₁ at (written (callLines b ending ws)) → h ≡ finish out 0 (written (bookThen l ending ws))
+unfolding written line bookThen
 book-accepted l ending ws {n = n} w z e f p =
     let y : l .number ≡ 0 = sym e ∙ z in
-    p ∙ sym (w .same (callLines _ ending ws)) ∙ rw (eq-eqb (l .number) 0 y, e, f)
+    p ∙ sym (w .same (written (callLines _ ending ws))) ∙ rw (eq-eqb (l .number) 0 y, e, f)
 
-pub book-refused : (l : Loaded) (ending : ℕ) (ws out : List ℕ) {n : ℕ} {h : Handed} → (n ≡ 0 → ⊥) → n ≡ l .number → h ≡ finish out 0 (bookLine n) → h ≡ finish out 0 (bookThen l ending ws)
-unfolding bookThen
+pub book-refused : (l : Loaded) (ending : ℕ) (ws out : List ℕ) {n : ℕ} {h : Handed} → (n ≡ 0 → ⊥) → n ≡ l .number → h ≡ finish out 0 (bookLine n) → h ≡ finish out 0 (written (bookThen l ending ws))
+unfolding written line bookThen
 book-refused l ending ws out {n} z e p =
     let y : l .number ≡ 0 → ⊥ = λ q. z (e ∙ q) in
     p ∙ rw (ne-eqb (l .number) 0 y, e, append-nil)
@@ -125,14 +126,14 @@ book-there input m q e = rw e at q
 
 module _ (input : List ℕ) where
   pub too-long : LONGEST-INPUT < length input → stopLine 2 ≡ report input
-  unfolding report
-  too-long h = rw (lt-ltb LONGEST-INPUT (length input) h)
+  unfolding report lines written line lastLine
+  too-long h = rw (lt-ltb LONGEST-INPUT (length input) h, append-nil)
 
   module _ (fits : length input ≤ LONGEST-INPUT) where
     pub no-book : (m : List ℕ) {p : reader.Part} {n k : ℕ} → BookRead input m p → p ≡ reader.the-variants.Refused n → k ≡ n → bookLine k ≡ report input
-    unfolding report bookLines BookRead
-    no-book m q e f = let s = rw e at q in rw (le-ltb LONGEST-INPUT (length input) fits, s, f)
+    unfolding report lines bookLines written line BookRead
+    no-book m q e f = let s = rw e at q in rw (le-ltb LONGEST-INPUT (length input) fits, s, f, append-nil)
 
-    pub of-book : {m : List ℕ} {end next : ℕ} → BookTook input m end next → bookThen (loaded (take end m)) (supplyFrom input next .ending) (supplyFrom input next .words) ≡ report input
-    unfolding report bookLines loaded wholeBook
+    pub of-book : {m : List ℕ} {end next : ℕ} → BookTook input m end next → written (bookThen (loaded (take end m)) (supplyFrom input next .ending) (supplyFrom input next .words)) ≡ report input
+    unfolding report lines bookLines loaded wholeBook
     of-book k = rw (le-ltb LONGEST-INPUT (length input) fits, k .read, k .ending, k .stand)

@@ -1,7 +1,7 @@
 -- Laws of a report's lines. Assumes nothing.
 use Prim.Native.Nat.{ℕ, zero, suc, _+_, _-_, _≤_, _<_}
 use mathlib.Core.Path.{_≡_, refl, sym, ap, subst, _∙_}
-use mathlib.Core.List.{List, [], _∷_, _++_, append-nil}
+use mathlib.Core.List.{List, [], _∷_, _++_, append-nil, append-assoc}
 use native.Mathlib.Omega.{arith}
 use native.Mathlib.Numerals.{add-one}
 use native.Mathlib.Decide.{ℕ-discrete}
@@ -16,6 +16,7 @@ use Rattle.text.proofs.Supplies.{word, refused as ended}
 use Rattle.pmtl.specs.declared.Answer.{Answer}
 use Rattle.pmtl.specs.declared.Answer.the-variants.{False, True, Open}
 use Rattle.pmtl.specs.Answer.{digitOf}
+use Rattle.lists.specs.Lists.{listed}
 use Rattle.memory.specs.Memory.{bookOf, stateOf}
 use Rattle.memory.specs.Kept.{Kept}
 use Rattle.property_answers.specs.Verdict.{verdictOf, propertiesIn}
@@ -24,7 +25,8 @@ use Rattle.property_answers.proofs.Bridge.{few-properties}
 use Rattle.buffer_writer.specs.Buffer.{Handed}
 use Rattle.buffer_writer.specs.Finish.{finish, Wrote}
 use Rattle.buffer_writer.proofs.Writes.{and-then}
-use Rattle.report.specs.Report.{stopLine, endLine, verdictWord, verdictWords, callLine, lastLine}
+use Rattle.report.specs.Lines.{PropertyWord, wordOf, endingOf, lineOf}
+use Rattle.report.specs.Report.{stopLine, endLine, propertyWord, propertyWords, callLine, lastLine}
 use Rattle.report.specs.Private.{digitWord, digitWords, digitLine, Digits, Said}
 
 pub ending : {h : Handed} (out : List ℕ) (at : ℕ) {x y : List ℕ} → h ≡ finish out at x → x ≡ y → h ≡ finish out at y
@@ -32,16 +34,16 @@ ending out at p e = p ∙ ap (finish out at) e
 
 -- ---- the last line
 module _ (input : List ℕ) (cursor : ℕ) where
-  pub last-word : {w next : ℕ} → nextWord input cursor ≡ Word w next → stopLine 1 ≡ lastLine (supplyFrom input cursor .ending) (supplyFrom input cursor .words)
-  unfolding lastLine
+  pub last-word : {w next : ℕ} → nextWord input cursor ≡ Word w next → stopLine 1 ≡ lastLine (endingOf (supplyFrom input cursor .ending) (supplyFrom input cursor .words))
+  unfolding lastLine endingOf
   last-word e = rw (word input cursor e .gave)
 
-  pub last-bad : {n : ℕ} → nextWord input cursor ≡ Refused n → n ≡ BAD-WORD → stopLine BAD-WORD ≡ lastLine (supplyFrom input cursor .ending) (supplyFrom input cursor .words)
-  unfolding lastLine
+  pub last-bad : {n : ℕ} → nextWord input cursor ≡ Refused n → n ≡ BAD-WORD → stopLine BAD-WORD ≡ lastLine (endingOf (supplyFrom input cursor .ending) (supplyFrom input cursor .words))
+  unfolding lastLine endingOf
   last-bad {n} e f = rw (ended input cursor e, eq-eqb n BAD-WORD f)
 
-  pub last-end : {n : ℕ} → nextWord input cursor ≡ Refused n → (n ≡ BAD-WORD → ⊥) → endLine ≡ lastLine (supplyFrom input cursor .ending) (supplyFrom input cursor .words)
-  unfolding lastLine
+  pub last-end : {n : ℕ} → nextWord input cursor ≡ Refused n → (n ≡ BAD-WORD → ⊥) → endLine ≡ lastLine (endingOf (supplyFrom input cursor .ending) (supplyFrom input cursor .words))
+  unfolding lastLine endingOf
   last-end {n} e f = rw (ended input cursor e, ne-eqb n BAD-WORD f)
 
 -- ---- the words of the properties
@@ -75,6 +77,11 @@ module _ (i r : ℕ) (words : List ℕ) {m m₁ : List ℕ} {at at₁ : ℕ} (nu
   line-refused e q = rw (ne-eqb r 0 e, append-nil) (and-then numbers q)
 
 -- ---- the digits of the answers, and the line of REFERENCE 8.3
+one-more : (ws : List PropertyWord) (w : PropertyWord) → propertyWords (ws ++ w ∷ []) ≡ propertyWords ws ++ propertyWord w
+unfolding propertyWords
+one-more [] w = append-nil (propertyWord w)
+one-more (v ∷ ws) w = ap (λ l. propertyWord v ++ l) (one-more ws w) ∙ sym (append-assoc (propertyWord v) (propertyWords ws) (propertyWord w))
+
 digit-small : (a : Answer) → digitOf a ≤ 2
 digit-small False = lit≤ tt
 digit-small True = lit≤ tt
@@ -92,18 +99,19 @@ module _ {m values early settled : List ℕ} (said : Said m values early settled
         );
   }
 
-  said-words : (n : ℕ) → n ≤ propertiesIn m → digitWords values early settled n ≡ verdictWords (bookOf m) (stateOf m) n
-  unfolding digitWords digitWord verdictWords verdictWord
+  said-words : (n : ℕ) → n ≤ propertiesIn m → digitWords values early settled n ≡ propertyWords (listed (λ p. wordOf (verdictOf m p)) n)
+  unfolding digitWords digitWord propertyWords propertyWord listed
   said-words zero h = refl
   said-words (suc i) h =
       let l : i < propertiesIn m = omega arith in
       rw (said-words i (omega arith), said .values-are i l, said .early-are i l, said .settled-are i l)
+      (sym (one-more (listed (λ p. wordOf (verdictOf m p)) i) (wordOf (verdictOf m i))))
 
 pub line-said : (m values early settled : List ℕ) (i r : ℕ) {n : ℕ} → (r ≡ 0 → Said m values early settled) → n ≡ propertiesIn m
-    → digitLine i r (digitWords values early settled n) ≡ callLine (bookOf m) i (record { number = r; state = stateOf m })
-unfolding digitLine callLine
+    → digitLine i r (digitWords values early settled n) ≡ callLine (lineOf (bookOf m) i (record { number = r; state = stateOf m }))
+unfolding digitLine callLine lineOf propertyWords
 line-said m values early settled i r {n} said e = go (ℕ-discrete r 0)
   where
-    go : Dec (r ≡ 0) → digitLine i r (digitWords values early settled n) ≡ callLine (bookOf m) i (record { number = r; state = stateOf m })
+    go : Dec (r ≡ 0) → digitLine i r (digitWords values early settled n) ≡ callLine (lineOf (bookOf m) i (record { number = r; state = stateOf m }))
     go (yes z) = rw (eq-eqb r 0 z, e, said-words (said z) (propertiesIn m) (omega arith))
     go (no z) = rw (ne-eqb r 0 z)

@@ -17,7 +17,7 @@ use Rattle.text_reader.specs.declared.Part as reader
 use Rattle.text_reader.specs.Reads.{StateTook, StateRead}
 use Rattle.report.specs.declared.text_calls.Turn.{Turn}
 use Rattle.report.specs.declared.text_calls.Turn.the-variants.{Made, Stopped}
-use Rattle.report.specs.Report.{timeFrom, stateFrom, callFrom}
+use Rattle.report.specs.Lines.{timeFrom, stateFrom, callFrom}
 use Rattle.report.specs.Private.{turnNumber, CallMade, Turned}
 use Rattle.report.proofs.Alike.{as-words}
 

@@ -1,23 +1,9 @@
--- REFERENCE 8: the report of any input, byte by byte. Definitions only.
-use Prim.Native.Nat.{ℕ, zero, suc, _+_}
-use mathlib.Core.Bool.{cond}
+-- REFERENCE 8: the report of any input, byte by byte: its lines, and how a line is written. Definitions only.
+use Prim.Native.Nat.{ℕ, _+_}
 use mathlib.Core.List.{List, [], _∷_, _++_}
-use lib.ListN.{length}
-use lib.Dec.{ltb, eqb}
-use Rattle.text.specs.Words.{space, lineFeed, digit0, supply}
-use Rattle.numbers.specs.Refusals.{BAD-WORD, ACCEPTED, PAST-LIMIT, WRONG-LENGTH}
+use Rattle.text.specs.Words.{space, lineFeed, digit0}
 use Rattle.text.specs.Decimals.{decimal}
-use Rattle.pmtl.specs.Book.{Book, properties}
-use Rattle.pmtl.specs.Answer.{bitOf, digitOf}
-use Rattle.pmtl.specs.Monitor.{State, initial}
-use Rattle.numbers.specs.Limits.{MOST-ATOMS, LONGEST-INPUT}
-use Rattle.pmtl.specs.Calls.{Call, Outcome, call}
-use Rattle.pmtl.specs.Calls.Call.{time, state}
-use Rattle.book.specs.Reading.{Read, section, next, Sections, sections}
-use Rattle.book.specs.Reading.Read.{got, refused}
-use Rattle.book.specs.Judging.{Loaded, loadedFrom}
-use Rattle.property_answers.specs.declared.Verdict.{Verdict}
-use Rattle.property_answers.specs.Verdict.{verdictIn}
+use Rattle.report.specs.Lines.{PropertyWord, CallLine, Ending, end, stop, Line, book, called, last, lines}
 
 -- ---- lines. The words book, stop and end are fixed
 abbrev pub bookWord : List ℕ
@@ -43,62 +29,32 @@ stopLine n = stopWord ++ decimal n ++ ended
 unfoldable pub endLine : List ℕ
 endLine = endWord ++ ended
 
--- a property's word, after a space: three digits, value, early, settled
-unfoldable pub verdictWord : Verdict → List ℕ
-verdictWord v = space ∷ (digit0 + bitOf (v .value)) ∷ (digit0 + digitOf (v .early)) ∷ (digit0 + digitOf (v .settled)) ∷ []
+unfoldable pub lastLine : Ending → List ℕ
+lastLine end = endLine
+lastLine (stop n) = stopLine n
 
--- the words of the first n properties
-unfoldable pub verdictWords : Book → State → ℕ → List ℕ
-verdictWords b st zero = []
-verdictWords b st (suc i) = verdictWords b st i ++ verdictWord (verdictIn b st i)
+-- a property's word, after a space: three digits
+unfoldable pub propertyWord : PropertyWord → List ℕ
+propertyWord w = space ∷ (digit0 + w .value) ∷ (digit0 + w .early) ∷ (digit0 + w .settled) ∷ []
 
--- a call's line: its number from 1, its refusal; if 0, one word per property
-unfoldable pub callLine : Book → ℕ → Outcome → List ℕ
-callLine b i o =
-    decimal i ++ space ∷ decimal (o .number) ++ cond (eqb (o .number) ACCEPTED) (verdictWords b (o .state) (length (properties b))) [] ++ ended
+unfoldable pub propertyWords : List PropertyWord → List ℕ
+propertyWords [] = []
+propertyWords (w ∷ ws) = propertyWord w ++ propertyWords ws
 
--- ---- reading calls: `0 time`, or `1 width` and that many state words; another kind is 13
-unfoldable pub timeFrom : ℕ → List ℕ → Read Call
-timeFrom ending [] = refused ending
-timeFrom ending (t ∷ ws) = got (time t) ws
+-- a call's line: words parted by one space
+unfoldable pub callLine : CallLine → List ℕ
+callLine l = decimal (l .number) ++ space ∷ decimal (l .refusal) ++ propertyWords (l .words) ++ ended
 
-unfoldable pub stateFrom : ℕ → List ℕ → Read Call
-stateFrom ending ws = next (section ending MOST-ATOMS 1 ws) λ bytes rest. got (state bytes) rest
+-- ---- a line, and lines one after the other
+unfoldable pub line : Line → List ℕ
+line (book n) = bookLine n
+line (called l) = callLine l
+line (last e) = lastLine e
 
-unfoldable pub callFrom : ℕ → List ℕ → Read Call
-callFrom ending [] = refused ending
-callFrom ending (kind ∷ ws) = cond (eqb kind 0) (timeFrom ending ws) (cond (eqb kind 1) (stateFrom ending ws) (refused BAD-WORD))
+unfoldable pub written : List Line → List ℕ
+written [] = []
+written (l ∷ ls) = line l ++ written ls
 
--- what follows a reading; one that ends gives `stop ` and the number as last line
-unfoldable pub orStop : {A : Type 0} → Read A → (A → List ℕ → List ℕ) → List ℕ
-orStop (got x ws) f = f x ws
-orStop (refused n) f = stopLine n
-
--- after the last call: a further word is 1, or 13 if bad; otherwise the last line is `end`
-unfoldable pub lastLine : ℕ → List ℕ → List ℕ
-lastLine ending [] = cond (eqb ending BAD-WORD) (stopLine BAD-WORD) endLine
-lastLine ending (w ∷ ws) = stopLine WRONG-LENGTH
-
--- the lines of the calls that are left, after so many done, from a state and the words that are left
-unfoldable pub linesFrom : Book → ℕ → ℕ → ℕ → State → List ℕ → List ℕ
-linesFrom b ending zero done st ws = lastLine ending ws
-linesFrom b ending (suc left) done st ws = orStop (callFrom ending ws) λ k rest.
-    callLine b (suc done) (call (b .rows) st k) ++ linesFrom b ending left (suc done) (call (b .rows) st k .state) rest
-
--- the calls after their count
-unfoldable pub callLines : Book → ℕ → List ℕ → List ℕ
-callLines b ending [] = stopLine ending
-callLines b ending (count ∷ ws) = linesFrom b ending count 0 (initial (b .rows)) ws
-
--- a book, loaded or refused: nothing follows a refused book
-unfoldable pub bookThen : Loaded → ℕ → List ℕ → List ℕ
-bookThen l ending ws = bookLine (l .number) ++ cond (eqb (l .number) ACCEPTED) (callLines (l .book) ending ws) []
-
-unfoldable pub bookLines : Read Sections → ℕ → List ℕ
-bookLines (got s ws) ending = bookThen (loadedFrom s) ending ws
-bookLines (refused n) ending = bookLine n
-
--- the report; an input that is too long gives only `stop 2`
+-- the report
 unfoldable pub report : List ℕ → List ℕ
-report input = cond (ltb LONGEST-INPUT (length input)) (stopLine PAST-LIMIT)
-    (bookLines (sections (supply input .ending) (supply input .words)) (supply input .ending))
+report input = written (lines input)

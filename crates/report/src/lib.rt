@@ -11,7 +11,8 @@ ghost use Rattle.book.specs.Judging.{loaded};
 ghost use Rattle.memory.specs.Kept.{Kept};
 ghost use Rattle.buffer_writer.specs.Buffer.{handed, inBuffer};
 ghost use Rattle.buffer_writer.specs.Finish.{finish};
-ghost use Rattle.report.specs.Report.{bookLine, linesFrom, callLines, bookThen, report};
+ghost use Rattle.report.specs.Lines.{callsFrom, linesFrom, callLines, bookThen};
+ghost use Rattle.report.specs.Report.{bookLine, written, report};
 use memory::SIZE;
 use numbers::ACCEPTED;
 use numbers::LONGEST_INPUT;
@@ -33,7 +34,7 @@ fn call_lines(
     start: usize,
 ) -> u64
     requires { ⌜ Kept (now monitor) ⌝ }
-    ensures { λ r. ⌜ handed r (now (out .exit)) ≡ finish (now (out .entry)) start (linesFrom (bookOf (now (monitor .entry))) (supplyFrom (now (input .entry)) from .ending) count 0 (stateOf (now (monitor .entry))) (supplyFrom (now (input .entry)) from .words)) ⌝ }
+    ensures { λ r. ⌜ handed r (now (out .exit)) ≡ finish (now (out .entry)) start (written (linesFrom (bookOf (now (monitor .entry))) 0 (stateOf (now (monitor .entry))) (callsFrom (supplyFrom (now (input .entry)) from .ending) count (supplyFrom (now (input .entry)) from .words)))) ⌝ }
 {
     let properties = property_answers::property_count(monitor);
     let mut bytes = [0u8; MOST_ATOMS];
@@ -85,7 +86,7 @@ fn counted_calls(
     at: usize,
 ) -> u64
     requires { ⌜ Kept (now monitor) × (stateOf (now monitor) ≡ initial (bookOf (now monitor) .rows)) ⌝ }
-    ensures { λ r. ⌜ handed r (now (out .exit)) ≡ finish (now (out .entry)) at (callLines (bookOf (now (monitor .entry))) (supplyFrom (now (input .entry)) cursor .ending) (supplyFrom (now (input .entry)) cursor .words)) ⌝ }
+    ensures { λ r. ⌜ handed r (now (out .exit)) ≡ finish (now (out .entry)) at (written (callLines (bookOf (now (monitor .entry))) (supplyFrom (now (input .entry)) cursor .ending) (supplyFrom (now (input .entry)) cursor .words))) ⌝ }
 {
     let r = text::next_word(input, cursor);
     let Read::Word(count, from) = r else {
@@ -104,7 +105,7 @@ fn refused_book(out: &mut [u8], number: u64) -> u64
 
 // The report from a book's words on, the text after them at `cursor`.
 fn loaded_book(input: &[u8], cursor: usize, words: &[u64], out: &mut [u8]) -> u64
-    ensures { λ r. ⌜ handed r (now (out .exit)) ≡ finish (now (out .entry)) 0 (bookThen (loaded (now (words .entry))) (supplyFrom (now (input .entry)) cursor .ending) (supplyFrom (now (input .entry)) cursor .words)) ⌝ }
+    ensures { λ r. ⌜ handed r (now (out .exit)) ≡ finish (now (out .entry)) 0 (written (bookThen (loaded (now (words .entry))) (supplyFrom (now (input .entry)) cursor .ending) (supplyFrom (now (input .entry)) cursor .words))) ⌝ }
 {
     let mut monitor = [0u64; SIZE];
     let number = loader::load(words, &mut monitor);

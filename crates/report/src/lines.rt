@@ -6,6 +6,7 @@ ghost use Rattle.text.specs.Words.{space, digit0, supplyFrom};
 ghost use Rattle.text.specs.Decimals.{decimal};
 ghost use Rattle.buffer_writer.specs.Buffer.{handed};
 ghost use Rattle.buffer_writer.specs.Finish.{finish, Wrote};
+ghost use Rattle.report.specs.Lines.{endingOf};
 ghost use Rattle.report.specs.Report.{ended as Report·ended, bookLine, stopLine, endLine, lastLine};
 ghost use Rattle.report.specs.Private.{digitWord, digitWords, digitLine, Digits};
 use numbers::ACCEPTED;
@@ -56,7 +57,7 @@ fn ended(out: &mut [u8], at: usize) -> u64
 
 // The last line, by what is left of the text.
 pub fn last(input: &[u8], cursor: usize, out: &mut [u8], at: usize) -> u64
-    ensures { λ r. ⌜ handed r (now (out .exit)) ≡ finish (now (out .entry)) at (lastLine (supplyFrom (now (input .entry)) cursor .ending) (supplyFrom (now (input .entry)) cursor .words)) ⌝ }
+    ensures { λ r. ⌜ handed r (now (out .exit)) ≡ finish (now (out .entry)) at (lastLine (endingOf (supplyFrom (now (input .entry)) cursor .ending) (supplyFrom (now (input .entry)) cursor .words))) ⌝ }
 {
     let r = text::next_word(input, cursor);
     let Read::Refused(n) = r else {

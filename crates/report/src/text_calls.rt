@@ -7,7 +7,7 @@ ghost use Rattle.pmtl.specs.Calls.{Call};
 ghost use Rattle.memory.specs.Kept.{Kept};
 ghost use Rattle.row_answers.specs.Facts.{Here};
 ghost use Rattle.calls.specs.Called.{Called};
-ghost use Rattle.report.specs.Report.{timeFrom, stateFrom, callFrom};
+ghost use Rattle.report.specs.Lines.{timeFrom, stateFrom, callFrom};
 ghost use Rattle.report.specs.Private.{turnNumber, Turned};
 use memory::SIZE;
 use numbers::BAD_WORD;

@@ -51,14 +51,18 @@ plainly (suc f) n l h p = by-zero (eqb n 0) refl (λ q r. plainly f (n / 10) ((4
     by-zero false e r = let z = eqb-false n 0 e in rw e (r (omega arith) (λ k. rw (ne-eqb (48 + n % 10) 48 (λ y. z (omega arith)))))
 
 -- ---- the digits as a word
-decimal-digits : (n : ℕ) → allDigits (decimal n) ≡ true
+pub decimal-digits : (n : ℕ) → allDigits (decimal n) ≡ true
 unfolding decimal allDigits
 decimal-digits n = digits (n / 10) (n / 10) ((48 + n % 10) ∷ []) (rw (one-digit n))
 
+pub decimal-says : (n : ℕ) → said 0 (decimal n) ≡ n
+unfolding decimal said
+decimal-says n = says (n / 10) (n / 10) ((48 + n % 10) ∷ []) (omega arith) ∙ omega arith
+
 pub good-decimal : (n : ℕ) → n ≤ MAX → (good (decimal n) ≡ true) × (said 0 (decimal n) ≡ n)
-unfolding decimal good said
+unfolding decimal good
 good-decimal n h =
-    let v : said 0 (decimal n) ≡ n = says (n / 10) (n / 10) ((48 + n % 10) ∷ []) (omega arith) ∙ omega arith in
+    let v = decimal-says n in
     let a = decimal-digits n in
     let p = plainly (n / 10) (n / 10) ((48 + n % 10) ∷ []) (omega arith) (λ k. one-letter (48 + n % 10)) in
     let m : leb (said 0 (decimal n)) MAX ≡ true = le-leb (said 0 (decimal n)) MAX (omega arith) in

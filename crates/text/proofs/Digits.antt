@@ -162,7 +162,7 @@ shown-fits n room = by-room (leb (length (decimal n)) room) refl
 pub ends-there : (n room i o : ℕ) (l : List ℕ) → i ≡ room - length (shown n room) → l ≡ shown n room → i + o + length l ≡ o + room
 ends-there n room i o l e f = omega (arith, shown-fits n room, ap length f)
 
--- ---- a number of 64 bits has at most 20 digits
+-- ---- a number below a power of ten has at most so many digits, and one of 64 bits at most 20
 short : (k f n : ℕ) (l : List ℕ) → n < 10 ^ k → length (digitsBefore f n l) ≤ k + length l
 unfolding digitsBefore
 short k zero n l h = omega arith
@@ -173,9 +173,12 @@ short (suc k) (suc f) n l h = by-zero (eqb n 0) refl (λ p. short k f (n / 10) (
     by-zero true e r = rw e (omega arith)
     by-zero false e r = rw e (omega (arith, r (omega (arith, pow-suc 10 k))))
 
-pub at-most-20 : (n : ℕ) → n < 2 ^ 64 → length (decimal n) ≤ 20
+pub at-most : (k n : ℕ) → n < 10 ^ suc k → length (decimal n) ≤ suc k
 unfolding decimal
-at-most-20 n h = omega (arith, short 19 (n / 10) (n / 10) ((48 + n % 10) ∷ []) (omega arith))
+at-most k n h = omega (arith, short k (n / 10) (n / 10) ((48 + n % 10) ∷ []) (omega (arith, pow-suc 10 k)))
+
+pub at-most-20 : (n : ℕ) → n < 2 ^ 64 → length (decimal n) ≤ 20
+at-most-20 n h = at-most 19 n (omega arith)
 
 pub plenty : (n size : ℕ) → 20 ≤ size → n < 2 ^ 64 → false ≡ ltb size (length (decimal n))
 plenty n size h k = sym (le-ltb size (length (decimal n)) (omega (arith, at-most-20 n k)))

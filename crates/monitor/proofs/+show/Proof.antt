@@ -1,5 +1,7 @@
 -- The room falls from call to call.
 use borrow.Author.Needs.{needs}
+use mathlib.Core.Path.{sym, _∙_}
+use Rattle.monitor.proofs.Rooms.{only-short, long-too}
 use Prim.Native.Nat.{ℕ, _<_}
 use borrow.Fn.Kinds.{In}
 use borrow.Fn.PlainCycle.{Measures, is, falls, and}
@@ -38,7 +40,7 @@ show-returns : (t : ℕ) → show-lts.Need-returns (
   show-long-reads.Asked,
   show-long-reads.Learnt,
 ) (show-at t) show.Post
-show-returns t c = search needs
+show-returns t c = c .show-short .ensures ∙ sym (only-short _ _ (c .before .if1 .taken))
 
 show-sub-show : (t : ℕ) → show-lts.Need-sub-show (
   show-short-reads.Asked,
@@ -78,7 +80,7 @@ show-returns-2 : (t : ℕ) → show-lts.Need-returns-2 (
   show-long-reads.Asked,
   show-long-reads.Learnt,
 ) (show-at t) show.Post
-show-returns-2 t c = search needs
+show-returns-2 t c = c .if2 .taken ∙ sym (long-too _ _ (c .before .before .if1 .left))
 
 show-returns-3 : (t : ℕ) → show-lts.Need-returns-3 (
   show-short-reads.Asked,
@@ -88,7 +90,7 @@ show-returns-3 : (t : ℕ) → show-lts.Need-returns-3 (
   show-long-reads.Asked,
   show-long-reads.Learnt,
 ) (show-at t) show.Post
-show-returns-3 t c = search needs
+show-returns-3 t c = c .show-long .ensures ∙ sym (long-too _ _ (c .before .before .before .if1 .left))
 
 pub +show-spec : {M : Type 1} → statement M
 +show-spec = close μ-show λ t. show-lts.spec (

@@ -1,7 +1,9 @@
--- Only a report that fits is printed, so its length lies within the room.
+-- A report is printed exactly if the room holds it, and then its length lies within the room.
 use mathlib.Core.Path.{sym}
+use native.Mathlib.Omega.{arith}
 use lib.Seq.{length-take-le}
 use borrow.Author.Needs.{needs}
+use Rattle.monitor.proofs.Rooms.{too-short, fits}
 use Rattle.monitor.proofs.shown.Statement.{statement}
 use Rattle.monitor.proofs.shown.Tie as tie
 
@@ -12,7 +14,7 @@ same-length : tie.Need-same-length
 same-length c = search needs
 
 returns : tie.Need-returns
-returns c = search needs
+returns c = too-short _ _ _ _ (c .before .before .before .binefdar-report .ensures) (omega (arith, c .if1 .taken, c .before .before .before .binefdar-report .kept .1))
 
 slice-reshare-prefix-print : tie.Need-slice-reshare-prefix-print
 slice-reshare-prefix-print c = search needs
@@ -27,7 +29,7 @@ same-length-2 : tie.Need-same-length-2
 same-length-2 c = search needs
 
 returns-2 : tie.Need-returns-2
-returns-2 c = search needs
+returns-2 c = fits _ _ _ _ (c .before .before .before .before .before .binefdar-report .ensures) (c .before .before .before .before .before .before .before .before .before .pre) (omega (arith, c .before .before .if1 .left, c .before .before .before .before .before .binefdar-report .kept .1))
 
 pub shown-spec : {M : Type 1} → statement M
 shown-spec =

@@ -1,0 +1,26 @@
+-- The rooms that the program has for a report. Definitions only.
+use Prim.Native.Nat.{ℕ}
+use mathlib.Core.Bool.{Bool, true, cond}
+use mathlib.Core.List.{List}
+use lib.ListN.{length}
+use lib.Dec.{leb, eqb}
+use Rattle.report.specs.Report.{report}
+
+-- the short room, and its bytes
+abbrev pub SHORT : ℕ
+SHORT = 0
+
+abbrev pub SHORT-REPORT : ℕ
+SHORT-REPORT = 65536
+
+-- an input so long has a short report
+abbrev pub SHORT-INPUT : ℕ
+SHORT-INPUT = 1900
+
+-- a room of so many bytes holds the report of an input
+abbrev pub holds : ℕ → List ℕ → Bool
+holds room input = leb (length (report input)) room
+
+-- one of the rooms up to this one does. The long one always does
+unfoldable pub oneHolds : ℕ → List ℕ → Bool
+oneHolds room input = cond (eqb room SHORT) (holds SHORT-REPORT input) true

@@ -1,0 +1,128 @@
+-- REFERENCE 8: the report of any input as records, line by line. `Report` says how a line is written. Definitions only.
+use Prim.Native.Nat.{ℕ, zero, suc}
+use mathlib.Core.Bool.{cond}
+use mathlib.Core.List.{List, [], _∷_, _++_, map}
+use lib.ListN.{length}
+use lib.Dec.{ltb, eqb}
+use Rattle.lists.specs.Lists.{listed}
+use Rattle.text.specs.Words.{supply}
+use Rattle.numbers.specs.Refusals.{BAD-WORD, ACCEPTED, PAST-LIMIT, WRONG-LENGTH}
+use Rattle.pmtl.specs.Book.{Book, properties}
+use Rattle.pmtl.specs.Answer.{bitOf, digitOf}
+use Rattle.pmtl.specs.Monitor.{State, initial}
+use Rattle.numbers.specs.Limits.{MOST-ATOMS, LONGEST-INPUT}
+use Rattle.pmtl.specs.Calls.{Call, Outcome, call}
+use Rattle.pmtl.specs.Calls.Call.{time, state}
+use Rattle.book.specs.Reading.{Read, section, next, Sections, sections}
+use Rattle.book.specs.Reading.Read.{got, refused}
+use Rattle.book.specs.Judging.{Loaded, loadedFrom}
+use Rattle.property_answers.specs.declared.Verdict.{Verdict}
+use Rattle.property_answers.specs.Verdict.{verdictIn}
+
+-- ---- the records
+-- a property's word: three digits, value, early, settled; 2 is open
+pub record PropertyWord : Type 0 where
+  pub value : ℕ
+  pub early : ℕ
+  pub settled : ℕ
+
+-- a call's line: its number from 1, its refusal; if 0, one word per property, assumes first
+pub record CallLine : Type 0 where
+  pub number : ℕ
+  pub refusal : ℕ
+  pub words : List PropertyWord
+
+-- how a report ends: all was read, or a number ended the reading
+pub data Ending : Type 0 where
+  end : Ending
+  stop : ℕ → Ending
+
+-- a line: the book's number; a call; how it ended
+pub data Line : Type 0 where
+  book : ℕ → Line
+  called : CallLine → Line
+  last : Ending → Line
+
+-- ---- reading calls: `0 time`, or `1 width` and that many state words; another kind is 13
+unfoldable pub timeFrom : ℕ → List ℕ → Read Call
+timeFrom ending [] = refused ending
+timeFrom ending (t ∷ ws) = got (time t) ws
+
+unfoldable pub stateFrom : ℕ → List ℕ → Read Call
+stateFrom ending ws = next (section ending MOST-ATOMS 1 ws) λ bytes rest. got (state bytes) rest
+
+unfoldable pub callFrom : ℕ → List ℕ → Read Call
+callFrom ending [] = refused ending
+callFrom ending (kind ∷ ws) = cond (eqb kind 0) (timeFrom ending ws) (cond (eqb kind 1) (stateFrom ending ws) (refused BAD-WORD))
+
+-- the calls that are read, in order, and how reading them ended
+pub record CallsRead : Type 0 where
+  pub calls : List Call
+  pub ends : Ending
+
+-- no call
+abbrev pub noCall : Ending → CallsRead
+noCall e = record { calls = []; ends = e }
+
+-- one call more, before the others
+abbrev pub callThen : Call → CallsRead → CallsRead
+callThen k r = record { calls = k ∷ r .calls; ends = r .ends }
+
+-- what follows a reading; one that ends gives its number
+unfoldable pub orStop : {A : Type 0} → Read A → (A → List ℕ → CallsRead) → CallsRead
+orStop (got x ws) f = f x ws
+orStop (refused n) f = noCall (stop n)
+
+-- after the last call: a further word is 1, or 13 if bad; otherwise all was read
+unfoldable pub endingOf : ℕ → List ℕ → Ending
+endingOf ending [] = cond (eqb ending BAD-WORD) (stop BAD-WORD) end
+endingOf ending (w ∷ ws) = stop WRONG-LENGTH
+
+-- the calls that are left, so many
+unfoldable pub callsFrom : ℕ → ℕ → List ℕ → CallsRead
+callsFrom ending zero ws = noCall (endingOf ending ws)
+callsFrom ending (suc left) ws = orStop (callFrom ending ws) λ k rest. callThen k (callsFrom ending left rest)
+
+-- the calls after their count
+unfoldable pub callsAfter : ℕ → List ℕ → CallsRead
+callsAfter ending [] = noCall (stop ending)
+callsAfter ending (count ∷ ws) = callsFrom ending count ws
+
+-- ---- lines
+-- a property's word, of its answers
+abbrev pub wordOf : Verdict → PropertyWord
+wordOf v = record { value = bitOf (v .value); early = digitOf (v .early); settled = digitOf (v .settled) }
+
+-- the line of call i, of what came of it
+unfoldable pub lineOf : Book → ℕ → Outcome → CallLine
+lineOf b i o = record {
+  number = i;
+  refusal = o .number;
+  words = cond (eqb (o .number) ACCEPTED) (listed (λ p. wordOf (verdictIn b (o .state) p)) (length (properties b))) [];
+}
+
+-- the lines of calls, after so many done, from a state
+unfoldable pub linesOf : Book → ℕ → State → List Call → List CallLine
+linesOf b done st [] = []
+linesOf b done st (k ∷ ks) = lineOf b (suc done) (call (b .rows) st k) ∷ linesOf b (suc done) (call (b .rows) st k .state) ks
+
+-- and the last line
+unfoldable pub linesFrom : Book → ℕ → State → CallsRead → List Line
+linesFrom b done st r = map called (linesOf b done st (r .calls)) ++ last (r .ends) ∷ []
+
+-- those of the calls on a fresh monitor
+unfoldable pub callLines : Book → ℕ → List ℕ → List Line
+callLines b ending ws = linesFrom b 0 (initial (b .rows)) (callsAfter ending ws)
+
+-- a book, loaded or refused: nothing follows a refused book
+unfoldable pub bookThen : Loaded → ℕ → List ℕ → List Line
+bookThen l ending ws = book (l .number) ∷ cond (eqb (l .number) ACCEPTED) (callLines (l .book) ending ws) []
+
+unfoldable pub bookLines : Read Sections → ℕ → List Line
+bookLines (got s ws) ending = bookThen (loadedFrom s) ending ws
+bookLines (refused n) ending = book n ∷ []
+
+-- the lines of a report; an input that is too long gives only `stop 2`
+unfoldable pub lines : List ℕ → List Line
+lines input = cond (ltb LONGEST-INPUT (length input)) (last (stop PAST-LIMIT) ∷ [])
+    (bookLines (sections (supply input .ending) (supply input .words)) (supply input .ending))

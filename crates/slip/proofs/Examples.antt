@@ -1,0 +1,74 @@
+-- The hypotheses of the theorems can be met, and the bound is reached: computed by the checker. Assumes nothing.
+use Prim.Native.Nat.{ℕ}
+use native.Mathlib.Omega.{arith}
+use mathlib.Core.Path.{_≡_, refl, sym, ap, _∙_}
+use mathlib.Core.List.{List, [], _∷_}
+use lib.ListN.{length, getD}
+use Rattle.text.specs.Words.{pick, parts, digit, letters, allDigits, said, plain, good, begun, writtenWords, supplied, supply}
+use Rattle.pmtl.specs.Calls.Call.{time}
+use Rattle.book.specs.Reading.{section, next, sections}
+use Rattle.report.specs.Lines.{called, lines}
+use Rattle.report.specs.Report.{report}
+use Rattle.report.proofs.Examples.{reportOf, opened, caseInput, whole}
+use Rattle.slip.specs.Back.{before, pieces, wordIn, lineIn, linesIn}
+use Rattle.slip.specs.Says.{noLine, Says}
+use Rattle.slip.specs.TakenOut.{allWords, CallAt, TakenOut}
+use Rattle.slip.specs.Longest.{longest}
+use Rattle.slip.proofs.Theorems.{read-back}
+
+-- lines of a report that is known
+known-lines : {bytes : List ℕ} (input : List ℕ) → report input ≡ bytes → lines input ≡ linesIn bytes
+known-lines input e = sym (read-back input) ∙ ap linesIn e
+
+-- ---- a settled word: in the whole case of REFERENCE 8.6 the line of call 3 says 010 of the property
+pub a-word : Says (lines caseInput) 3 0 (record { value = 0; early = 1; settled = 0 })
+unfolding linesIn pieces before lineIn wordIn said
+a-word = record {
+  line = record { number = 3; refusal = 0; words = record { value = 0; early = 1; settled = 0 } ∷ [] };
+  stands = ap (λ ls. getD ls 3 noLine) (known-lines caseInput whole);
+  accepted = refl;
+  there = omega arith;
+  word = refl;
+}
+
+-- ---- a refused call: `0 0 0 0 2 0 5 0 3`, a book with nothing in it and the times 5 and 3; and without the second
+abbrev pub twoTimes : List ℕ
+twoTimes = 48 ∷ 32 ∷ 48 ∷ 32 ∷ 48 ∷ 32 ∷ 48 ∷ 32 ∷ 50 ∷ 32 ∷ 48 ∷ 32 ∷ 53 ∷ 32 ∷ 48 ∷ 32 ∷ 51 ∷ []
+
+abbrev pub oneTime : List ℕ
+oneTime = 48 ∷ 32 ∷ 48 ∷ 32 ∷ 48 ∷ 32 ∷ 48 ∷ 32 ∷ 49 ∷ 32 ∷ 48 ∷ 32 ∷ 53 ∷ []
+
+times-report : report twoTimes ≡ 98 ∷ 111 ∷ 111 ∷ 107 ∷ 32 ∷ 48 ∷ 10 ∷ 49 ∷ 32 ∷ 48 ∷ 10 ∷ 50 ∷ 32 ∷ 55 ∷ 10 ∷ 101 ∷ 110 ∷ 100 ∷ 10 ∷ []
+unfolding reportOf
+times-report = opened twoTimes ∙ refl
+
+pub a-refused-line : getD (lines twoTimes) 2 noLine ≡ called (record { number = 2; refusal = 7; words = [] })
+unfolding linesIn pieces before lineIn wordIn said
+a-refused-line = ap (λ ls. getD ls 2 noLine) (known-lines twoTimes times-report)
+
+pub its-call : CallAt twoTimes 2
+unfolding allWords section next sections pick parts digit letters allDigits said plain good begun writtenWords supplied supply
+its-call = record {
+  book = record { rows = []; operands = []; assumes = []; guarantees = [] };
+  fewer = 1;
+  before = time 5 ∷ [];
+  itself = time 3;
+  rest = [];
+  place = refl;
+  counted = omega arith;
+  fits-before = (tt, tt);
+  fits = tt;
+  words = refl;
+}
+
+pub taken-out : TakenOut its-call oneTime
+unfolding its-call allWords section next sections pick parts digit letters allDigits said plain good begun writtenWords supplied supply
+taken-out = record { short = omega arith; ending = refl; words = refl }
+
+-- ---- the bound: `0 0 0 0 x` has a report of as many bytes as any input of its length may have
+abbrev pub tight : List ℕ
+tight = 48 ∷ 32 ∷ 48 ∷ 32 ∷ 48 ∷ 32 ∷ 48 ∷ 32 ∷ 120 ∷ []
+
+pub reached : length (report tight) ≡ longest (length tight)
+unfolding reportOf
+reached = ap length (opened tight) ∙ refl

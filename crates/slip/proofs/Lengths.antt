@@ -1,0 +1,219 @@
+-- How long a report gets. Assumes nothing.
+use Prim.Native.Nat.{ℕ, zero, suc, _+_, _*_, _-_, _≤_, _<_}
+use native.Mathlib.Omega.{arith}
+use native.Mathlib.Decide.{decLt, ℕ-discrete}
+use borrow.Author.Tests.{eq-eqb, ne-eqb, lt-ltb}
+use mathlib.Core.Path.{_≡_, refl, ap}
+use mathlib.Core.Bool.{Bool, true, false, cond, not, _&&_}
+use mathlib.Core.List.{List, [], _∷_, _++_, map}
+use lib.Dec.{leb, ltb, eqb}
+use lib.ListN.{length, length-append}
+use Rattle.numbers.specs.Limits.{LAST-TIME, LONGEST-INPUT, LONGEST-REPORT, MOST-ATOMS, MOST-PROPERTIES, MOST-TEMPORALS}
+use Rattle.numbers.specs.Refusals.{ACCEPTED, PAST-LIMIT, WRONG-FORM, WRONG-RANGE, WRONG-LINK, WRONG-USE, TOO-EARLY, TOO-LATE, TOO-NARROW, NOT-A-BIT}
+use Rattle.lists.specs.Lists.{listed}
+use Rattle.lists.proofs.Listed.{listed-length}
+use Rattle.text.specs.Words.{supply}
+use Rattle.text.specs.Decimals.{decimal}
+use Rattle.text.proofs.Digits.{at-most}
+use Rattle.pmtl.specs.Book.{Rows, Book, properties, widthOf, some}
+use Rattle.pmtl.specs.Monitor.{Snap, State, initial, step}
+use Rattle.pmtl.specs.Calls.{Call, time, state, turns, refusal, crowded, Outcome, play, call}
+use Rattle.book.specs.Rows.{temporal}
+use Rattle.book.specs.Reading.{Read, got, refused, Sections}
+use Rattle.book.specs.Judging.{Loaded, firstOf, firstTo, formGood, rangeGood, kindIn, argIn, lowerIn, upperIn, temporalsIn, rowsIn, rowNumber, linksGood, usedOnce, judged, bookIn, refusedWith, loadedFrom}
+use Rattle.property_answers.specs.Verdict.{verdictIn}
+use Rattle.report.specs.Lines.{PropertyWord, CallLine, Ending, end, stop, book, called, last, wordOf, callsFrom, callsAfter, lineOf, linesOf, linesFrom, lines}
+use Rattle.report.specs.Report.{bookLine, stopLine, endLine, lastLine, propertyWord, propertyWords, callLine, line, written, report}
+use Rattle.slip.specs.Says.{sectionsSaid}
+use Rattle.slip.specs.TakenOut.{allWords}
+use Rattle.slip.specs.Longest.{WORD-BYTES, LINE-BYTES, FIRST-BYTES, LAST-BYTES, longest}
+use Rattle.slip.proofs.Words.{Few, Small, few-words, small-ending, sections-got, sections-refused}
+use Rattle.slip.proofs.Calls.{two-words-each, EndsSmall, calls-read}
+use Rattle.slip.proofs.Places.{lines-loaded, lines-refused, lines-unread}
+
+-- ---- refusals have at most two digits
+one-of-two : (x y : Bool) {a b : ℕ} → a < 100 → b < 100 → cond x a (cond y b 0) < 100
+one-of-two true y p q = p
+one-of-two false true p q = q
+one-of-two false false p q = omega arith
+
+one-of-three : (x y z : Bool) {a b c : ℕ} → a < 100 → b < 100 → c < 100 → cond x a (cond y b (cond z c 0)) < 100
+one-of-three true y z p q r = p
+one-of-three false true z p q r = q
+one-of-three false false true p q r = r
+one-of-three false false false p q r = omega arith
+
+small-refusal : (b : Rows) (now : Snap) (k : Call) → refusal b now k < 100
+unfolding refusal
+small-refusal b now (time t) = one-of-two (ltb t (now .clock)) (ltb LAST-TIME t) {a = TOO-EARLY} {b = TOO-LATE} (omega arith) (omega arith)
+small-refusal b now (state bytes) =
+    one-of-three (ltb MOST-ATOMS (length bytes)) (ltb (length bytes) (widthOf b)) (some (ltb 1) bytes) {a = PAST-LIMIT} {b = TOO-NARROW} {c = NOT-A-BIT} (omega arith) (omega arith) (omega arith)
+
+small-play : (b : Rows) (old st : State) (ns : List Snap) → play b old st ns .number < 100
+unfolding play
+small-play b old st [] = omega arith
+small-play b old st (n ∷ ns) = go (crowded (step b st n)) (small-play b old (step b st n) ns)
+  where
+    go : (z : Bool) → play b old (step b st n) ns .number < 100
+        → elim z as (λ x. Outcome) [ true ↦ record { number = 11; state = old } | false ↦ play b old (step b st n) ns ] .number < 100
+    go true h = omega arith
+    go false h = h
+
+small-call : (b : Rows) (st : State) (k : Call) → call b st k .number < 100
+unfolding call
+small-call b st k = go (eqb (refusal b (st .now) k) 0)
+  where
+    go : (z : Bool) → elim z as (λ x. Outcome) [ true ↦ play b st st (turns b (st .now) k) | false ↦ record { number = refusal b (st .now) k; state = st } ] .number < 100
+    go true = small-play b st st (turns b (st .now) k)
+    go false = small-refusal b (st .now) k
+
+small-first : (n m : ℕ) → n < 100 → m < 100 → firstOf n m < 100
+small-first zero m p q = q
+small-first (suc n) m p q = p
+
+small-firsts : (f : ℕ → ℕ) → ((r : ℕ) → f r < 100) → (n : ℕ) → firstTo f n < 100
+unfolding firstTo
+small-firsts f h zero = omega arith
+small-firsts f h (suc n) = small-first (firstTo f n) (f n) (small-firsts f h n) (h n)
+
+small-row : (ws : List ℕ) (r : ℕ) → rowNumber ws r < 100
+unfolding rowNumber
+small-row ws r =
+    one-of-three (not (formGood (kindIn ws r) (argIn ws r) (lowerIn ws r) (upperIn ws r))) (not (rangeGood (lowerIn ws r) (upperIn ws r))) (temporal (kindIn ws r) && leb MOST-TEMPORALS (temporalsIn ws r))
+    {a = WRONG-FORM} {b = WRONG-RANGE} {c = PAST-LIMIT} (omega arith) (omega arith) (omega arith)
+
+small-judged : (s : Sections) → judged s < 100
+unfolding judged
+small-judged s = small-first (firstTo (rowNumber (s .rows)) (rowsIn s)) _ (small-firsts (rowNumber (s .rows)) (small-row (s .rows)) (rowsIn s)) (one-of-two (not (linksGood s)) (not (usedOnce s)) {a = WRONG-LINK} {b = WRONG-USE} (omega arith) (omega arith))
+
+-- a book that is loaded has a small number, and few properties
+record Loads (l : Loaded) : Type 0 where
+  small : l .number < 100
+  few : length (properties (l .book)) ≤ MOST-PROPERTIES
+
+loads : (s : Sections) → Few s → Loads (loadedFrom s)
+unfolding loadedFrom bookIn
+loads s f = go (eqb (judged s) ACCEPTED)
+  where
+    go : (z : Bool) → Loads (elim z as (λ x. Loaded) [ true ↦ record { number = ACCEPTED; book = bookIn s } | false ↦ refusedWith (judged s) ])
+    go true = record { small = omega arith; few = omega (arith, length-append (s .assumes) (s .guarantees)) }
+    go false = record { small = small-judged s; few = omega arith }
+
+-- ---- lines
+two-digits : (n : ℕ) → n < 100 → length (decimal n) ≤ 2
+two-digits n h = at-most 1 n (omega arith)
+
+five-digits : (n : ℕ) → n < 100000 → length (decimal n) ≤ 5
+five-digits n h = at-most 4 n (omega arith)
+
+words-length : (ws : List PropertyWord) → length (propertyWords ws) ≡ length ws * 4
+unfolding propertyWords propertyWord
+words-length [] = refl
+words-length (w ∷ ws) = let h = words-length ws in omega arith
+
+book-length : (n : ℕ) → n < 100 → length (bookLine n) ≤ LAST-BYTES
+unfolding bookLine
+book-length n h = simp length-append (omega (arith, two-digits n h))
+
+first-length : length (bookLine ACCEPTED) ≤ FIRST-BYTES
+unfolding bookLine
+first-length = simp length-append (omega (arith, at-most 0 ACCEPTED (omega arith)))
+
+last-length : (e : Ending) → EndsSmall e → length (lastLine e) ≤ LAST-BYTES
+unfolding lastLine stopLine endLine EndsSmall
+last-length end h = omega arith
+last-length (stop n) h = simp length-append (omega (arith, two-digits n h))
+
+-- the refusal, and the words after it
+after-number : (b : Book) (i : ℕ) (o : Outcome) → length (properties b) ≤ MOST-PROPERTIES → o .number < 100
+    → length (decimal (lineOf b i o .refusal)) + length (lineOf b i o .words) * WORD-BYTES ≤ 1 + WORD-BYTES * MOST-PROPERTIES
+unfolding lineOf
+after-number b i o few small = go (ℕ-discrete (o .number) ACCEPTED)
+  where
+    ws : List PropertyWord
+    ws = listed (λ p. wordOf (verdictIn b (o .state) p)) (length (properties b))
+
+    go : Dec (o .number ≡ ACCEPTED) → length (decimal (o .number)) + length (cond (eqb (o .number) ACCEPTED) ws []) * WORD-BYTES ≤ 1 + WORD-BYTES * MOST-PROPERTIES
+    go (yes z) = rw (eq-eqb (o .number) ACCEPTED z) (omega (arith, at-most 0 (o .number) (omega arith), listed-length (λ p. wordOf (verdictIn b (o .state) p)) (length (properties b))))
+    go (no z) = rw (ne-eqb (o .number) ACCEPTED z) (omega (arith, two-digits (o .number) small))
+
+call-length : (l : CallLine) → l .number < 100000 → length (decimal (l .refusal)) + length (l .words) * WORD-BYTES ≤ 1 + WORD-BYTES * MOST-PROPERTIES → length (callLine l) ≤ LINE-BYTES
+unfolding callLine
+call-length l h w =
+    let d = five-digits (l .number) h in
+    let n = words-length (l .words) in
+    simp length-append (omega arith)
+
+its-length : (b : Book) (i : ℕ) (o : Outcome) → length (properties b) ≤ MOST-PROPERTIES → i < 100000 → o .number < 100 → length (callLine (lineOf b i o)) ≤ LINE-BYTES
+unfolding lineOf
+its-length b i o few h k = call-length (lineOf b i o) h (after-number b i o few k)
+
+lines-length : (b : Book) (e : Ending) → length (properties b) ≤ MOST-PROPERTIES → EndsSmall e → (ks : List Call) (done : ℕ) (st : State) → done + length ks < 100000
+    → length (written (map called (linesOf b done st ks) ++ last e ∷ [])) ≤ length ks * LINE-BYTES + LAST-BYTES
+unfolding written line linesOf
+lines-length b e few s [] done st h = simp length-append (omega (arith, last-length e s))
+lines-length b e few s (k ∷ ks) done st h =
+    let o = call (b .rows) st k in
+    let c = its-length b (suc done) o few (omega arith) (small-call (b .rows) st k) in
+    let r = lines-length b e few s ks (suc done) (o .state) (omega arith) in
+    simp length-append (omega arith)
+
+-- ---- reports
+-- the calls after their count
+after-read : (ending : ℕ) → Small ending → (ws : List ℕ) → EndsSmall (callsAfter ending ws .ends) × (2 * length (callsAfter ending ws .calls) ≤ length ws - 1)
+unfolding callsAfter EndsSmall
+after-read ending small [] = (small .1, omega arith)
+after-read ending small (count ∷ ws) =
+    let h = calls-read ending small count ws in
+    let ks = callsFrom ending count ws .calls in
+    (h .ends, omega (arith, two-words-each ks, length-append (allWords ks) (h .left), ap length (h .are)))
+
+-- a line alone
+lone-book : (n room : ℕ) → n < 100 → length (written (book n ∷ [])) ≤ longest room
+unfolding written line
+lone-book n room h = simp length-append (omega (arith, book-length n h))
+
+module _ (input : List ℕ) where
+  whole-length : {s : Sections} {ws : List ℕ} → length input ≤ LONGEST-INPUT → sectionsSaid input ≡ got s ws → loadedFrom s .number ≡ ACCEPTED → length (report input) ≤ longest (length input)
+  unfolding report written line linesFrom
+  whole-length {s} {ws} f e z =
+      let ending = supply input .ending in
+      let g = sections-got ending (small-ending input) (supply input .words) e in
+      let c = after-read ending (small-ending input) ws in
+      let b = loadedFrom s .book in
+      let ks = callsAfter ending ws .calls in
+      let few : 4 * length ks ≤ length input - 9 = omega (arith, g .1, c .1, few-words input) in
+      let l = lines-length b (callsAfter ending ws .ends) (loads s (g .0) .few) (c .0) ks 0 (initial (b .rows)) (omega arith) in
+      let n = first-length in
+      rw (lines-loaded input f e z) (simp length-append (omega arith))
+
+  by-number : (s : Sections) (ws : List ℕ) → length input ≤ LONGEST-INPUT → sectionsSaid input ≡ got s ws → Dec (loadedFrom s .number ≡ ACCEPTED) → length (report input) ≤ longest (length input)
+  unfolding report
+  by-number s ws f e (yes z) = whole-length f e z
+  by-number s ws f e (no z) =
+      let g = sections-got (supply input .ending) (small-ending input) (supply input .words) e in
+      rw (lines-refused input f e z) (lone-book (loadedFrom s .number) (length input) (loads s (g .0) .small))
+
+  by-read : (r : Read Sections) → length input ≤ LONGEST-INPUT → sectionsSaid input ≡ r → length (report input) ≤ longest (length input)
+  unfolding report
+  by-read (got s ws) f e = by-number s ws f e (ℕ-discrete (loadedFrom s .number) ACCEPTED)
+  by-read (refused n) f e =
+      rw (lines-unread input f e) (lone-book n (length input) (sections-refused (supply input .ending) (small-ending input) (supply input .words) e .1))
+
+  stop-length : LONGEST-INPUT < length input → length (report input) ≤ LAST-BYTES
+  unfolding report lines written line EndsSmall
+  stop-length h = rw (lt-ltb LONGEST-INPUT (length input) h) (simp length-append (omega (arith, last-length (stop PAST-LIMIT) (omega arith))))
+
+  pub at-most-longest : length (report input) ≤ longest (length input)
+  at-most-longest = go (decLt LONGEST-INPUT (length input))
+    where
+      go : Dec (LONGEST-INPUT < length input) → length (report input) ≤ longest (length input)
+      go (yes h) = omega (arith, stop-length h)
+      go (no h) = by-read (sectionsSaid input) (omega arith) refl
+
+  pub room-enough : length (report input) ≤ LONGEST-REPORT
+  room-enough = go (decLt LONGEST-INPUT (length input))
+    where
+      go : Dec (LONGEST-INPUT < length input) → length (report input) ≤ LONGEST-REPORT
+      go (yes h) = omega (arith, stop-length h)
+      go (no h) = omega (arith, at-most-longest)

@@ -1,0 +1,9 @@
+pub mod Reading
+pub mod Words
+pub mod Calls
+pub mod Places
+pub mod Sayings
+pub mod Traces
+pub mod Lengths
+pub mod Theorems
+pub mod Examples

@@ -1,0 +1,153 @@
+-- Where a call's line stands, and what it says. Assumes nothing.
+use Prim.Native.Nat.{ℕ, zero, suc, _+_, _≤_, _<_}
+use native.Mathlib.Omega.{arith}
+use native.Mathlib.Decide.{decLt, ℕ-discrete}
+use mathlib.Core.Path.{_≡_, refl, sym, ap, ap₂, _∙_}
+use mathlib.Core.List.{List, [], _∷_, _++_, map, reverse, reverseAux}
+use lib.ListN.{length, getD, take}
+use borrow.Author.Tests.{eq-eqb, ne-eqb, lt-ltb, le-ltb}
+use Rattle.numbers.specs.Limits.{LONGEST-INPUT}
+use Rattle.numbers.specs.Refusals.{ACCEPTED}
+use Rattle.text.specs.Words.{supply}
+use Rattle.pmtl.specs.Book.{Book}
+use Rattle.pmtl.specs.Monitor.{State, initial}
+use Rattle.pmtl.specs.Calls.{Call, Outcome, call, after}
+use Rattle.book.specs.Reading.{Read, got, refused, Sections}
+use Rattle.book.specs.Judging.{Loaded, loadedFrom}
+use Rattle.report.specs.Lines.{CallLine, Ending, Line, book, called, last, CallsRead, callsAfter, lineOf, linesOf, linesFrom, callLines, bookThen, bookLines, lines}
+use Rattle.slip.specs.Says.{sectionsSaid, loadedOf, bookSaid, wordsAfter, readSaid, callsSaid, endSaid, noLine, noCallLine, missingCall, Whole, Shape}
+use Rattle.slip.specs.Says.Shape.{whole, refused-book, too-long}
+use Rattle.slip.proofs.Words.{small-ending, sections-refused}
+
+-- ---- a call's line among the others
+not-book : {n : ℕ} {l : CallLine} → book n ≡ called l → ⊥
+not-book h = let z : _≡_ {A = ℕ} 0 1 = cc in omega arith
+
+not-last : {e : Ending} {l : CallLine} → last e ≡ called l → ⊥
+not-last h = let z : _≡_ {A = ℕ} 0 1 = cc in omega arith
+
+-- a line alone that is no call's
+lone-line : (x : Line) (l : CallLine) → (x ≡ called l → ⊥) → (i : ℕ) → getD (x ∷ []) i noLine ≡ called l → ⊥
+lone-line x l no-call zero h = no-call h
+lone-line x l no-call (suc i) h = not-last h
+
+pub at-place : (cs : List CallLine) (e : Ending) (i : ℕ) (l : CallLine) → getD (map called cs ++ last e ∷ []) i noLine ≡ called l → (i < length cs) × (getD cs i noCallLine ≡ l)
+at-place [] e zero l h = absurd (not-last h)
+at-place [] e (suc i) l h = absurd (not-last h)
+at-place (c ∷ cs) e zero l h = (omega arith, cc)
+at-place (c ∷ cs) e (suc i) l h = let r = at-place cs e i l h in (omega (arith, r .0), r .1)
+
+-- ---- the lines of calls
+pub lines-length : (b : Book) (done : ℕ) (st : State) (ks : List Call) → length (linesOf b done st ks) ≡ length ks
+unfolding linesOf
+lines-length b done st [] = refl
+lines-length b done st (k ∷ ks) = ap suc (lines-length b (suc done) (call (b .rows) st k .state) ks)
+
+pub lines-at : (b : Book) (done : ℕ) (past ks : List Call) (i : ℕ) → i < length ks → getD (linesOf b done (after (b .rows) past) ks) i noCallLine
+    ≡ lineOf b (suc (done + i)) (call (b .rows) (after (b .rows) (reverseAux (take i ks) past)) (getD ks i missingCall))
+unfolding linesOf after
+lines-at b done past [] i h = absurd (omega arith)
+lines-at b done past (k ∷ ks) zero h = let e : done + 0 ≡ done = omega arith in rw e
+lines-at b done past (k ∷ ks) (suc i) h =
+    let e : done + suc i ≡ suc done + i = omega arith in rw e (lines-at b (suc done) (k ∷ past) ks i (omega arith))
+
+-- line i of calls, on a fresh monitor
+abbrev pub sayings : ℕ → Book → List Call → CallLine
+sayings i b ks = lineOf b (suc i) (call (b .rows) (after (b .rows) (reverse (take i ks))) (getD ks i missingCall))
+
+said-at : (b : Book) (ks : List Call) (i : ℕ) → i < length ks → getD (linesOf b 0 (initial (b .rows)) ks) i noCallLine ≡ sayings i b ks
+unfolding after
+said-at b ks i h = let e : 0 + i ≡ i = omega arith in rw e at (lines-at b 0 [] ks i h)
+
+number-of : (b : Book) (i : ℕ) (o : Outcome) → lineOf b i o .number ≡ i
+unfolding lineOf
+number-of b i o = refl
+
+-- one call more
+pub one-more : (ks past : List Call) (i : ℕ) → i < length ks → reverseAux (take (suc i) ks) past ≡ getD ks i missingCall ∷ reverseAux (take i ks) past
+one-more [] past i h = absurd (omega arith)
+one-more (k ∷ ks) past zero h = refl
+one-more (k ∷ ks) past (suc i) h = one-more ks (k ∷ past) i (omega arith)
+
+-- ---- the lines of an input
+module _ (input : List ℕ) {s : Sections} {ws : List ℕ} (e : sectionsSaid input ≡ got s ws) where
+  pub loads-as : loadedOf (sectionsSaid input) ≡ loadedFrom s
+  unfolding loadedOf
+  loads-as = rw e
+
+  read-as : readSaid input ≡ callsAfter (supply input .ending) ws
+  unfolding wordsAfter
+  read-as = ap (λ r. callsAfter (supply input .ending) (wordsAfter r)) e
+
+module _ (input : List ℕ) (fits : length input ≤ LONGEST-INPUT) where
+  -- of a loaded book
+  pub lines-loaded : {s : Sections} {ws : List ℕ} → sectionsSaid input ≡ got s ws → loadedFrom s .number ≡ ACCEPTED
+      → lines input ≡ book ACCEPTED ∷ linesFrom (loadedFrom s .book) 0 (initial (loadedFrom s .book .rows)) (callsAfter (supply input .ending) ws)
+  unfolding lines bookLines bookThen callLines
+  lines-loaded {s} e z = rw (le-ltb LONGEST-INPUT (length input) fits, e, eq-eqb (loadedFrom s .number) ACCEPTED z, z)
+
+  pub lines-refused : {s : Sections} {ws : List ℕ} → sectionsSaid input ≡ got s ws → ¬ (loadedFrom s .number ≡ ACCEPTED) → lines input ≡ book (loadedFrom s .number) ∷ []
+  unfolding lines bookLines bookThen
+  lines-refused {s} e z = rw (le-ltb LONGEST-INPUT (length input) fits, e, ne-eqb (loadedFrom s .number) ACCEPTED z)
+
+  pub lines-unread : {n : ℕ} → sectionsSaid input ≡ refused n → lines input ≡ book n ∷ []
+  unfolding lines bookLines
+  lines-unread e = rw (le-ltb LONGEST-INPUT (length input) fits, e)
+
+  whole-of : {s : Sections} {ws : List ℕ} → sectionsSaid input ≡ got s ws → loadedFrom s .number ≡ ACCEPTED → Whole input
+  unfolding linesFrom
+  whole-of {s} {ws} e z =
+      let b = loadedFrom s .book in
+      let ks = callsAfter (supply input .ending) ws .calls in
+      let n = lines-length b 0 (initial (b .rows)) ks in
+      let said : ks ≡ callsSaid input = ap (λ (r : CallsRead). r .calls) (sym (read-as input e)) in
+      record {
+        calls = linesOf b 0 (initial (b .rows)) ks;
+        loads = rw (loads-as input e) z;
+        all = lines-loaded e z ∙ ap (λ x. book ACCEPTED ∷ map called (linesOf b 0 (initial (b .rows)) ks) ++ last x ∷ []) (ap (λ (r : CallsRead). r .ends) (sym (read-as input e)));
+        each = n ∙ ap length said;
+        numbered = λ i h. ap (λ (l : CallLine). l .number) (said-at b ks i (omega arith)) ∙ number-of b (suc i) _;
+        in-order = λ i h. said-at b ks i (omega arith) ∙ ap₂ (sayings i) (sym (ap (λ (l : Loaded). l .book) (loads-as input e))) said;
+      }
+
+pub shape : (input : List ℕ) → Shape input
+unfolding loadedOf lines
+shape input = go (decLt LONGEST-INPUT (length input))
+  where
+    by-number : (s : Sections) (ws : List ℕ) → length input ≤ LONGEST-INPUT → sectionsSaid input ≡ got s ws → Dec (loadedFrom s .number ≡ ACCEPTED) → Shape input
+    by-number s ws f e (yes z) = whole f (whole-of input f e z)
+    by-number s ws f e (no z) = refused-book (rw e z) (lines-refused input f e z ∙ ap (λ r. book (loadedOf r .number) ∷ []) (sym e))
+
+    by-read : (r : Read Sections) → length input ≤ LONGEST-INPUT → sectionsSaid input ≡ r → Shape input
+    by-read (got s ws) f e = by-number s ws f e (ℕ-discrete (loadedFrom s .number) ACCEPTED)
+    by-read (refused n) f e =
+        let m = sections-refused (supply input .ending) (small-ending input) (supply input .words) e in
+        refused-book (rw e (λ z. omega (arith, m .0))) (lines-unread input f e ∙ ap (λ r. book (loadedOf r .number) ∷ []) (sym e))
+
+    go : Dec (LONGEST-INPUT < length input) → Shape input
+    go (yes h) = too-long h (rw (lt-ltb LONGEST-INPUT (length input) h))
+    go (no h) = by-read (sectionsSaid input) (omega arith) refl
+
+-- ---- a call's line in a report
+-- line i is that of a call that the text says, after so many others
+pub record CalledLine (input : List ℕ) (i : ℕ) (l : CallLine) : Type 0 where
+  pub fits : length input ≤ LONGEST-INPUT
+  pub loads : loadedOf (sectionsSaid input) .number ≡ ACCEPTED
+  pub others : ℕ
+  pub place : i ≡ suc others
+  pub said : others < length (callsSaid input)
+  pub is : sayings others (bookSaid input) (callsSaid input) ≡ l
+
+in-whole : (input : List ℕ) → length input ≤ LONGEST-INPUT → (w : Whole input) (i : ℕ) (l : CallLine) → getD (book ACCEPTED ∷ map called (w .calls) ++ last (endSaid input) ∷ []) i noLine ≡ called l → CalledLine input i l
+in-whole input f w zero l h = absurd (not-book h)
+in-whole input f w (suc i) l h =
+    let q = at-place (w .calls) (endSaid input) i l h in
+    record { fits = f; loads = w .loads; others = i; place = refl; said = omega (arith, q .0, w .each); is = sym (w .in-order i (q .0)) ∙ q .1 }
+
+pub called-line : (input : List ℕ) (i : ℕ) {l : CallLine} → getD (lines input) i noLine ≡ called l → CalledLine input i l
+called-line input i {l} h = go (shape input)
+  where
+    go : Shape input → CalledLine input i l
+    go (whole f w) = in-whole input f w i l (ap (λ ls. getD ls i noLine) (sym (w .all)) ∙ h)
+    go (refused-book n e) = absurd (lone-line (book _) l not-book i (ap (λ ls. getD ls i noLine) (sym e) ∙ h))
+    go (too-long n e) = absurd (lone-line (last _) l not-last i (ap (λ ls. getD ls i noLine) (sym e) ∙ h))

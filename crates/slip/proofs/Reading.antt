@@ -1,0 +1,158 @@
+-- Reading back what is written gives the lines. Assumes nothing.
+use Prim.Native.Nat.{ℕ, _+_, _≤_, _<_}
+use native.Mathlib.Omega.{arith}
+use mathlib.Core.Path.{_≡_, refl, sym, ap, ap₂, _∙_}
+use mathlib.Core.Bool.{true}
+use mathlib.Core.List.{List, [], _∷_, _++_, map, append-nil, append-assoc}
+use lib.ListN.{length, getD}
+use lib.Dec.{leb}
+use borrow.Author.Tests.{eq-eqb, ne-eqb, leb-true}
+use Rattle.text.specs.Words.{space, lineFeed, digit0, digit, allDigits, said}
+use Rattle.text.specs.Decimals.{digitsBefore, decimal}
+use Rattle.lists.proofs.Tests.{and-left, and-right}
+use Rattle.text.proofs.Back.{decimal-digits, decimal-says}
+use Rattle.report.specs.Lines.{PropertyWord, CallLine, end, stop, Line, book, called, last}
+use Rattle.report.specs.Report.{bookLine, stopLine, endLine, lastLine, propertyWord, propertyWords, callLine, line, written}
+use Rattle.slip.specs.Back.{before, pieces, wordIn, lineIn, linesIn}
+
+-- ---- bytes without the one that parts them
+abbrev Clear : ℕ → List ℕ → Type 0
+Clear by [] = Unit {0}
+Clear by (x ∷ xs) = (x ≡ by → ⊥) × Clear by xs
+
+clear-append : (by : ℕ) (xs ys : List ℕ) → Clear by xs → Clear by ys → Clear by (xs ++ ys)
+clear-append by [] ys p q = q
+clear-append by (x ∷ xs) ys p q = (p .0, clear-append by xs ys (p .1) q)
+
+digit-within : (x : ℕ) → digit x ≡ true → (48 ≤ x) × (x ≤ 57)
+unfolding digit
+digit-within x e = (leb-true 48 x (and-left (leb 48 x) (leb x 57) e), leb-true x 57 (and-right (leb 48 x) (leb x 57) e))
+
+clear-digits : (by : ℕ) → by < digit0 → (xs : List ℕ) → allDigits xs ≡ true → Clear by xs
+unfolding allDigits
+clear-digits by h [] a = tt
+clear-digits by h (x ∷ xs) a =
+    let w = digit-within x (and-left (digit x) (allDigits xs) a) in
+    ((λ e. omega arith), clear-digits by h xs (and-right (digit x) (allDigits xs) a))
+
+clear-decimal : (by : ℕ) → by < digit0 → (n : ℕ) → Clear by (decimal n)
+clear-decimal by h n = clear-digits by h (decimal n) (decimal-digits n)
+
+-- ---- the first piece, and one alone
+first-piece : (by : ℕ) (w rest : List ℕ) → Clear by w → pieces by (w ++ by ∷ rest) ≡ w ∷ pieces by rest
+unfolding pieces before
+first-piece by [] rest c = rw (eq-eqb by by refl)
+first-piece by (x ∷ w) rest c = rw (ne-eqb x by (c .0), first-piece by w rest (c .1))
+
+one-piece : (by : ℕ) (w : List ℕ) → 0 < length w → Clear by w → pieces by w ≡ w ∷ []
+unfolding pieces before
+one-piece by [] h c = absurd (omega arith)
+one-piece by (x ∷ []) h c = rw (ne-eqb x by (c .0))
+one-piece by (x ∷ y ∷ w) h c = rw (ne-eqb x by (c .0), one-piece by (y ∷ w) (omega arith) (c .1))
+
+-- a number has a digit, and its first is one
+some-digit : (n : ℕ) → 0 < length (decimal n)
+unfolding decimal digitsBefore said
+some-digit n = go (decimal n) refl
+  where
+    go : (w : List ℕ) → decimal n ≡ w → 0 < length w
+    go [] e =
+        let z : n ≡ 0 = sym (decimal-says n) ∙ ap (said 0) e in
+        let q : length (decimal 0) ≡ 0 = ap (λ m. length (decimal m)) (sym z) ∙ ap length e in
+        absurd (omega arith)
+    go (x ∷ w) e = omega arith
+
+first-digit : (w : List ℕ) → 0 < length w → allDigits w ≡ true → getD w 0 0 ≤ 57
+unfolding allDigits
+first-digit [] h a = absurd (omega arith)
+first-digit (x ∷ w) h a = digit-within x (and-left (digit x) (allDigits w) a) .1
+
+-- ---- the words of properties
+abbrev bytesOf : PropertyWord → List ℕ
+bytesOf v = (digit0 + v .value) ∷ (digit0 + v .early) ∷ (digit0 + v .settled) ∷ []
+
+clear-word : (by : ℕ) → by < digit0 → (v : PropertyWord) → Clear by (bytesOf v)
+clear-word by h v = ((λ e. omega arith), ((λ e. omega arith), ((λ e. omega arith), tt)))
+
+same-word : {a b c a′ b′ c′ : ℕ} → a ≡ a′ → b ≡ b′ → c ≡ c′ → _≡_ {A = PropertyWord} (record { value = a; early = b; settled = c }) (record { value = a′; early = b′; settled = c′ })
+same-word p q r = rw (p, q, r)
+
+word-back : (v : PropertyWord) → wordIn (bytesOf v) ≡ v
+unfolding wordIn
+word-back v = same-word (omega arith) (omega arith) (omega arith)
+
+words-back : (ws : List PropertyWord) → map wordIn (map bytesOf ws) ≡ ws
+words-back [] = refl
+words-back (v ∷ ws) = ap₂ (λ x xs. x ∷ xs) (word-back v) (words-back ws)
+
+words-parted : (w : List ℕ) (ws : List PropertyWord) → 0 < length w → Clear space w → pieces space (w ++ propertyWords ws) ≡ w ∷ map bytesOf ws
+unfolding propertyWords propertyWord
+words-parted w [] h c = rw append-nil (one-piece space w h c)
+words-parted w (v ∷ ws) h c =
+    first-piece space w (bytesOf v ++ propertyWords ws) c
+    ∙ ap (λ ps. w ∷ ps) (words-parted (bytesOf v) ws (omega arith) (clear-word space (omega arith) v))
+
+clear-words : (ws : List PropertyWord) → Clear lineFeed (propertyWords ws)
+unfolding propertyWords propertyWord
+clear-words [] = tt
+clear-words (v ∷ ws) = ((λ e. omega arith), clear-append lineFeed (bytesOf v) (propertyWords ws) (clear-word lineFeed (omega arith) v) (clear-words ws))
+
+-- ---- a line without its line feed
+abbrev numbered : List ℕ → ℕ → List ℕ
+numbered w n = w ++ space ∷ decimal n
+
+abbrev called-body : CallLine → List ℕ
+called-body l = decimal (l .number) ++ space ∷ (decimal (l .refusal) ++ propertyWords (l .words))
+
+body : Line → List ℕ
+body (book n) = numbered (98 ∷ 111 ∷ 111 ∷ 107 ∷ []) n
+body (called l) = called-body l
+body (last end) = 101 ∷ 110 ∷ 100 ∷ []
+body (last (stop n)) = numbered (115 ∷ 116 ∷ 111 ∷ 112 ∷ []) n
+
+line-body : (l : Line) (rest : List ℕ) → line l ++ rest ≡ body l ++ lineFeed ∷ rest
+unfolding line body bookLine stopLine endLine lastLine callLine
+line-body (book n) rest = simp append-assoc
+line-body (called l) rest = simp append-assoc
+line-body (last end) rest = refl
+line-body (last (stop n)) rest = simp append-assoc
+
+clear-body : (l : Line) → Clear lineFeed (body l)
+unfolding body
+clear-body (book n) = ((λ e. omega arith), ((λ e. omega arith), ((λ e. omega arith), ((λ e. omega arith), ((λ e. omega arith), clear-decimal lineFeed (omega arith) n)))))
+clear-body (called l) =
+    clear-append lineFeed (decimal (l .number)) (space ∷ (decimal (l .refusal) ++ propertyWords (l .words))) (clear-decimal lineFeed (omega arith) (l .number))
+    ((λ e. omega arith), clear-append lineFeed (decimal (l .refusal)) (propertyWords (l .words)) (clear-decimal lineFeed (omega arith) (l .refusal)) (clear-words (l .words)))
+clear-body (last end) = ((λ e. omega arith), ((λ e. omega arith), ((λ e. omega arith), tt)))
+clear-body (last (stop n)) = ((λ e. omega arith), ((λ e. omega arith), ((λ e. omega arith), ((λ e. omega arith), ((λ e. omega arith), clear-decimal lineFeed (omega arith) n)))))
+
+number-piece : (n : ℕ) → pieces space (decimal n) ≡ decimal n ∷ []
+number-piece n = one-piece space (decimal n) (some-digit n) (clear-decimal space (omega arith) n)
+
+body-back : (l : Line) → lineIn (pieces space (body l)) ≡ l
+unfolding body lineIn
+body-back (book n) =
+    rw (first-piece space (98 ∷ 111 ∷ 111 ∷ 107 ∷ []) (decimal n) ((λ e. omega arith), ((λ e. omega arith), ((λ e. omega arith), ((λ e. omega arith), tt)))), number-piece n, decimal-says n)
+body-back (called l) =
+    let d = first-digit (decimal (l .number)) (some-digit (l .number)) (decimal-digits (l .number)) in
+    rw (
+      first-piece space (decimal (l .number)) (decimal (l .refusal) ++ propertyWords (l .words)) (clear-decimal space (omega arith) (l .number)),
+      words-parted (decimal (l .refusal)) (l .words) (some-digit (l .refusal)) (clear-decimal space (omega arith) (l .refusal)),
+      ne-eqb (getD (decimal (l .number)) 0 0) 98 (λ e. omega arith),
+      ne-eqb (getD (decimal (l .number)) 0 0) 115 (λ e. omega arith),
+      decimal-says (l .number),
+      decimal-says (l .refusal),
+      words-back (l .words),
+    )
+body-back (last end) =
+    rw (one-piece space (101 ∷ 110 ∷ 100 ∷ []) (omega arith) ((λ e. omega arith), ((λ e. omega arith), ((λ e. omega arith), tt))))
+body-back (last (stop n)) =
+    rw (first-piece space (115 ∷ 116 ∷ 111 ∷ 112 ∷ []) (decimal n) ((λ e. omega arith), ((λ e. omega arith), ((λ e. omega arith), ((λ e. omega arith), tt)))), number-piece n, decimal-says n)
+
+-- ---- lines one after the other
+pub lines-back : (ls : List Line) → linesIn (written ls) ≡ ls
+unfolding linesIn written pieces
+lines-back [] = refl
+lines-back (l ∷ ls) =
+    rw (line-body l (written ls), first-piece lineFeed (body l) (written ls) (clear-body l))
+    (ap₂ (λ x xs. x ∷ xs) (body-back l) (lines-back ls))

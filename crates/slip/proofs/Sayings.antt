@@ -1,0 +1,80 @@
+-- What a word on an accepted call's line says: the answers after the calls up to that line. Assumes nothing.
+use Prim.Native.Nat.{ℕ, suc, _+_, _-_, _≤_, _<_}
+use native.Mathlib.Omega.{arith}
+use mathlib.Core.Path.{_≡_, refl, sym, ap, subst, _∙_}
+use mathlib.Core.Bool.{Bool, true, false}
+use mathlib.Core.List.{List, [], _++_, reverse, reverse-append}
+use lib.Dec.{eqb}
+use lib.ListN.{length, getD, take, drop}
+use lib.Seq.{take-add}
+use borrow.Author.Tests.{eq-eqb, eqb-true}
+use Rattle.numbers.specs.Refusals.{ACCEPTED}
+use Rattle.lists.proofs.Listed.{listed-length, listed-at}
+use Rattle.pmtl.specs.Book.{Book, Ordered, properties}
+use Rattle.pmtl.specs.Calls.{Call, Outcome, call, after}
+use Rattle.book.specs.Reading.{Read, got, refused, Sections}
+use Rattle.book.specs.Judging.{Loaded, judged, bookIn, refusedWith, loadedFrom}
+use Rattle.book.proofs.Ordered.{book-ordered}
+use Rattle.property_answers.specs.Verdict.{verdictIn}
+use Rattle.report.specs.Lines.{PropertyWord, CallLine, book, wordOf, lineOf, lines}
+use Rattle.slip.specs.Says.{loadedOf, bookSaid, callsSaid, firstCalls, noWord, missingCall, Says}
+use Rattle.slip.proofs.Places.{one-more, CalledLine, called-line}
+
+-- ---- the book that a text says is ordered
+loaded-ordered : (s : Sections) → Ordered (loadedFrom s .book .rows)
+unfolding loadedFrom
+loaded-ordered s = go (eqb (judged s) ACCEPTED) refl
+  where
+    go : (z : Bool) → eqb (judged s) ACCEPTED ≡ z
+        → Ordered (elim z as (λ x. Loaded) [ true ↦ record { number = ACCEPTED; book = bookIn s } | false ↦ refusedWith (judged s) ] .book .rows)
+    go true e = book-ordered s (eqb-true (judged s) ACCEPTED e)
+    go false e = λ r. tt
+
+pub ordered : (r : Read Sections) → Ordered (loadedOf r .book .rows)
+unfolding loadedOf
+ordered (got s ws) = loaded-ordered s
+ordered (refused n) = λ r. tt
+
+-- ---- the words of an accepted call's line
+words-at : (b : Book) (i : ℕ) (o : Outcome) → lineOf b i o .refusal ≡ ACCEPTED → length (lineOf b i o .words) ≡ length (properties b)
+unfolding lineOf
+words-at b i o z = rw (eq-eqb (o .number) ACCEPTED z) (listed-length (λ q. wordOf (verdictIn b (o .state) q)) (length (properties b)))
+
+word-at : (b : Book) (i : ℕ) (o : Outcome) (p : ℕ) → lineOf b i o .refusal ≡ ACCEPTED → p < length (lineOf b i o .words)
+    → getD (lineOf b i o .words) p noWord ≡ wordOf (verdictIn b (o .state) p)
+unfolding lineOf
+word-at b i o p z = rw (eq-eqb (o .number) ACCEPTED z) (λ h. listed-at (λ q. wordOf (verdictIn b (o .state) q)) noWord (length (properties b)) p (omega (arith, listed-length (λ q. wordOf (verdictIn b (o .state) q)) (length (properties b)))))
+
+-- the answers of property p after the first i calls of a text
+abbrev pub answered : List ℕ → ℕ → ℕ → PropertyWord
+answered input i p = wordOf (verdictIn (bookSaid input) (after (bookSaid input .rows) (firstCalls input i)) p)
+
+module _ (input : List ℕ) {i : ℕ} {l : CallLine} (c : CalledLine input i l) (z : l .refusal ≡ ACCEPTED) where
+  abbrev outcome : Outcome
+  outcome = call (bookSaid input .rows) (after (bookSaid input .rows) (firstCalls input (c .others))) (getD (callsSaid input) (c .others) missingCall)
+
+  accepted : lineOf (bookSaid input) (suc (c .others)) outcome .refusal ≡ ACCEPTED
+  accepted = ap (λ (x : CallLine). x .refusal) (c .is) ∙ z
+
+  -- it has a word for each property
+  pub word-each : length (l .words) ≡ length (properties (bookSaid input))
+  word-each = ap (λ (x : CallLine). length (x .words)) (sym (c .is)) ∙ words-at (bookSaid input) (suc (c .others)) outcome accepted
+
+  -- the digits of the answers after the calls up to that line
+  word-here : (p : ℕ) → p < length (l .words) → getD (l .words) p noWord ≡ answered input i p
+  unfolding after
+  word-here p h =
+      ap (λ (x : CallLine). getD (x .words) p noWord) (sym (c .is))
+      ∙ word-at (bookSaid input) (suc (c .others)) outcome p accepted (subst (λ (x : CallLine). p < length (x .words)) (sym (c .is)) h)
+      ∙ ap (λ ks. wordOf (verdictIn (bookSaid input) (after (bookSaid input .rows) ks) p)) (sym (one-more (callsSaid input) [] (c .others) (c .said)))
+      ∙ ap (λ n. answered input n p) (sym (c .place))
+
+pub word-is : (input : List ℕ) {i p : ℕ} {w : PropertyWord} → Says (lines input) i p w → w ≡ answered input i p
+word-is input {i} {p} s = sym (s .word) ∙ word-here input (called-line input i (s .stands)) (s .accepted) p (s .there)
+
+-- ---- more calls come before those that were there
+pub calls-go-on : (input : List ℕ) (i j : ℕ) → i ≤ j → (more : List Call) × (firstCalls input j ≡ more ++ firstCalls input i)
+calls-go-on input i j h =
+    let ks = callsSaid input in
+    let e : j ≡ i + (j - i) = omega arith in
+    (reverse (take (j - i) (drop i ks)), ap (λ n. reverse (take n ks)) e ∙ ap reverse (take-add i (j - i) ks) ∙ reverse-append (take i ks) (take (j - i) (drop i ks)))

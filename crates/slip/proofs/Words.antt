@@ -1,0 +1,163 @@
+-- What is read from words: how many they are, how many are left, and the numbers that end a reading. Assumes nothing.
+use Prim.Native.Nat.{ℕ, suc, _+_, _*_, _≤_, _<_}
+use native.Mathlib.Omega.{arith}
+use native.Mathlib.Nat.{mul-le-mul-left}
+use mathlib.Core.Path.{_≡_, refl, sym, ap₂, _∙_}
+use mathlib.Core.Bool.{Bool, true, false, cond, not, _&&_}
+use mathlib.Core.List.{List, [], _∷_, _++_}
+use lib.Dec.{ltb, eqb}
+use lib.ListN.{length, take, drop, length-append, length-drop, take-append-drop}
+use lib.Seq.{length-take-le, take-append-seam, drop-append-seam}
+use borrow.Author.Tests.{ltb-false, eqb-true, le-ltb}
+use Rattle.numbers.specs.Limits.{MOST-ATOMS}
+use Rattle.text.specs.Words.{pick, parts, letters, said, good, Supply, begun, writtenWords, supplied, supply}
+use Rattle.pmtl.specs.Calls.{Call, time, state}
+use Rattle.book.specs.Reading.{Read, got, refused, section, next, Sections, sections}
+use Rattle.report.specs.Lines.{timeFrom, stateFrom, callFrom}
+use Rattle.slip.specs.TakenOut.{callWords, Fits}
+
+-- ---- the words of a text: each takes a byte, and a byte parts it from the next
+abbrev spare : Bool → ℕ
+spare going = cond going 0 1
+
+begun-few : (starts : Bool) (w : List ℕ) (ws : List (List ℕ)) → length (begun starts w ws) ≤ cond starts 1 0 + length ws
+unfolding begun
+begun-few true w ws = omega arith
+begun-few false w ws = omega arith
+
+written-few : (going : Bool) (s : List ℕ) → 2 * length (writtenWords going s) ≤ length s + spare going
+unfolding writtenWords begun
+written-few going [] = omega arith
+written-few going (b ∷ s) = go going (parts b) (written-few (not (parts b)) s)
+  where
+    go : (going here : Bool) → 2 * length (writtenWords (not here) s) ≤ length s + spare (not here)
+        → 2 * length (begun (not going && not here) (letters (b ∷ s)) (writtenWords (not here) s)) ≤ suc (length s) + spare going
+    go true true h = omega arith
+    go true false h = omega arith
+    go false true h = omega arith
+    go false false h = omega arith
+
+-- a number that ends a reading
+abbrev pub Small : ℕ → Type 0
+Small n = (0 < n) × (n < 100)
+
+pub record Supplied (written : ℕ) (s : Supply) : Type 0 where
+  pub few : length (s .words) ≤ written
+  pub ending : Small (s .ending)
+
+supplied-few : (ws : List (List ℕ)) → Supplied (length ws) (supplied ws)
+unfolding supplied pick
+supplied-few [] = record { few = omega arith; ending = (omega arith, omega arith) }
+supplied-few (w ∷ ws) = go (good w) (supplied-few ws)
+  where
+    go : (z : Bool) → Supplied (length ws) (supplied ws) → Supplied (suc (length ws)) (pick z (record { words = said 0 w ∷ supplied ws .words; ending = supplied ws .ending }) (record { words = []; ending = 13 }))
+    go true r = record { few = omega (arith, r .few); ending = r .ending }
+    go false r = record { few = omega arith; ending = (omega arith, omega arith) }
+
+pub few-words : (input : List ℕ) → 2 * length (supply input .words) ≤ length input + 1
+unfolding supply
+few-words input = omega (arith, written-few false input, supplied-few (writtenWords false input) .few)
+
+pub small-ending : (input : List ℕ) → Small (supply input .ending)
+unfolding supply
+small-ending input = supplied-few (writtenWords false input) .ending
+
+-- ---- sections
+-- what is read of words takes so many of them at least
+unfoldable Sized : {A : Type 0} → (A → Type 0) → ℕ → List ℕ → Read A → Type 0
+Sized P taken ws (got x rest) = P x × (taken + length rest ≤ length ws)
+Sized P taken ws (refused n) = Small n
+
+then-sized : {A B : Type 0} (P : A → Type 0) (Q : B → Type 0) (taken more : ℕ) (ws : List ℕ) (r : Read A) (f : A → List ℕ → Read B) → Sized P taken ws r
+    → ((x : A) (rest : List ℕ) → P x → Sized Q more rest (f x rest)) → Sized Q (taken + more) ws (next r f)
+unfolding next Sized
+then-sized {B = B} P Q taken more ws (refused n) f s g = s
+then-sized {B = B} P Q taken more ws (got x rest) f s g = go (f x rest) (g x rest (s .0))
+  where
+    go : (r : Read B) → Sized Q more rest r → Sized Q (taken + more) ws r
+    go (got y left) h = (h .0, omega (arith, s .1, h .1))
+    go (refused n) h = h
+
+-- at most so many items
+abbrev Items : ℕ → ℕ → List ℕ → Type 0
+Items limit size items = length items ≤ size * limit
+
+-- the properties of a book are not too many
+abbrev pub Few : Sections → Type 0
+Few s = (length (s .assumes) ≤ 16) × (length (s .guarantees) ≤ 16)
+
+-- a call that is read: its words, and what is left
+unfoldable pub ReadCall : List ℕ → Read Call → Type 0
+ReadCall ws (got k rest) = (ws ≡ callWords k ++ rest) × Fits k
+ReadCall ws (refused n) = Small n
+
+module _ (ending : ℕ) (small : Small ending) where
+  section-sized : (limit size : ℕ) (ws : List ℕ) → Sized (Items limit size) 1 ws (section ending limit size ws)
+  unfolding section Sized
+  section-sized limit size [] = small
+  section-sized limit size (n ∷ ws) = go (ltb limit n) refl (ltb (length ws) (size * n)) refl
+    where
+      go : (y : Bool) → ltb limit n ≡ y → (z : Bool) → ltb (length ws) (size * n) ≡ z
+          → Sized (Items limit size) 1 (n ∷ ws) (cond y (refused 2) (cond z (refused ending) (got (take (size * n) ws) (drop (size * n) ws))))
+      go true e z f = (omega arith, omega arith)
+      go false e true f = small
+      go false e false f =
+          let h = ltb-false (length ws) (size * n) f in
+          let k = ltb-false limit n e in
+          (rw (length-take-le (size * n) ws h) (mul-le-mul-left size k), omega (arith, length-drop (size * n) ws))
+
+  -- the properties of a book that is read are not too many
+  sections-sized : (ws : List ℕ) → Sized Few 4 ws (sections ending ws)
+  unfolding sections Sized
+  sections-sized ws =
+      then-sized (Items 128 4) Few 1 3 ws (section ending 128 4 ws) _ (section-sized 128 4 ws) λ rows ws₁ r.
+      then-sized (Items 128 1) Few 1 2 ws₁ (section ending 128 1 ws₁) _ (section-sized 128 1 ws₁) λ operands ws₂ o.
+      then-sized (Items 16 1) Few 1 1 ws₂ (section ending 16 1 ws₂) _ (section-sized 16 1 ws₂) λ assumes ws₃ a.
+      then-sized (Items 16 1) Few 1 0 ws₃ (section ending 16 1 ws₃) _ (section-sized 16 1 ws₃) λ guarantees ws₄ g.
+      ((omega arith, omega arith), omega arith)
+
+  pub sections-got : (ws : List ℕ) {s : Sections} {rest : List ℕ} → sections ending ws ≡ got s rest → Few s × (4 + length rest ≤ length ws)
+  unfolding Sized
+  sections-got ws e = rw e at (sections-sized ws)
+
+  pub sections-refused : (ws : List ℕ) {n : ℕ} → sections ending ws ≡ refused n → Small n
+  unfolding Sized
+  sections-refused ws e = rw e at (sections-sized ws)
+
+  -- ---- calls
+  time-read : (ws : List ℕ) → ReadCall (0 ∷ ws) (timeFrom ending ws)
+  unfolding ReadCall timeFrom
+  time-read [] = small
+  time-read (t ∷ ws) = (refl, tt)
+
+  state-read : (ws : List ℕ) → ReadCall (1 ∷ ws) (stateFrom ending ws)
+  unfolding ReadCall stateFrom next section
+  state-read [] = small
+  state-read (n ∷ ws) = go (ltb MOST-ATOMS n) refl (ltb (length ws) (1 * n)) refl
+    where
+      go : (y : Bool) → ltb MOST-ATOMS n ≡ y → (z : Bool) → ltb (length ws) (1 * n) ≡ z
+          → ReadCall (1 ∷ n ∷ ws) (next (cond y (refused 2) (cond z (refused ending) (got (take (1 * n) ws) (drop (1 * n) ws)))) λ bytes rest. got (state bytes) rest)
+      go true e z f = (omega arith, omega arith)
+      go false e true f = small
+      go false e false f =
+          let l : length (take (1 * n) ws) ≡ n = length-take-le (1 * n) ws (ltb-false (length ws) (1 * n) f) ∙ omega arith in
+          let k = ltb-false MOST-ATOMS n e in
+          (ap₂ (λ m xs. 1 ∷ m ∷ xs) (sym l) (sym (take-append-drop (1 * n) ws)), omega arith)
+
+  pub call-read : (ws : List ℕ) → ReadCall ws (callFrom ending ws)
+  unfolding ReadCall callFrom
+  call-read [] = small
+  call-read (kind ∷ ws) = go (eqb kind 0) refl (eqb kind 1) refl
+    where
+      go : (y : Bool) → eqb kind 0 ≡ y → (z : Bool) → eqb kind 1 ≡ z → ReadCall (kind ∷ ws) (cond y (timeFrom ending ws) (cond z (stateFrom ending ws) (refused 13)))
+      go true e z f = rw (eqb-true kind 0 e) (time-read ws)
+      go false e true f = rw (eqb-true kind 1 f) (state-read ws)
+      go false e false f = (omega arith, omega arith)
+
+-- and the other way: a call's words are read as that call, whatever follows them
+pub call-back : (ending : ℕ) (k : Call) (rest : List ℕ) → Fits k → callFrom ending (callWords k ++ rest) ≡ got k rest
+unfolding callFrom timeFrom stateFrom next section
+call-back ending (time t) rest f = refl
+call-back ending (state bytes) rest f =
+    let e : 1 * length bytes ≡ length bytes = omega arith in
+    rw (le-ltb MOST-ATOMS (length bytes) f, e, le-ltb (length (bytes ++ rest)) (length bytes) (omega (arith, length-append bytes rest)), take-append-seam bytes rest, drop-append-seam bytes rest)

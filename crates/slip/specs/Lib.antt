@@ -1,0 +1,4 @@
+pub mod Back
+pub mod Says
+pub mod TakenOut
+pub mod Longest

@@ -1,0 +1,84 @@
+-- What a text says, and what the lines of a report say. Definitions only.
+use Prim.Native.Nat.{ℕ, suc, _≤_, _<_}
+use mathlib.Core.Path.{_≡_}
+use mathlib.Core.List.{List, [], _∷_, _++_, map, reverse}
+use lib.ListN.{length, getD, take}
+use Rattle.numbers.specs.Limits.{LONGEST-INPUT}
+use Rattle.numbers.specs.Refusals.{ACCEPTED, PAST-LIMIT}
+use Rattle.text.specs.Words.{supply}
+use Rattle.pmtl.specs.Book.{Book}
+use Rattle.pmtl.specs.Calls.{Call, call, after}
+use Rattle.pmtl.specs.Calls.Call.{time}
+use Rattle.book.specs.Reading.{Read, got, refused, Sections, sections}
+use Rattle.book.specs.Judging.{Loaded, refusedWith, loadedFrom}
+use Rattle.report.specs.Lines.{PropertyWord, CallLine, Ending, end, stop, Line, book, called, last, CallsRead, callsAfter, lineOf, lines}
+
+-- ---- what a text says
+-- the sections of its book
+abbrev pub sectionsSaid : List ℕ → Read Sections
+sectionsSaid input = sections (supply input .ending) (supply input .words)
+
+-- what loading them comes to; an empty book where they are refused
+unfoldable pub loadedOf : Read Sections → Loaded
+loadedOf (got s ws) = loadedFrom s
+loadedOf (refused n) = refusedWith n
+
+abbrev pub bookSaid : List ℕ → Book
+bookSaid input = loadedOf (sectionsSaid input) .book
+
+-- the words after the book; none where it could not be read
+unfoldable pub wordsAfter : Read Sections → List ℕ
+wordsAfter (got s ws) = ws
+wordsAfter (refused n) = []
+
+-- what is read after the book: the calls, in order, and how reading them ends
+abbrev pub readSaid : List ℕ → CallsRead
+readSaid input = callsAfter (supply input .ending) (wordsAfter (sectionsSaid input))
+
+abbrev pub callsSaid : List ℕ → List Call
+callsSaid input = readSaid input .calls
+
+abbrev pub endSaid : List ℕ → Ending
+endSaid input = readSaid input .ends
+
+-- the first i of them, the newest first
+abbrev pub firstCalls : List ℕ → ℕ → List Call
+firstCalls input i = reverse (take i (callsSaid input))
+
+-- ---- what lines say. Line 0 is the book's
+-- nothing where there is no such line, word, call
+abbrev pub noLine : Line
+noLine = last end
+
+abbrev pub noWord : PropertyWord
+noWord = record { value = 2; early = 2; settled = 2 }
+
+abbrev pub noCallLine : CallLine
+noCallLine = record { number = 0; refusal = 0; words = [] }
+
+abbrev pub missingCall : Call
+missingCall = time 0
+
+-- line i is that of an accepted call, and w is its word for property p
+pub record Says (ls : List Line) (i p : ℕ) (w : PropertyWord) : Type 0 where
+  pub line : CallLine
+  pub stands : getD ls i noLine ≡ called line
+  pub accepted : line .refusal ≡ ACCEPTED
+  pub there : p < length (line .words)
+  pub word : getD (line .words) p noWord ≡ w
+
+-- after a loaded book: a line for each call that the text says, in order, numbered from 1, and one last line
+pub record Whole (input : List ℕ) : Type 0 where
+  pub calls : List CallLine
+  pub loads : loadedOf (sectionsSaid input) .number ≡ ACCEPTED
+  pub all : lines input ≡ book ACCEPTED ∷ map called calls ++ last (endSaid input) ∷ []
+  pub each : length calls ≡ length (callsSaid input)
+  pub numbered : (i : ℕ) → i < length calls → getD calls i noCallLine .number ≡ suc i
+  pub in-order : (i : ℕ) → i < length calls → getD calls i noCallLine
+      ≡ lineOf (bookSaid input) (suc i) (call (bookSaid input .rows) (after (bookSaid input .rows) (firstCalls input i)) (getD (callsSaid input) i missingCall))
+
+-- the lines of a report: those; nothing after a refused book; or the one line of an input that is too long
+pub data Shape (input : List ℕ) : Type 0 where
+  whole : length input ≤ LONGEST-INPUT → Whole input → Shape input
+  refused-book : ¬ (loadedOf (sectionsSaid input) .number ≡ ACCEPTED) → lines input ≡ book (loadedOf (sectionsSaid input) .number) ∷ [] → Shape input
+  too-long : LONGEST-INPUT < length input → lines input ≡ last (stop PAST-LIMIT) ∷ [] → Shape input
