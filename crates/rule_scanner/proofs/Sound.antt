@@ -227,7 +227,7 @@ snoc x y z w = simp append-assoc
 
 written-more : (c : List Symbol) (p : Forest) (h : Head) (q : Forest) → written c c (p then one h q) ≡ written c c p ++ (c ++ oneSaid h (written [] commas q))
 unfolding written _then_
-written-more c none h q = simp (append-nil, append-assoc)
+written-more c none h q = simp append-nil
 written-more c (tree i k s) h q = rw (written-more c s h q) (simp append-assoc)
 
 trailed-more : (p : Forest) (h : Head) (q : Forest) → written [] commas (p then one h q) ≡ trailed p ++ oneSaid h (written [] commas q)
@@ -366,7 +366,7 @@ finish (f ∷ fs) s n h b i p old y a g k l gh gb e =
       here = gh;
       past = gb;
     })
-    (rw (trailed-more (f .parts) i p) (simp (append-nil, append-assoc) (simp append-assoc at e)))
+    (rw (trailed-more (f .parts) i p) (simp append-nil (simp append-assoc at e)))
 
 -- ---- a symbol, by what is wanted
 module _ (o : List Frame) (s : Bool) (n : ℕ) (h b : Forest) (gh : Good h) (gb : Good b) where

@@ -62,6 +62,10 @@ ends Ended = true
 abbrev pub passOf : Mode → ℕ → Bool → ℕ → ℕ → ℕ → ℕ → ℕ → Pass
 passOf m d s l r h p b = record { mode = m; depth = d; second = s; left = l; rows = r; here = h; past = p; before = b }
 
+-- before the first symbol
+abbrev pub startPass : Pass
+startPass = passOf mode.Count 0 false 0 0 0 0 0
+
 abbrev pub betweenPass : Bool → ℕ → ℕ → ℕ → ℕ → ℕ → Pass
 betweenPass s (suc n) r h p b = passOf mode.Begin 0 s (suc n) r h p b
 betweenPass false zero r h p b = passOf mode.Count 0 true 0 0 0 r h

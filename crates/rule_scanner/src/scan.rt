@@ -5,7 +5,7 @@ ghost use Prim.Native.Nat.{_+_, _≤_, _<_};
 ghost use lib.ListN.{length};
 ghost use Rattle.numbers.specs.Limits.{LONGEST-INPUT};
 ghost use Rattle.rule_scanner.specs.Reading.{readText, firstMode};
-ghost use Rattle.rule_scanner.specs.Scanning.{formByte, byteForm, formTop, lessOne, refuses as Scanning·refuses, ends as Scanning·ends, betweenPass, completedPass, Bound, Steps, scanned};
+ghost use Rattle.rule_scanner.specs.Scanning.{formByte, byteForm, formTop, lessOne, refuses as Scanning·refuses, ends as Scanning·ends, startPass, betweenPass, completedPass, Bound, Steps, scanned};
 use crate::symbols::Found;
 use crate::symbols::Symbol;
 use crate::symbols::next_symbol;
@@ -117,6 +117,22 @@ pub fn ends(t: Turn) -> bool
         Turn::Close => false,
         Turn::Counted(_) => false,
         Turn::Ended => true,
+    }
+}
+
+// Before the first symbol.
+pub fn start() -> Pass
+    ensures { λ r. ⌜ r ≡ startPass ⌝ }
+{
+    Pass {
+        mode: Mode::Count,
+        depth: 0,
+        second: false,
+        left: 0,
+        rows: 0,
+        here: 0,
+        past: 0,
+        before: 0,
     }
 }
 
@@ -245,16 +261,7 @@ pub fn scan_text(input: &[u8], forms: &mut [u8]) -> Scan
     requires { ⌜ (length (now input) ≤ LONGEST-INPUT) × (length (now input) ≤ length (now forms)) ⌝ }
     ensures { λ r. ⌜ r ≡ scanned (readText (now (input .entry))) ⌝ }
 {
-    let mut p = Pass {
-        mode: Mode::Count,
-        depth: 0,
-        second: false,
-        left: 0,
-        rows: 0,
-        here: 0,
-        past: 0,
-        before: 0,
-    };
+    let mut p = start();
     let mut at = 0;
     loop {
         let found = next_symbol(input, at);

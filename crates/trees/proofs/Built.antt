@@ -60,7 +60,7 @@ unfolding count
 count-more g p h = count-then g (one h p)
 
 -- ---- stores
-take-sets : (m : List ℕ) (i : ℕ) (vs : List ℕ) → i + length vs ≤ length m → take (i + length vs) (sets m i vs) ≡ take i m ++ vs
+pub take-sets : (m : List ℕ) (i : ℕ) (vs : List ℕ) → i + length vs ≤ length m → take (i + length vs) (sets m i vs) ≡ take i m ++ vs
 take-sets m i vs h =
     let l = length-take-le i m (omega arith) in
     let e : length (take i m ++ vs) ≡ i + length vs = length-append (take i m) vs ∙ omega arith in
@@ -106,7 +106,7 @@ module _ {rows operands tops : List ℕ} {o : ℕ} (g p : Forest) (h : Head) (me
       }
 
 -- ---- words that are copied
-copied : (m : List ℕ) (at : ℕ) (xs : List ℕ) → at + length xs ≤ length m → put m at xs ≡ sets m at xs
+pub copied : (m : List ℕ) (at : ℕ) (xs : List ℕ) → at + length xs ≤ length m → put m at xs ≡ sets m at xs
 copied m at xs h = rw (take-length xs) (sym (sets-eq xs m at h))
 
 -- ---- a row is made

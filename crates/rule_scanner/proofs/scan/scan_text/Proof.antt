@@ -11,6 +11,7 @@ use Rattle.rule_scanner.proofs.scan.scan_text.Lts as lts
 use Rattle.rule_scanner.proofs.scan.ends.Reads as ends-reads
 use Rattle.rule_scanner.proofs.scan.form_at.Reads as form-at-reads
 use Rattle.rule_scanner.proofs.scan.refuses.Reads as refuses-reads
+use Rattle.rule_scanner.proofs.scan.start.Reads as start-reads
 use Rattle.rule_scanner.proofs.scan.taken.Reads as taken-reads
 use Rattle.rule_scanner.proofs.symbols.next_symbol.Reads as next-symbol-reads
 use Rattle.rule_scanner.proofs.turns.turned.Reads as turned-reads
@@ -21,9 +22,12 @@ Inv-loop input forms₀ p₀ at₀ forms p at = Reader input at p forms₀ forms
 abbrev μ-loop : tie.MeasureT-loop
 μ-loop input forms₀ p₀ at₀ forms p at = length input - at
 
+start-requires : tie.Need-start-requires Inv-loop μ-loop
+start-requires c κs = search needs
+
 -- src/scan.rt:265:5
 loop-holds : tie.Need-loop-holds Inv-loop μ-loop
-loop-holds c = reader-start _ _
+loop-holds c = rw (c .start .ensures) (reader-start _ _)
 
 -- src/scan.rt:266:13
 next-symbol-requires : tie.Need-next-symbol-requires Inv-loop μ-loop
@@ -31,7 +35,7 @@ next-symbol-requires c κs = c .loop .inv .inside
 
 -- src/scan.rt:270:30
 form-at-requires : tie.Need-form-at-requires Inv-loop μ-loop
-form-at-requires c κs = let g = c .before .before .loop .inv in omega (arith, g .bound .depth, g .inside, g .size, c .before .before .before .before .before .pre .1)
+form-at-requires c κs = let g = c .before .before .loop .inv in omega (arith, g .bound .depth, g .inside, g .size, c .before .before .before .before .before .before .pre .1)
 
 -- src/scan.rt:270:13
 turned-requires : tie.Need-turned-requires Inv-loop μ-loop
@@ -54,8 +58,8 @@ ends-requires : tie.Need-ends-requires Inv-loop μ-loop
 ends-requires c κs = search needs
 
 -- src/scan.rt:275:32
-add-t16 : tie.Need-add-t16 Inv-loop μ-loop
-add-t16 c = let g = c .before .before .before .before .before .before .before .before .before .loop .inv in omega (arith, g .bound .past, g .bound .rows, g .inside, c .before .before .before .before .before .before .before .before .before .before .before .before .pre .0)
+add-t15 : tie.Need-add-t15 Inv-loop μ-loop
+add-t15 c = let g = c .before .before .before .before .before .before .before .before .before .loop .inv in omega (arith, g .bound .past, g .bound .rows, g .inside, c .before .before .before .before .before .before .before .before .before .before .before .before .before .pre .0)
 
 -- src/scan.rt:275:13
 same-length-2 : tie.Need-same-length-2 Inv-loop μ-loop
@@ -67,7 +71,7 @@ returns-2 c = reader-right (c .before .before .before .before .before .before .b
 
 -- src/scan.rt:277:9
 taken-requires : tie.Need-taken-requires Inv-loop μ-loop
-taken-requires c κs = let g = c .before .before .before .before .before .before .before .before .before .loop .inv in let n = reader-further (c .before .before .before .before .before .before .before .before .before .loop .inv) (c .before .before .before .before .before .before .before .before .next-symbol .ensures) (c .before .before .before .before .before .turned .ensures ∙ rw (c .before .before .before .before .before .before .form-at .ensures)) (sym (c .before .before .before .before .refuses .ensures) ∙ c .before .before .before .if1 .left) (sym (c .before .before .ends .ensures) ∙ c .before .if2 .left) in let l = c .before .before .before .before .before .before .before .before .next-symbol .ensures .inside in (omega (arith, g .bound .depth, g .size, c .before .before .before .before .before .before .before .before .before .before .before .before .pre .1), omega (arith, g .bound .rows, c .before .before .before .before .before .before .before .before .before .before .before .before .pre .0), omega (arith, g .bound .here, c .before .before .before .before .before .before .before .before .before .before .before .before .pre .0), (sym (c .before .before .before .before .refuses .ensures) ∙ c .before .before .before .if1 .left))
+taken-requires c κs = let g = c .before .before .before .before .before .before .before .before .before .loop .inv in let n = reader-further (c .before .before .before .before .before .before .before .before .before .loop .inv) (c .before .before .before .before .before .before .before .before .next-symbol .ensures) (c .before .before .before .before .before .turned .ensures ∙ rw (c .before .before .before .before .before .before .form-at .ensures)) (sym (c .before .before .before .before .refuses .ensures) ∙ c .before .before .before .if1 .left) (sym (c .before .before .ends .ensures) ∙ c .before .if2 .left) in let l = c .before .before .before .before .before .before .before .before .next-symbol .ensures .inside in (omega (arith, g .bound .depth, g .size, c .before .before .before .before .before .before .before .before .before .before .before .before .before .pre .1), omega (arith, g .bound .rows, c .before .before .before .before .before .before .before .before .before .before .before .before .before .pre .0), omega (arith, g .bound .here, c .before .before .before .before .before .before .before .before .before .before .before .before .before .pre .0), (sym (c .before .before .before .before .refuses .ensures) ∙ c .before .before .before .if1 .left))
 
 -- src/scan.rt:265:5
 loop-less : tie.Need-loop-less Inv-loop μ-loop
@@ -83,6 +87,7 @@ scan-text-spec =
     (tie.spec
     Inv-loop
     μ-loop
+    start-requires
     loop-holds
     next-symbol-requires
     form-at-requires
@@ -91,7 +96,7 @@ scan-text-spec =
     same-length
     returns
     ends-requires
-    add-t16
+    add-t15
     same-length-2
     returns-2
     taken-requires
