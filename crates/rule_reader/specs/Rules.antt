@@ -1,4 +1,4 @@
--- What a text is read as: REFERENCE 10. Definitions only.
+-- What a text is read as: REFERENCE 11. Definitions only.
 use Prim.Native.Nat.{ℕ}
 use mathlib.Core.List.{List}
 use Rattle.numbers.specs.Refusals.{BAD-WORD}

@@ -1,4 +1,4 @@
--- A text read as the words of a book, as the code has them: REFERENCE 10. Definitions only.
+-- A text read as the words of a book, as the code has them: REFERENCE 11. Definitions only.
 use Prim.Native.Nat.{ℕ, _+_, _*_, _≤_}
 use mathlib.Core.Path.{_≡_}
 use mathlib.Core.List.{List, _∷_, _++_}

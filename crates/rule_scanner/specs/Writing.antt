@@ -1,4 +1,4 @@
--- How properties are written, as symbols: REFERENCE 10. Definitions only.
+-- How properties are written, as symbols: REFERENCE 11. Definitions only.
 use Prim.Native.Nat.{ℕ, suc, _+_}
 use mathlib.Core.Path.{_≡_}
 use mathlib.Core.Bool.{Bool, true, false}

@@ -1,4 +1,4 @@
--- Properties as trees, and how their rows are numbered: REFERENCE 10. Definitions only.
+-- Properties as trees, and how their rows are numbered: REFERENCE 11. Definitions only.
 use Prim.Native.Nat.{ℕ, suc, _+_}
 use mathlib.Core.Path.{_≡_}
 use mathlib.Core.List.{List, [], _∷_, _++_}
