@@ -207,7 +207,7 @@ rule-any b r (since g l q) (s ∷ h) = refl
 rule-same : (b : Rows) → meaningRule b ≡ (λ r. meaningRule [] 0)
 rule-same b = fun-ext (λ r. fun-ext (λ row. fun-ext (λ h. rule-any b r row h)))
 
-meaning-is : (b : Rows) → meaning b ≡ answer b (λ h. false) (λ r. meaningRule [] 0)
+pub meaning-is : (b : Rows) → meaning b ≡ answer b (λ h. false) (λ r. meaningRule [] 0)
 unfolding meaning
 meaning-is b = ap (answer b (λ h. false)) (rule-same b)
 

@@ -2,7 +2,7 @@
 use Prim.Native.Nat.{ℕ, _+_, _*_, _-_, _≤_, _<_}
 use mathlib.Core.Path.{_≡_}
 use mathlib.Core.List.{List, [], _∷_, _++_}
-use lib.ListN.{length, take}
+use lib.ListN.{length, getD, take}
 use Rattle.numbers.specs.Limits.{ROW-WORDS}
 use Rattle.trees.specs.Forest.{Head, Forest, one, _then_, count, size, roots, Entry, entries}
 use Rattle.trees.specs.declared.rows.RowWords.{RowWords}
@@ -10,7 +10,7 @@ use Rattle.trees.specs.declared.rows.Spot.{Spot}
 use Rattle.trees.specs.declared.Word.{Word}
 use Rattle.trees.specs.declared.Word.the-variants.{False, True, Atom, And, Or, Not, Implies, Hist, Once, Since}
 
--- a row's words: 01, the table of kinds
+-- a row's words: the table of kinds, REFERENCE 2.2
 abbrev pub kindOf : Word → ℕ
 kindOf False = 0
 kindOf True = 1
@@ -22,6 +22,22 @@ kindOf Implies = 6
 kindOf Hist = 7
 kindOf Once = 8
 kindOf Since = 9
+
+-- and back: the word of a kind, and the number of an atom, which other words do not have
+unfoldable pub wordOf : ℕ → Word
+wordOf kind = getD (False ∷ True ∷ Atom ∷ And ∷ Or ∷ Not ∷ Implies ∷ Hist ∷ Once ∷ []) kind Since
+
+abbrev pub atomOf : Word → ℕ → ℕ
+atomOf False a = 0
+atomOf True a = 0
+atomOf Atom a = a
+atomOf And a = 0
+atomOf Or a = 0
+atomOf Not a = 0
+atomOf Implies a = 0
+atomOf Hist a = 0
+atomOf Once a = 0
+atomOf Since a = 0
 
 -- an atom's number, or how many operands there are
 abbrev pub argOf : Word → ℕ → ℕ → ℕ

@@ -1,4 +1,4 @@
--- The rows of numbered properties, and what properties mean: 02, Ask 3. Definitions only.
+-- The rows of numbered properties, and what properties mean: REFERENCE 11.3. Definitions only.
 use Prim.Native.Nat.{ℕ}
 use mathlib.Core.Bool.{Bool, true, false}
 use mathlib.Core.List.{List, [], _∷_, map}

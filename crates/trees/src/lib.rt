@@ -2,7 +2,7 @@
 pub mod rows;
 
 ghost use mathlib.Core.Path.{_≡_};
-ghost use Rattle.trees.specs.Building.{kindOf};
+ghost use Rattle.trees.specs.Building.{kindOf, wordOf};
 use book::AND;
 use book::ATOM;
 use book::FALSE;
@@ -43,5 +43,23 @@ pub fn kind_of(word: Word) -> u64
         Word::Hist => HISTORICALLY,
         Word::Once => ONCE,
         Word::Since => SINCE,
+    }
+}
+
+// The word of a kind that a row has.
+pub fn word_of(kind: u64) -> Word
+    ensures { λ r. ⌜ r ≡ wordOf kind ⌝ }
+{
+    match kind {
+        FALSE => Word::False,
+        TRUE => Word::True,
+        ATOM => Word::Atom,
+        AND => Word::And,
+        OR => Word::Or,
+        NOT => Word::Not,
+        IMPLIES => Word::Implies,
+        HISTORICALLY => Word::Hist,
+        ONCE => Word::Once,
+        _ => Word::Since,
     }
 }

@@ -1,0 +1,6 @@
+pub mod Spelled
+pub mod Printed
+pub mod Ranges
+pub mod Putting
+pub mod Walking
+pub mod Booking
