@@ -4,3 +4,4 @@ pub mod Ranges
 pub mod Putting
 pub mod Walking
 pub mod Booking
+pub mod Theorems
