@@ -9,6 +9,13 @@ use Rattle.text.specs.Decimals.{decimal}
 use Rattle.book.specs.Reading.{Read, got, refused, Sections, sections}
 use Rattle.book.specs.Judging.{kindIn, argIn, lowerIn, upperIn}
 
+-- the word book and a space, and what a line ends with
+abbrev pub bookWord : List ℕ
+bookWord = 98 ∷ 111 ∷ 111 ∷ 107 ∷ space ∷ []
+
+abbrev pub ended : List ℕ
+ended = lineFeed ∷ []
+
 -- the first n words, each after a space
 unfoldable pub wordLine : List ℕ → ℕ → List ℕ
 wordLine ws zero = []

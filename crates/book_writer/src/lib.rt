@@ -9,7 +9,7 @@ ghost use Rattle.text.specs.Words.{space, lineFeed};
 ghost use Rattle.text.specs.Decimals.{decimal};
 ghost use Rattle.book.specs.Judging.{loaded};
 ghost use Rattle.buffer_writer.specs.Finish.{Wrote};
-ghost use Rattle.book_writer.specs.Layout.{wordLine, rowLine, rowLines, sectionLine, bookSaid};
+ghost use Rattle.book_writer.specs.Layout.{bookWord, wordLine, rowLine, rowLines, sectionLine, bookSaid};
 use book::check::arg_in;
 use book::check::assumes_part;
 use book::check::guarantees_part;
@@ -22,6 +22,14 @@ use book::check::upper_in;
 use buffer_writer::put_bytes;
 use buffer_writer::put_number;
 use numbers::ROW_WORDS;
+
+// `book ` and a number, at the start.
+pub fn put_book_number(out: &mut [u8], number: u64) -> usize
+    ensures { λ r. ⌜ Wrote (now (out .entry)) 0 (bookWord ++ decimal number) (now (out .exit)) r ⌝ }
+{
+    let next = put_bytes(out, 0, b"book ");
+    put_number(out, next, number)
+}
 
 // A word after others.
 fn put_word(out: &mut [u8], at: usize, word: u64) -> usize

@@ -19,8 +19,8 @@ use Rattle.trees.specs.Building.{wordsOf}
 use Rattle.rule_scanner.specs.Reading.{Outcome, read, wrong, readText}
 use Rattle.rule_reader.specs.Rules.{readBook, resultOf}
 use Rattle.rule_reader.specs.Words.{ReadAs}
-use Rattle.book_writer.specs.Layout.{bookSaid}
-use Rattle.read_rules.specs.Answers.{bookWord, ended, refusedLine, wordsRead, answerWithin, answerTo}
+use Rattle.book_writer.specs.Layout.{bookWord, ended, bookSaid}
+use Rattle.read_rules.specs.Answers.{refusedLine, wordsRead, answerWithin, answerTo}
 
 -- ---- the line of a number
 pub line-placed : {m m′ : List ℕ} {at at′ : ℕ} (n place : ℕ) → n ≡ BAD-WORD → Wrote m at ((bookWord ++ decimal n) ++ ((space ∷ []) ++ (decimal place ++ ended))) m′ at′ → Wrote m at (refusedLine n place) m′ at′

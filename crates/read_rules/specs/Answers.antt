@@ -6,20 +6,12 @@ use lib.ListN.{length}
 use lib.Dec.{ltb, eqb}
 use Rattle.numbers.specs.Limits.{LONGEST-INPUT}
 use Rattle.numbers.specs.Refusals.{ACCEPTED, BAD-WORD, PAST-LIMIT}
-use Rattle.text.specs.Words.{space, lineFeed}
+use Rattle.text.specs.Words.{space}
 use Rattle.text.specs.Decimals.{decimal}
 use Rattle.trees.specs.Building.{wordsOf}
 use Rattle.rule_scanner.specs.Reading.{Outcome, read, wrong, readText}
 use Rattle.rule_reader.specs.Rules.{Result, readBook}
-use Rattle.book_writer.specs.Layout.{bookSaid}
-
--- the word book and a space
-abbrev pub bookWord : List ℕ
-bookWord = 98 ∷ 111 ∷ 111 ∷ 107 ∷ 32 ∷ []
-
--- what a line ends with
-abbrev pub ended : List ℕ
-ended = lineFeed ∷ []
+use Rattle.book_writer.specs.Layout.{bookWord, ended, bookSaid}
 
 -- the line of a number; 13 has its place
 unfoldable pub refusedLine : ℕ → ℕ → List ℕ

@@ -1,13 +1,11 @@
 // Reads rules as text from standard input and prints their book in words, or what they are refused with.
 ghost use mathlib.Core.Path.{_≡_};
-ghost use mathlib.Core.List.{_++_};
 ghost use Prim.Native.Nat.{_≤_};
 ghost use lib.ListN.{length};
 ghost use Rattle.numbers.specs.Limits.{LONGEST-INPUT};
-ghost use Rattle.text.specs.Decimals.{decimal};
 ghost use Rattle.buffer_writer.specs.Buffer.{handed, inBuffer};
 ghost use Rattle.buffer_writer.specs.Finish.{Wrote};
-ghost use Rattle.read_rules.specs.Answers.{bookWord, ended, refusedLine, answerWithin, answerTo};
+ghost use Rattle.read_rules.specs.Answers.{refusedLine, answerWithin, answerTo};
 use buffer_writer::finished;
 use buffer_writer::put_bytes;
 use buffer_writer::put_number;
@@ -26,19 +24,11 @@ const ROOM: usize = LONGEST_INPUT + 1;
 // No answer is longer: a book has at most 644 words, none of more than 20 digits, each before one byte.
 const LONGEST_ANSWER: usize = 16384;
 
-// `book ` and a number.
-fn put_number_line(out: &mut [u8], number: u64) -> usize
-    ensures { λ r. ⌜ Wrote (now (out .entry)) 0 (bookWord ++ decimal number) (now (out .exit)) r ⌝ }
-{
-    let next = put_bytes(out, 0, b"book ");
-    put_number(out, next, number)
-}
-
 // The line of a refusal; 13 has its place.
 fn put_refusal(out: &mut [u8], number: u64, place: usize) -> usize
     ensures { λ r. ⌜ Wrote (now (out .entry)) 0 (refusedLine number place) (now (out .exit)) r ⌝ }
 {
-    let end = put_number_line(out, number);
+    let end = book_writer::put_book_number(out, number);
     if number == BAD_WORD {
         let next = put_bytes(out, end, b" ");
         let last = put_number(out, next, place as u64);

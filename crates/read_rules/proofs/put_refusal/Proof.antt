@@ -8,11 +8,11 @@ use Rattle.read_rules.proofs.put_refusal.Reads as reads
 use Rattle.read_rules.proofs.put_refusal.Lts as lts
 use Rattle.buffer_writer.proofs.put_bytes.Reads as put-bytes-reads
 use Rattle.buffer_writer.proofs.put_number.Reads as put-number-reads
-use Rattle.read_rules.proofs.put_number_line.Reads as put-number-line-reads
+use Rattle.book_writer.proofs.put_book_number.Reads as put-book-number-reads
 
 -- src/main.rt:41:9
-put-number-line-requires : tie.Need-put-number-line-requires
-put-number-line-requires c κs = search needs
+put-book-number-requires : tie.Need-put-book-number-requires
+put-book-number-requires c κs = search needs
 
 -- src/main.rt:43:40
 slice-aggregate-put-bytes : tie.Need-slice-aggregate-put-bytes
@@ -40,7 +40,7 @@ same-length c = search needs
 
 -- src/main.rt:45:9
 returns : tie.Need-returns
-returns c = line-placed _ _ (c .before .before .before .before .before .before .before .before .before .before .before .before .before .before .if1 .taken) (and-then (c .before .before .before .before .before .before .before .before .before .before .before .before .before .before .before .before .before .put-number-line .ensures) (and-then (c .before .before .before .before .before .before .before .before .before .before .before .put-bytes .ensures) (and-then (c .before .before .before .before .before .before .before .put-number .ensures) (c .before .before .put-bytes2 .ensures))))
+returns c = line-placed _ _ (c .before .before .before .before .before .before .before .before .before .before .before .before .before .before .if1 .taken) (and-then (c .before .before .before .before .before .before .before .before .before .before .before .before .before .before .before .before .before .put-book-number .ensures) (and-then (c .before .before .before .before .before .before .before .before .before .before .before .put-bytes .ensures) (and-then (c .before .before .before .before .before .before .before .put-number .ensures) (c .before .before .put-bytes2 .ensures))))
 
 -- src/main.rt:47:25
 slice-aggregate-put-bytes-3 : tie.Need-slice-aggregate-put-bytes-3
@@ -56,13 +56,13 @@ same-length-2 c = search needs
 
 -- src/main.rt:38:1
 returns-2 : tie.Need-returns-2
-returns-2 c = line-plain _ _ (c .before .before .before .before .before .if1 .left) (and-then (c .before .before .before .before .before .before .before .before .put-number-line .ensures) (c .before .before .put-bytes3 .ensures))
+returns-2 c = line-plain _ _ (c .before .before .before .before .before .if1 .left) (and-then (c .before .before .before .before .before .before .before .before .put-book-number .ensures) (c .before .before .put-bytes3 .ensures))
 
 pub put-refusal-spec : {M : Type 1} → statement M
 put-refusal-spec =
     tie.close
     (tie.spec
-    put-number-line-requires
+    put-book-number-requires
     slice-aggregate-put-bytes
     put-bytes-requires
     put-number-requires

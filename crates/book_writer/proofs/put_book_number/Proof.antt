@@ -1,9 +1,9 @@
 use Rattle.buffer_writer.proofs.Writes.{and-then}
 use borrow.Author.Needs.{needs}
-use Rattle.read_rules.proofs.put_number_line.Statement.{statement}
-use Rattle.read_rules.proofs.put_number_line.Tie as tie
-use Rattle.read_rules.proofs.put_number_line.Reads as reads
-use Rattle.read_rules.proofs.put_number_line.Lts as lts
+use Rattle.book_writer.proofs.put_book_number.Statement.{statement}
+use Rattle.book_writer.proofs.put_book_number.Tie as tie
+use Rattle.book_writer.proofs.put_book_number.Reads as reads
+use Rattle.book_writer.proofs.put_book_number.Lts as lts
 use Rattle.buffer_writer.proofs.put_bytes.Reads as put-bytes-reads
 use Rattle.buffer_writer.proofs.put_number.Reads as put-number-reads
 
@@ -27,7 +27,7 @@ same-length c = search needs
 returns : tie.Need-returns
 returns c = and-then (c .before .before .before .before .before .before .put-bytes .ensures) (c .before .before .put-number .ensures)
 
-pub put-number-line-spec : {M : Type 1} → statement M
-put-number-line-spec =
+pub put-book-number-spec : {M : Type 1} → statement M
+put-book-number-spec =
     tie.close
     (tie.spec slice-aggregate-put-bytes put-bytes-requires put-number-requires same-length returns)
