@@ -15,7 +15,7 @@ use Rattle.pmtl.specs.Meaning.{meaning}
 use Rattle.pmtl.proofs.Table.{by-rows}
 use Rattle.book.specs.Reading.{Sections}
 use Rattle.book.specs.Private.{Few}
-use Rattle.book.specs.Judging.{kindIn, argIn, lowerIn, upperIn, rowsIn, judged, bookIn}
+use Rattle.book.specs.Judging.{kindIn, argIn, lowerIn, upperIn, rowsIn, judged, bookIn, loaded}
 use Rattle.book.proofs.Accepted.{form, range, atom-small, lower-small, upper-small, assume-below, guarantee-below}
 use Rattle.trees.specs.Forest.{Head, Forest, none, tree, _then_, count, Good}
 use Rattle.trees.specs.Numbered.{meanings}
@@ -23,7 +23,11 @@ use Rattle.trees.specs.Building.{wordOf, atomOf}
 use Rattle.trees.specs.Books.{headIn, partsIn, joined, treeAt, treesOf}
 use Rattle.trees.proofs.Books.{AllOf, each-below, parts-below, tree-in, trees-count, trees-good, trees-mean}
 use Rattle.trees.proofs.Sections.{all-below, head-are, rows-there, book-ordered}
+use Rattle.trees.proofs.Loaded.{accepted-words}
+use Rattle.trees.proofs.Renumbered.{renumbered-accepted}
 use Rattle.rule_scanner.specs.Reading.{read, readText}
+use Rattle.rule_reader.specs.Rules.{readBook, resultOf}
+use Rattle.rule_reader.proofs.Theorems.{text-means}
 use Rattle.rule_printer.specs.Printing.{Ranged, Sayable, printed, bookPrinted}
 use Rattle.rule_printer.proofs.Printed.{printed-read}
 
@@ -115,3 +119,24 @@ module _ (s : Sections) (ok : judged s ≡ ACCEPTED) where
     -- which mean what its properties mean
     pub sections-mean : (map (meaning rows) (s .assumes) ≡ meanings assumes) × (map (meaning rows) (s .guarantees) ≡ meanings guarantees)
     sections-mean = let w = book-ordered s ok in (trees-mean rows w (s .assumes) under-assumes, trees-mean rows w (s .guarantees) under-guarantees)
+
+-- ---- accepted words
+-- a text is read as an accepted book whose properties are the trees of a book, and mean what that book's properties mean
+pub record Same (b : Book) (s : List ℕ) : Type 0 where
+  pub trees : readText s ≡ read (treesOf (b .rows) (b .assumes)) (treesOf (b .rows) (b .guarantees))
+  pub accepted : readBook s .loaded .number ≡ ACCEPTED
+  pub assumes-mean : map (meaning (readBook s .loaded .book .rows)) (readBook s .loaded .book .assumes) ≡ map (meaning (b .rows)) (b .assumes)
+  pub guarantees-mean : map (meaning (readBook s .loaded .book .rows)) (readBook s .loaded .book .guarantees) ≡ map (meaning (b .rows)) (b .guarantees)
+
+sections-same : (s : Sections) → judged s ≡ ACCEPTED → Few s → Same (bookIn s) (bookPrinted (bookIn s))
+unfolding bookPrinted bookIn readBook resultOf
+sections-same s ok few =
+    let t = sections-back s ok few in
+    let m = sections-mean s ok few in
+    let n : readBook (bookPrinted (bookIn s)) .loaded .number ≡ ACCEPTED = rw t (renumbered-accepted s ok few) in
+    let k = text-means (bookPrinted (bookIn s)) (treesOf (bookIn s .rows) (s .assumes)) (treesOf (bookIn s .rows) (s .guarantees)) t n in
+    record { trees = t; accepted = n; assumes-mean = k .0 ∙ sym (m .0); guarantees-mean = k .1 ∙ sym (m .1) }
+
+-- what is printed of an accepted book is read back as a book with the same properties
+pub printed-back : (words : List ℕ) → loaded words .number ≡ ACCEPTED → Same (loaded words .book) (bookPrinted (loaded words .book))
+printed-back words h = let k = accepted-words words h in rw (k .book-is) (sections-same (k .all) (k .ok) (k .few))

@@ -3,3 +3,7 @@ pub mod Words
 pub mod Built
 pub mod Books
 pub mod Sections
+pub mod Sums
+pub mod Judged
+pub mod Renumbered
+pub mod Loaded

@@ -56,16 +56,16 @@ entries-then n (tree h p s) g =
     rw (e, entries-then (n + suc (size p)) s g) (sym (append-assoc (entries n p) _ _))
 
 -- ---- operands are below their owners
-below-more : (r q : ℕ) (os : List ℕ) → r ≤ q → AllBelow r os → AllBelow q os
+pub below-more : (r q : ℕ) (os : List ℕ) → r ≤ q → AllBelow r os → AllBelow q os
 below-more r q [] h b = tt
 below-more r q (o ∷ os) h b = (omega (arith, b .0), below-more r q os h (b .1))
 
-below-at : (r : ℕ) (os : List ℕ) (i : ℕ) → AllBelow r os → i < length os → getD os i 0 < r
+pub below-at : (r : ℕ) (os : List ℕ) (i : ℕ) → AllBelow r os → i < length os → getD os i 0 < r
 below-at r [] i b h = absurd (omega arith)
 below-at r (o ∷ os) zero b h = b .0
 below-at r (o ∷ os) (suc i) b h = below-at r os i (b .1) (omega arith)
 
-roots-below : (n : ℕ) (f : Forest) → AllBelow (n + size f) (roots n f)
+pub roots-below : (n : ℕ) (f : Forest) → AllBelow (n + size f) (roots n f)
 unfolding roots size
 roots-below n none = tt
 roots-below n (tree h p s) =

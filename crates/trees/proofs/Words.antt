@@ -24,14 +24,14 @@ use Rattle.trees.proofs.Built.{rows-append, operands-append, rows-lengt
 use Rattle.trees.specs.declared.Word.{Word}
 use Rattle.trees.specs.declared.Word.the-variants.{False, True, Atom, And, Or, Not, Implies, Hist, Once, Since}
 
-abbrev no : Entry
+abbrev pub no : Entry
 no = record { head = headOf False 0 0 0; operands = [] }
 
 -- ---- each row has the operands that it takes
-abbrev FitE : Entry → Type 0
+abbrev pub FitE : Entry → Type 0
 FitE e = Fit (e .head .word) (e .head .atom) (e .head .lower) (e .head .upper) (length (e .operands))
 
-abbrev AllFit : List Entry → Type 0
+abbrev pub AllFit : List Entry → Type 0
 AllFit [] = Unit {0}
 AllFit (e ∷ es) = FitE e × AllFit es
 
@@ -39,12 +39,12 @@ fits-append : (x y : List Entry) → AllFit x → AllFit y → AllFit (x ++ y)
 fits-append [] y a b = b
 fits-append (e ∷ x) y a b = (a .0, fits-append x y (a .1) b)
 
-fit-at : (x : List Entry) (r : ℕ) → r < length x → AllFit x → FitE (getD x r no)
+pub fit-at : (x : List Entry) (r : ℕ) → r < length x → AllFit x → FitE (getD x r no)
 fit-at [] r h a = absurd (omega arith)
 fit-at (e ∷ x) zero h a = a .0
 fit-at (e ∷ x) (suc r) h a = fit-at x r (omega arith) (a .1)
 
-entries-fit : (n : ℕ) (f : Forest) → Good f → AllFit (entries n f)
+pub entries-fit : (n : ℕ) (f : Forest) → Good f → AllFit (entries n f)
 unfolding entries
 entries-fit n none g = tt
 entries-fit n (tree h p s) g = fits-append (entries n p) (record { head = h; operands = roots n p } ∷ entries (n + suc (size p)) s) (entries-fit n p (g .1)) (rw (roots-length n p) (g .0), entries-fit (n + suc (size p)) s (g .2))
@@ -59,19 +59,19 @@ words-at (e ∷ es) (suc r) j h k =
     rw z (getD-append-add (rowWords e) (allRows es) (4 * r + j) 0 ∙ words-at es r j h (omega arith))
 
 module _ (es : List Entry) (r : ℕ) (h : r < length es) where
-  kind-at : kindIn (allRows es) r ≡ kindOf (getD es r no .head .word)
+  pub kind-at : kindIn (allRows es) r ≡ kindOf (getD es r no .head .word)
   kind-at = let z : 4 * r ≡ 4 * r + 0 = omega arith in ap (λ (i : ℕ). getD (allRows es) i 0) z ∙ words-at es r 0 (omega arith) h
 
-  arg-at : argIn (allRows es) r ≡ argOf (getD es r no .head .word) (getD es r no .head .atom) (length (getD es r no .operands))
+  pub arg-at : argIn (allRows es) r ≡ argOf (getD es r no .head .word) (getD es r no .head .atom) (length (getD es r no .operands))
   arg-at = words-at es r 1 (omega arith) h
 
-  lower-at : lowerIn (allRows es) r ≡ getD es r no .head .lower
+  pub lower-at : lowerIn (allRows es) r ≡ getD es r no .head .lower
   lower-at = words-at es r 2 (omega arith) h
 
-  upper-at : upperIn (allRows es) r ≡ getD es r no .head .upper
+  pub upper-at : upperIn (allRows es) r ≡ getD es r no .head .upper
   upper-at = words-at es r 3 (omega arith) h
 
-count-fits : (w : Word) (a l u n : ℕ) → Fit w a l u n → countOf (kindOf w) (argOf w a n) ≡ n
+pub count-fits : (w : Word) (a l u n : ℕ) → Fit w a l u n → countOf (kindOf w) (argOf w a n) ≡ n
 unfolding countOf
 count-fits False a l u n f = sym (f .0)
 count-fits True a l u n f = sym (f .0)
@@ -88,7 +88,7 @@ one-operands : (e : Entry) → allOperands (e ∷ []) ≡ e .operands
 unfolding allOperands
 one-operands e = append-nil (e .operands)
 
-start-at : (es : List Entry) (r : ℕ) → r ≤ length es → AllFit es → startIn (allRows es) r ≡ length (allOperands (take r es))
+pub start-at : (es : List Entry) (r : ℕ) → r ≤ length es → AllFit es → startIn (allRows es) r ≡ length (allOperands (take r es))
 unfolding startIn allOperands
 start-at es zero h a = refl
 start-at es (suc r) h a =
@@ -140,7 +140,7 @@ book-said a g s ga gg er eo ea eg =
     rw (m, ea, eg)
 
 -- ---- reading the words back
-section-got : (limit width n : ℕ) (xs rest : List ℕ) → length xs ≡ width * n → section 1 limit width ((n ∷ xs) ++ rest) ≡ cond (ltb limit n) (refused 2) (got xs rest)
+pub section-got : (limit width n : ℕ) (xs rest : List ℕ) → length xs ≡ width * n → section 1 limit width ((n ∷ xs) ++ rest) ≡ cond (ltb limit n) (refused 2) (got xs rest)
 unfolding section
 section-got limit width n xs rest e =
     let l : width * n ≤ length (xs ++ rest) = omega (arith, length-append xs rest) in
