@@ -1,6 +1,8 @@
 // What a symbol does to a reader.
 ghost use mathlib.Core.Path.{_≡_};
-ghost use Rattle.rule_scanner.specs.Reading.{begun as Reading·begun, turn as Reading·turn, formOf, parted as Reading·parted};
+ghost use Rattle.rule_scanner.specs.Reading.{begun as Reading·begun, parting as Reading·parting, closing as Reading·closing, turn as Reading·turn, formOf, parted as Reading·parted};
+ghost use Rattle.rule_scanner.specs.declared.turns.Form.the-variants.{Many as Form·Many};
+ghost use Rattle.rule_scanner.specs.declared.turns.Mode.the-variants.{Count as Mode·Count, Begin as Mode·Begin, First as Mode·First, After as Mode·After, Atom as Mode·Atom, Left as Mode·Left, Lower as Mode·Lower, Comma as Mode·Comma, Upper as Mode·Upper, Right as Mode·Right, Open as Mode·Open, Over as Mode·Over};
 use crate::symbols::Symbol;
 use numbers::MAX;
 use trees::Word;
@@ -58,70 +60,167 @@ fn begun(w: Word) -> Turn
     }
 }
 
+// A count is wanted.
+fn count_wanted(s: Symbol) -> Turn
+    ensures { λ r. ⌜ r ≡ Reading·turn Mode·Count Form·Many s ⌝ }
+{
+    match s {
+        Symbol::Number(n) => Turn::Counted(n),
+        _ => Turn::Refused,
+    }
+}
+
+// A property is wanted.
+fn property_wanted(s: Symbol) -> Turn
+    ensures { λ r. ⌜ r ≡ Reading·turn Mode·Begin Form·Many s ⌝ }
+{
+    match s {
+        Symbol::Name(w) => begun(w),
+        _ => Turn::Refused,
+    }
+}
+
+// A first part is wanted, or none.
+fn first_wanted(s: Symbol) -> Turn
+    ensures { λ r. ⌜ r ≡ Reading·turn Mode·First Form·Many s ⌝ }
+{
+    match s {
+        Symbol::Name(w) => begun(w),
+        Symbol::Closes => Turn::Close,
+        _ => Turn::Refused,
+    }
+}
+
+// A comma where a further part may follow, the closing bracket where none has to.
+fn parting(f: Form) -> Turn
+    ensures { λ r. ⌜ r ≡ Reading·parting f ⌝ }
+{
+    match f {
+        Form::Many => Turn::Part,
+        Form::One => Turn::Refused,
+        Form::Two => Turn::Part,
+    }
+}
+
+fn closing(f: Form) -> Turn
+    ensures { λ r. ⌜ r ≡ Reading·closing f ⌝ }
+{
+    match f {
+        Form::Many => Turn::Close,
+        Form::One => Turn::Close,
+        Form::Two => Turn::Refused,
+    }
+}
+
+// A part is complete.
+fn after_part(f: Form, s: Symbol) -> Turn
+    ensures { λ r. ⌜ r ≡ Reading·turn Mode·After f s ⌝ }
+{
+    match s {
+        Symbol::Comma => parting(f),
+        Symbol::Closes => closing(f),
+        _ => Turn::Refused,
+    }
+}
+
+// An atom's number is wanted.
+fn atom_wanted(s: Symbol) -> Turn
+    ensures { λ r. ⌜ r ≡ Reading·turn Mode·Atom Form·Many s ⌝ }
+{
+    match s {
+        Symbol::Number(n) => Turn::Leaf(Word::Atom, n),
+        _ => Turn::Refused,
+    }
+}
+
+// A range, symbol by symbol: its bracket,
+fn left_wanted(w: Word, s: Symbol) -> Turn
+    ensures { λ r. ⌜ r ≡ Reading·turn (Mode·Left w) Form·Many s ⌝ }
+{
+    match s {
+        Symbol::Left => Turn::Go(Mode::Lower(w)),
+        _ => Turn::Refused,
+    }
+}
+
+// its lower bound,
+fn lower_wanted(w: Word, s: Symbol) -> Turn
+    ensures { λ r. ⌜ r ≡ Reading·turn (Mode·Lower w) Form·Many s ⌝ }
+{
+    match s {
+        Symbol::Number(n) => Turn::Go(Mode::Comma(w, n)),
+        _ => Turn::Refused,
+    }
+}
+
+// its comma,
+fn comma_wanted(w: Word, l: u64, s: Symbol) -> Turn
+    ensures { λ r. ⌜ r ≡ Reading·turn (Mode·Comma w l) Form·Many s ⌝ }
+{
+    match s {
+        Symbol::Comma => Turn::Go(Mode::Upper(w, l)),
+        _ => Turn::Refused,
+    }
+}
+
+// its upper bound,
+fn upper_wanted(w: Word, l: u64, s: Symbol) -> Turn
+    ensures { λ r. ⌜ r ≡ Reading·turn (Mode·Upper w l) Form·Many s ⌝ }
+{
+    match s {
+        Symbol::Number(n) => Turn::Go(Mode::Right(w, l, n)),
+        Symbol::Star => Turn::Go(Mode::Right(w, l, MAX)),
+        _ => Turn::Refused,
+    }
+}
+
+// and the bracket after it.
+fn right_wanted(w: Word, l: u64, u: u64, s: Symbol) -> Turn
+    ensures { λ r. ⌜ r ≡ Reading·turn (Mode·Right w l u) Form·Many s ⌝ }
+{
+    match s {
+        Symbol::Right => Turn::Go(Mode::Open(w, l, u)),
+        _ => Turn::Refused,
+    }
+}
+
+// The bracket before the parts is wanted.
+fn open_wanted(w: Word, l: u64, u: u64, s: Symbol) -> Turn
+    ensures { λ r. ⌜ r ≡ Reading·turn (Mode·Open w l u) Form·Many s ⌝ }
+{
+    match s {
+        Symbol::Opens => Turn::Open(w, l, u),
+        _ => Turn::Refused,
+    }
+}
+
+// The end of the text is wanted.
+fn end_wanted(s: Symbol) -> Turn
+    ensures { λ r. ⌜ r ≡ Reading·turn Mode·Over Form·Many s ⌝ }
+{
+    match s {
+        Symbol::End => Turn::Ended,
+        _ => Turn::Refused,
+    }
+}
+
 // What a symbol does, by what is wanted and by what the innermost open operator still takes.
 pub fn turned(m: Mode, f: Form, s: Symbol) -> Turn
     ensures { λ r. ⌜ r ≡ Reading·turn m f s ⌝ }
 {
     match m {
-        Mode::Count => match s {
-            Symbol::Number(n) => Turn::Counted(n),
-            _ => Turn::Refused,
-        },
-        Mode::Begin => match s {
-            Symbol::Name(w) => begun(w),
-            _ => Turn::Refused,
-        },
-        Mode::First => match s {
-            Symbol::Name(w) => begun(w),
-            Symbol::Closes => Turn::Close,
-            _ => Turn::Refused,
-        },
-        Mode::After => match s {
-            Symbol::Comma => match f {
-                Form::Many => Turn::Part,
-                Form::One => Turn::Refused,
-                Form::Two => Turn::Part,
-            },
-            Symbol::Closes => match f {
-                Form::Many => Turn::Close,
-                Form::One => Turn::Close,
-                Form::Two => Turn::Refused,
-            },
-            _ => Turn::Refused,
-        },
-        Mode::Atom => match s {
-            Symbol::Number(n) => Turn::Leaf(Word::Atom, n),
-            _ => Turn::Refused,
-        },
-        Mode::Left(w) => match s {
-            Symbol::Left => Turn::Go(Mode::Lower(w)),
-            _ => Turn::Refused,
-        },
-        Mode::Lower(w) => match s {
-            Symbol::Number(n) => Turn::Go(Mode::Comma(w, n)),
-            _ => Turn::Refused,
-        },
-        Mode::Comma(w, l) => match s {
-            Symbol::Comma => Turn::Go(Mode::Upper(w, l)),
-            _ => Turn::Refused,
-        },
-        Mode::Upper(w, l) => match s {
-            Symbol::Number(n) => Turn::Go(Mode::Right(w, l, n)),
-            Symbol::Star => Turn::Go(Mode::Right(w, l, MAX)),
-            _ => Turn::Refused,
-        },
-        Mode::Right(w, l, u) => match s {
-            Symbol::Right => Turn::Go(Mode::Open(w, l, u)),
-            _ => Turn::Refused,
-        },
-        Mode::Open(w, l, u) => match s {
-            Symbol::Opens => Turn::Open(w, l, u),
-            _ => Turn::Refused,
-        },
-        Mode::Over => match s {
-            Symbol::End => Turn::Ended,
-            _ => Turn::Refused,
-        },
+        Mode::Count => count_wanted(s),
+        Mode::Begin => property_wanted(s),
+        Mode::First => first_wanted(s),
+        Mode::After => after_part(f, s),
+        Mode::Atom => atom_wanted(s),
+        Mode::Left(w) => left_wanted(w, s),
+        Mode::Lower(w) => lower_wanted(w, s),
+        Mode::Comma(w, l) => comma_wanted(w, l, s),
+        Mode::Upper(w, l) => upper_wanted(w, l, s),
+        Mode::Right(w, l, u) => right_wanted(w, l, u, s),
+        Mode::Open(w, l, u) => open_wanted(w, l, u, s),
+        Mode::Over => end_wanted(s),
     }
 }
 
