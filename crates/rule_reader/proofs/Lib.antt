@@ -1,0 +1,4 @@
+pub mod Frames
+pub mod Making
+pub mod Sections
+pub mod Theorems

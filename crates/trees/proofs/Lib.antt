@@ -1,0 +1,9 @@
+pub mod Numbered
+pub mod Words
+pub mod Built
+pub mod Books
+pub mod Sections
+pub mod Sums
+pub mod Judged
+pub mod Renumbered
+pub mod Loaded

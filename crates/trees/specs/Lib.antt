@@ -1,0 +1,4 @@
+pub mod Forest
+pub mod Numbered
+pub mod Building
+pub mod Books
