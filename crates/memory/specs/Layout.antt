@@ -61,6 +61,19 @@ OWNERS = ATOMS + MOST-ATOMS
 abbrev pub SETS : ℕ
 SETS = OWNERS + MOST-TEMPORALS
 
+-- the tables: each row's value, what was told of each set, and the digits of each property's early and settled answer
+abbrev pub VALUES : ℕ
+VALUES = SETS + SET * MOST-TEMPORALS
+
+abbrev pub TOLD : ℕ
+TOLD = VALUES + MOST-ROWS
+
+abbrev pub EARLY : ℕ
+EARLY = TOLD + MOST-TEMPORALS
+
+abbrev pub SETTLED : ℕ
+SETTLED = EARLY + MOST-PROPERTIES
+
 -- all words
 abbrev pub SIZE : ℕ
-SIZE = SETS + SET * MOST-TEMPORALS
+SIZE = SETTLED + MOST-PROPERTIES
