@@ -327,8 +327,8 @@ module _ (m m′ : List ℕ) (k : Kept m) (k′ : Kept m′) (same-book : bookOf
   same-value r h =
       let c = below 0 (omega arith) in
       ⊎-elim
-      (λ p. k .tables .values r p ∙ ap bitOf (same-answer value r r refl) ∙ sym (k′ .tables .values r (omega arith)))
-      (λ p. k .tables .values-rest r p h ∙ sym (k′ .tables .values-rest r (omega arith) h))
+      (λ p. k .tables .valued .right r p ∙ ap bitOf (same-answer value r r refl) ∙ sym (k′ .tables .valued .right r (omega arith)))
+      (λ p. k .tables .unused .values r p h ∙ sym (k′ .tables .unused .values r (omega arith) h))
       (lt-or-ge r (rowCount m))
 
   same-told : (j : ℕ) → j < 32 → toldAt m j ≡ toldAt m′ j
@@ -337,8 +337,8 @@ module _ (m m′ : List ℕ) (k : Kept m) (k′ : Kept m′) (same-book : bookOf
       let e : standing (clockOf m) (runs (slotWords m j)) ≡ standing (clockOf m′) (runs (slotWords m′ j)) =
       rw (same-clock m m′ (k .sound) (k′ .sound) same-book same-state, same-set m m′ (k .sound) (k′ .sound) same-book same-state j h) in
       ⊎-elim
-      (λ p. k .tables .told j p ∙ e ∙ sym (k′ .tables .told j (omega arith)))
-      (λ p. k .tables .told-rest j p h ∙ sym (k′ .tables .told-rest j (omega arith) h))
+      (λ p. k .tables .told .right j p ∙ e ∙ sym (k′ .tables .told .right j (omega arith)))
+      (λ p. k .tables .unused .told j p h ∙ sym (k′ .tables .unused .told j (omega arith) h))
       (lt-or-ge j (temporals m))
 
   same-property-row : (i : ℕ) → i < 32 → propertyRow m i ≡ propertyRow m′ i
@@ -349,8 +349,8 @@ module _ (m m′ : List ℕ) (k : Kept m) (k′ : Kept m′) (same-book : bookOf
       let a = below 5 (omega arith) in
       let g = below 6 (omega arith) in
       ⊎-elim
-      (λ p. k .tables .early i p ∙ ap digitOf (same-answer early (propertyRow m i) (propertyRow m′ i) (same-property-row i h)) ∙ sym (k′ .tables .early i (omega arith)))
-      (λ p. k .tables .early-rest i p h ∙ sym (k′ .tables .early-rest i (omega arith) h))
+      (λ p. k .tables .answered .early i p ∙ ap digitOf (same-answer early (propertyRow m i) (propertyRow m′ i) (same-property-row i h)) ∙ sym (k′ .tables .answered .early i (omega arith)))
+      (λ p. k .tables .unused .early i p h ∙ sym (k′ .tables .unused .early i (omega arith) h))
       (lt-or-ge i (propertyCount m))
 
   same-settled : (i : ℕ) → i < 32 → settledAt m i ≡ settledAt m′ i
@@ -358,8 +358,8 @@ module _ (m m′ : List ℕ) (k : Kept m) (k′ : Kept m′) (same-book : bookOf
       let a = below 5 (omega arith) in
       let g = below 6 (omega arith) in
       ⊎-elim
-      (λ p. k .tables .settled i p ∙ ap digitOf (same-answer settled (propertyRow m i) (propertyRow m′ i) (same-property-row i h)) ∙ sym (k′ .tables .settled i (omega arith)))
-      (λ p. k .tables .settled-rest i p h ∙ sym (k′ .tables .settled-rest i (omega arith) h))
+      (λ p. k .tables .answered .settled i p ∙ ap digitOf (same-answer settled (propertyRow m i) (propertyRow m′ i) (same-property-row i h)) ∙ sym (k′ .tables .answered .settled i (omega arith)))
+      (λ p. k .tables .unused .settled i p h ∙ sym (k′ .tables .unused .settled i (omega arith) h))
       (lt-or-ge i (propertyCount m))
 
   -- the word at a place of the part from a on

@@ -40,13 +40,29 @@ settledOf m r = settled (rowsOf m) (stateOf m) r
 abbrev pub propertyCount : List ℕ → ℕ
 propertyCount m = assumeCount m + guaranteeCount m
 
--- every word of the tables is right, and words not in use are 0
-pub record Tables (m : List ℕ) : Type 0 where
-  pub values : (r : ℕ) → r < rowCount m → valueAt m r ≡ bitOf (valueOf m r)
-  pub values-rest : (r : ℕ) → rowCount m ≤ r → r < MOST-ROWS → valueAt m r ≡ 0
-  pub told : (j : ℕ) → j < temporals m → toldAt m j ≡ standing (clockOf m) (runs (slotWords m j))
-  pub told-rest : (j : ℕ) → temporals m ≤ j → j < MOST-TEMPORALS → toldAt m j ≡ 0
+-- each row's word is its value
+pub record Valued (m : List ℕ) : Type 0 where
+  pub right : (r : ℕ) → r < rowCount m → valueAt m r ≡ bitOf (valueOf m r)
+
+-- of each set it was told what is so
+pub record Told (m : List ℕ) : Type 0 where
+  pub right : (j : ℕ) → j < temporals m → toldAt m j ≡ standing (clockOf m) (runs (slotWords m j))
+
+-- each property's digits are those of its answers
+pub record Answered (m : List ℕ) : Type 0 where
   pub early : (i : ℕ) → i < propertyCount m → earlyAt m i ≡ digitOf (earlyOf m (propertyRow m i))
-  pub early-rest : (i : ℕ) → propertyCount m ≤ i → i < MOST-PROPERTIES → earlyAt m i ≡ 0
   pub settled : (i : ℕ) → i < propertyCount m → settledAt m i ≡ digitOf (settledOf m (propertyRow m i))
-  pub settled-rest : (i : ℕ) → propertyCount m ≤ i → i < MOST-PROPERTIES → settledAt m i ≡ 0
+
+-- words of the tables that are not in use are 0
+pub record Unused (m : List ℕ) : Type 0 where
+  pub values : (r : ℕ) → rowCount m ≤ r → r < MOST-ROWS → valueAt m r ≡ 0
+  pub told : (j : ℕ) → temporals m ≤ j → j < MOST-TEMPORALS → toldAt m j ≡ 0
+  pub early : (i : ℕ) → propertyCount m ≤ i → i < MOST-PROPERTIES → earlyAt m i ≡ 0
+  pub settled : (i : ℕ) → propertyCount m ≤ i → i < MOST-PROPERTIES → settledAt m i ≡ 0
+
+-- the tables are right
+pub record Tables (m : List ℕ) : Type 0 where
+  pub valued : Valued m
+  pub told : Told m
+  pub answered : Answered m
+  pub unused : Unused m

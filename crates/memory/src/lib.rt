@@ -4,8 +4,9 @@ ghost use Prim.Native.Nat.{_<_};
 ghost use lib.ListN.{getD};
 ghost use Rattle.numbers.specs.Limits.{MOST-ROWS, MOST-OPERANDS, MOST-PROPERTIES, MOST-TEMPORALS};
 ghost use Rattle.memory.specs.Layout.{SIZE};
-ghost use Rattle.memory.specs.Memory.{begunWord, clockOf, widthWord, temporals, assumeCount, guaranteeCount, kindAt, argAt, lowerAt, upperAt, startAt, wordsAt, slotAt, operandAt, propertyRow, ownerAt, atomsOf, slotWords, valueAt, toldAt, earlyAt, settledAt, isOne};
-ghost use Rattle.memory.specs.Kept.{Sound};
+ghost use Rattle.memory.specs.Memory.{rowCount, begunWord, clockOf, widthWord, temporals, assumeCount, guaranteeCount, kindAt, argAt, lowerAt, upperAt, startAt, wordsAt, slotAt, operandAt, propertyRow, ownerAt, atomsOf, slotWords, valueAt, toldAt, earlyAt, settledAt, isOne};
+ghost use Rattle.memory.specs.Kept.{BookKept, Sound};
+ghost use Rattle.memory.specs.Tables.{propertyCount};
 use numbers::MOST_ATOMS;
 use numbers::MOST_OPERANDS;
 use numbers::MOST_PROPERTIES;
@@ -87,6 +88,13 @@ pub fn word(monitor: &[u64; SIZE], at: usize) -> u64
     monitor[at]
 }
 
+// How many rows the book has.
+pub fn row_count(monitor: &[u64; SIZE]) -> usize
+    ensures { λ r. ⌜ r ≡ rowCount (now (monitor .entry)) ⌝ }
+{
+    monitor[ROW_COUNT] as usize
+}
+
 // 1 once a call was accepted.
 pub fn begun(monitor: &[u64; SIZE]) -> u64
     ensures { λ r. ⌜ r ≡ begunWord (now (monitor .entry)) ⌝ }
@@ -127,6 +135,14 @@ pub fn guarantee_count(monitor: &[u64; SIZE]) -> usize
     ensures { λ r. ⌜ r ≡ guaranteeCount (now (monitor .entry)) ⌝ }
 {
     monitor[GUARANTEES] as usize
+}
+
+// How many properties there are.
+pub fn property_count(monitor: &[u64; SIZE]) -> usize
+    requires { ⌜ BookKept (now monitor) ⌝ }
+    ensures { λ r. ⌜ r ≡ propertyCount (now (monitor .entry)) ⌝ }
+{
+    assume_count(monitor) + guarantee_count(monitor)
 }
 
 // The words of a row.

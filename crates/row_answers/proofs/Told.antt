@@ -1,5 +1,5 @@
 -- Where each temporal row was told what is so of its set, the answers by what was told are those of the state. Assumes nothing.
-use Prim.Native.Nat.{ℕ, zero, suc, _<_, _≤_}
+use Prim.Native.Nat.{ℕ, zero, suc, _+_, _*_, _<_, _≤_}
 use native.Mathlib.Omega.{arith}
 use native.Mathlib.Decide.{decLt}
 use mathlib.Core.Path.{_≡_, refl, sym, ap, ap₂, subst, _∙_}
@@ -22,7 +22,10 @@ use Rattle.pmtl.proofs.Table.{answer-local, row-out}
 use Rattle.pmtl.proofs.Settled.{covers-not-gone}
 use Rattle.memory.specs.Memory.{rowCount, begunWord, clockOf, temporals, kindAt, argAt, lowerAt, upperAt, slotAt, slotWords, toldAt, rowOf, rowsOf, isOne, stateOf}
 use Rattle.memory.specs.Tables.{COVERS, GONE, standing, earlyOf, settledOf}
+use Rattle.memory.specs.Layout.{ROWS, ROW}
 use Rattle.memory.specs.Kept.{Sound}
+use Rattle.memory.specs.Alike.{Alike}
+use Rattle.memory.proofs.Alike.{alike-rows}
 use Rattle.book.specs.Rows.{rowFrom}
 use Rattle.row_answers.specs.Told.{coversIn, goneIn, earlyTold, settledTold}
 use Rattle.memory.proofs.Rows.{rows-length, row-at}
@@ -158,3 +161,29 @@ module _ (m : List ℕ) (sound : Sound m) (told : (j : ℕ) → j < temporals m 
       r λ o l f.
       same-settled (mapRow f (rowAt (rowsOf m) o))
       (λ h. let t = timed-at m o (timed-map f (rowAt (rowsOf m) o) h) in (covers-told o (t .0) (t .1), gone-told o (t .0) (t .1))))
+
+-- ---- memories that differ in other tables alone answer the same by what they were told
+module _ {m m′ : List ℕ} (sound : Sound m) (alike : Alike m m′) (same : (j : ℕ) → j < 32 → toldAt m′ j ≡ toldAt m j) where
+  word-same : (o : ℕ) → o < rowCount m → 7 ≤ kindAt m o → toldAt m′ (slotAt m′ o) ≡ toldAt m (slotAt m o)
+  word-same o h k =
+      let few = sound .book .few in
+      let few-slots = sound .book .temporal-few in
+      let inside = sound .book .rows o h .slot k in
+      ap (toldAt m′) (alike .below (ROWS + ROW * o + 5) (omega arith)) ∙ same (slotAt m o) (omega arith)
+
+  pub early-same : (r : ℕ) → earlyTold m′ r ≡ earlyTold m r
+  early-same r =
+      rw (alike-rows sound alike)
+      (answer-local (rowsOf m) Open _ _ r λ o l f.
+      same-early (mapRow f (rowAt (rowsOf m) o))
+      (λ h. let t = timed-at m o (timed-map f (rowAt (rowsOf m) o) h) in ap (λ x. eqb x COVERS) (word-same o (t .0) (t .1))))
+
+  pub settled-same : (r : ℕ) → settledTold m′ r ≡ settledTold m r
+  settled-same r =
+      rw (alike-rows sound alike)
+      (answer-local (rowsOf m) Open
+      (λ n row. settledRule (coversIn m′ n) (goneIn m′ n) row)
+      (λ n row. settledRule (coversIn m n) (goneIn m n) row)
+      r λ o l f.
+      same-settled (mapRow f (rowAt (rowsOf m) o))
+      (λ h. let t = timed-at m o (timed-map f (rowAt (rowsOf m) o) h) in let e = word-same o (t .0) (t .1) in (ap (λ x. eqb x COVERS) e, ap (λ x. eqb x GONE) e)))
