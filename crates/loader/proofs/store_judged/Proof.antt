@@ -1,9 +1,9 @@
--- `loader::load_into` meets its contract. Assumes nothing.
-use Rattle.loader.proofs.Loads.{placed-accepted, loads-accepted, loads-refused}
+-- `loader::store_judged` meets its contract. Assumes nothing.
+use Rattle.loader.proofs.Loads.{placed-accepted, stored-accepted, stored-refused}
 use lib.ListN.{length}
 use borrow.Author.Needs.{needs}
-use Rattle.loader.proofs.load_into.Statement.{statement}
-use Rattle.loader.proofs.load_into.Tie as tie
+use Rattle.loader.proofs.store_judged.Statement.{statement}
+use Rattle.loader.proofs.store_judged.Tie as tie
 
 place-requires : tie.Need-place-requires
 place-requires c κs = search needs
@@ -17,7 +17,7 @@ same-length c = search needs
 returns : tie.Need-returns
 returns c =
     let s = c .before .before .before .before .before .before .before .before in
-    loads-refused (s .args .words .now) _ _ _ _ _ (c .before .before .before .before .before .place .ensures) _ (c .before .before .before .before .if1 .taken) (length (s .args .monitor .now)) (s .pre) (c .before .before .clear .ensures)
+    stored-refused (s .args .words .now) _ _ _ _ _ (c .before .before .before .before .before .place .ensures) _ (c .before .before .before .before .if1 .taken) (length (s .args .monitor .now)) (s .pre) (c .before .before .clear .ensures)
 
 store-parts-requires : tie.Need-store-parts-requires
 store-parts-requires c κs =
@@ -32,10 +32,10 @@ same-length-2 c = search needs
 returns-2 : tie.Need-returns-2
 returns-2 c =
     let s = c .before .before .before .before .before .before .before .before in
-    loads-accepted (s .args .words .now) _ _ _ _ _ (c .before .before .before .before .before .place .ensures) _ (c .before .before .before .before .if1 .left) (c .before .before .store-parts .ensures)
+    stored-accepted (s .args .words .now) _ _ _ _ _ (c .before .before .before .before .before .place .ensures) _ (c .before .before .before .before .if1 .left) (c .before .before .store-parts .ensures)
 
-pub load-into-spec : {M : Type 1} → statement M
-load-into-spec =
+pub store-judged-spec : {M : Type 1} → statement M
+store-judged-spec =
     tie.close
     (tie.spec
     place-requires
