@@ -1,7 +1,7 @@
 pub mod Rules
 pub mod Modes
 pub mod Commits
-pub mod Plans
 pub mod Heads
+pub mod Plans
 pub mod Advances
 pub mod Public

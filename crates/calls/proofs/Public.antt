@@ -6,25 +6,27 @@ use mathlib.Core.List.{List, [], _∷_, map}
 use native.Mathlib.Omega.{arith}
 use lib.ListN.{length, getD, take, length-map, List·getD-map}
 use lib.Seq.{ext-getD, getD-take, length-take-le}
-use lib.Dec.{ltb}
+use lib.Dec.{ltb, eqb}
 use borrow.Author.Tests.{lt-ltb, le-ltb, ltb-false, ne-eqb}
 use Rattle.numbers.specs.Limits.{LAST-TIME, MOST-ATOMS}
+use Rattle.lists.specs.Lists.{listed}
+use Rattle.lists.proofs.Tests.{fails-by}
+use Rattle.lists.proofs.Listed.{listed-length, listed-at}
 use Rattle.pmtl.specs.Book.{widthOf, some}
 use Rattle.pmtl.specs.Monitor.{Snap}
 use Rattle.pmtl.specs.Calls.{Call, turns, refusal, play, call}
 use Rattle.pmtl.specs.Calls.Call.{time, state}
-use Rattle.lists.proofs.Tests.{fails-by}
 use Rattle.memory.specs.Layout.{ATOMS, SIZE}
-use Rattle.memory.specs.Memory.{clockOf, widthWord, rowsOf, bookOf, stateOf, isOne, atomAt, atomsOf}
-use Rattle.lists.specs.Lists.{listed}
-use Rattle.lists.proofs.Listed.{listed-length, listed-at}
-use Rattle.memory.specs.Kept.{Kept}
-use Rattle.row_answers.specs.Facts.{Here}
-use Rattle.calls.specs.Private.{firstBytes, Bytes, snapOf, Atoms, Tried, Timely, Advanced}
+use Rattle.memory.specs.Memory.{begunWord, clockOf, widthWord, rowsOf, bookOf, stateOf, isOne, atomAt, atomsOf}
+use Rattle.memory.specs.Tables.{Tables}
+use Rattle.memory.specs.Kept.{Sound, Kept}
+use Rattle.memory.specs.Alike.{Alike}
+use Rattle.memory.proofs.Alike.{alike-sound, alike-book, alike-state}
+use Rattle.calls.specs.Private.{firstBytes, Bytes, snapOf, Atoms, Tried, Due, Advanced}
 use Rattle.calls.specs.Called.{Called}
 use Rattle.calls.proofs.Plans.{some-hit}
 use Rattle.calls.proofs.Heads.{first-bytes, first-take}
-use Rattle.calls.proofs.Advances.{moved-width, tried-moved, tried-refused, tried-done, tried-stands}
+use Rattle.calls.proofs.Advances.{moved-width, played, due, has-room, tried-moved, tried-refused, tried-stands}
 
 -- ---- a call that is refused for itself, and one that is not
 called-refused : {m : List ℕ} {k : Call} {n : ℕ} → Kept m → refusal (rowsOf m) (stateOf m .now) k ≡ n → (n ≡ 0 → ⊥) → Called k m m n
@@ -33,23 +35,36 @@ called-refused {m} {k} {n} kept e ne =
     let q = ne-eqb n 0 ne in
     record { number = sym (rw (e, q) e); state = sym (rw (e, q)); book = refl; refused = λ z. refl; kept = kept }
 
-called-played : {m m′ : List ℕ} {k : Call} {r : ℕ} {ns : List Snap} → refusal (rowsOf m) (stateOf m .now) k ≡ 0 → ns ≡ turns (rowsOf m) (stateOf m .now) k → Advanced m ns m′ r → Called k m m′ r
+called-played : {m m′ : List ℕ} {k : Call} {r : ℕ} {ns : List Snap} → refusal (rowsOf m) (stateOf m .now) k ≡ 0 → ns ≡ turns (rowsOf m) (stateOf m .now) k → Advanced m ns m′ r → Kept m′ → Called k m m′ r
 unfolding call bookOf
-called-played {m} {m′} {k} {r} e en a =
+called-played {m} {m′} {k} {r} e en a kept =
     record {
       number = a .number ∙ ap (λ (ns : List Snap). play (rowsOf m) (stateOf m) (stateOf m) ns .number) en ∙ sym (rw e);
       state = a .state ∙ ap (λ (ns : List Snap). play (rowsOf m) (stateOf m) (stateOf m) ns .state) en ∙ sym (rw e);
       book = a .book;
       refused = a .refused;
-      kept = a .kept;
+      kept = kept;
     }
+
+-- a call that was accepted, once what is due was told and asked
+pub advanced-renewed : {m m₁ m₂ : List ℕ} {ns : List Snap} → Advanced m ns m₁ 0 → Sound m₁ → Alike m₁ m₂ × Tables m₂ → Advanced m ns m₂ 0 × Kept m₂
+advanced-renewed a sound t =
+    (
+      record {
+          number = a .number;
+          state = alike-state sound (t .0) ∙ a .state;
+          book = alike-book sound (t .0) ∙ a .book;
+          refused = λ ne. absurd (ne refl);
+        },
+      record { sound = alike-sound sound (t .0); tables = t .1 },
+    )
 
 module _ {m : List ℕ} (kept : Kept m) where
   narrow : widthWord m ≤ 256
-  narrow = kept .book .narrow
+  narrow = kept .sound .book .narrow
 
-  state-timely : {clock : ℕ} → clock ≡ clockOf m → Timely m clock
-  state-timely ec = record { kept = kept; clock = rw ec (kept .clock) }
+  pub state-timely : {clock : ℕ} → clock ≡ clockOf m → Kept m × (clock ≤ LAST-TIME)
+  state-timely ec = (kept, rw ec (kept .sound .clock))
 
   -- ---- a time call
   old-same : (i : ℕ) → i < widthWord m → getD m (ATOMS + i) 0 ≡ getD (atomsOf m) i 0
@@ -58,7 +73,7 @@ module _ {m : List ℕ} (kept : Kept m) where
   old-bytes : Bytes (atomsOf m) (widthWord m)
   old-bytes = record {
     long = listed-length (atomAt m) 256;
-    bits = λ i h. rw (sym (old-same i h)) (kept .atoms i h);
+    bits = λ i h. rw (sym (old-same i h)) (kept .sound .atoms i h);
   }
 
   old-atoms : map isOne (take (widthWord m) (atomsOf m)) ≡ listed (λ i. isOne (atomAt m i)) (widthWord m)
@@ -84,18 +99,30 @@ module _ {m : List ℕ} (kept : Kept m) where
     time-late h k = called-refused kept (let e = le-ltb t (clockOf m) (omega arith) in rw (e, lt-ltb LAST-TIME t k)) (omega arith)
 
     module _ (h : clock ≤ t) (k : t ≤ LAST-TIME) where
-      time-timely : Timely m t
-      time-timely = record { kept = kept; clock = k }
-
-      time-played : {m′ : List ℕ} {r : ℕ} → Advanced m (snapOf t (atomsOf m) (widthWord m) ∷ []) m′ r → Called (time t) m m′ r
+      time-played : {m′ : List ℕ} {r : ℕ} → Advanced m (snapOf t (atomsOf m) (widthWord m) ∷ []) m′ r → Kept m′ → Called (time t) m m′ r
       unfolding refusal stateOf
-      time-played a =
-          called-played (let e = le-ltb t (clockOf m) (omega arith) in rw (e, le-ltb LAST-TIME t k)) (ap (λ (bs : List Bool). record { clock = t; atoms = bs } ∷ []) old-atoms) a
+      time-played a kept′ =
+          called-played (let e = le-ltb t (clockOf m) (omega arith) in rw (e, le-ltb LAST-TIME t k)) (ap (λ (bs : List Bool). record { clock = t; atoms = bs } ∷ []) old-atoms) a kept′
 
-      pub time-tried : {atoms here m′ : List ℕ} {r : ℕ} → atoms ≡ atomsOf m → Tried m t atoms here m′ r → Called (time t) m m′ r × (r ≡ 0 → Here m′ here)
-      time-tried {atoms} {here} {m′} {r} ea tried =
-          let p = tried-stands time-timely (subst (λ (xs : List ℕ). Tried m t xs here m′ r) ea tried) old-bytes old-same in
-          (time-played (p .0), p .1)
+      module _ {atoms m₁ : List ℕ} {r : ℕ} (ea : atoms ≡ atomsOf m) (tried : Tried m t atoms m₁ r) where
+        as-atoms : Tried m t (atomsOf m) m₁ r
+        as-atoms = subst (λ (xs : List ℕ). Tried m t xs m₁ r) ea tried
+
+        pub time-full : (r ≡ 0 → ⊥) → Called (time t) m m₁ r
+        time-full ne = let q = tried-refused as-atoms ne in time-played (q .0) (rw (q .1) kept)
+
+        -- its atoms stand there already
+        stands : r ≡ 0 → Atoms m₁ (atomsOf m) (widthWord m₁) m₁
+        stands = tried-stands as-atoms (kept .sound) old-same
+
+        pub time-due : r ≡ 0 → {first : Bool} → first ≡ eqb (begunWord m) 0 → Due m₁ first
+        time-due z ef = due kept k old-bytes (has-room as-atoms z) (tried-moved as-atoms z) (stands z) ef
+
+        pub time-done : {m₂ : List ℕ} → r ≡ 0 → Alike m₁ m₂ × Tables m₂ → Called (time t) m m₂ 0
+        time-done z renewed =
+            let a = played kept k old-bytes (has-room as-atoms z) (tried-moved as-atoms z) (stands z) in
+            let q = advanced-renewed a (time-due z refl .sound) renewed in
+            time-played (q .0) (q .1)
 
   -- ---- a state call
   module _ (s : List ℕ) where
@@ -105,7 +132,7 @@ module _ {m : List ℕ} (kept : Kept m) where
 
     module _ (h : length s ≤ MOST-ATOMS) {w : ℕ} (ew : w ≡ widthWord m) where
       width : widthOf (rowsOf m) ≡ w
-      width = sym (ew ∙ kept .book .width)
+      width = sym (ew ∙ kept .sound .book .width)
 
       pub state-short : length s < w → Called (state s) m m 9
       unfolding refusal
@@ -126,23 +153,28 @@ module _ {m : List ℕ} (kept : Kept m) where
           new-bytes : {atoms : List ℕ} → atoms ≡ firstBytes s w → Bytes atoms (widthWord m)
           new-bytes ea = rw (ea, ← ew) (first-bytes w s k new-narrow (λ i lt. bit-each i (omega arith)))
 
-          state-played : {atoms m′ : List ℕ} {r clock : ℕ} → clock ≡ clockOf m → atoms ≡ firstBytes s w → Advanced m (snapOf clock atoms (widthWord m) ∷ []) m′ r → Called (state s) m m′ r
+          state-played : {atoms m′ : List ℕ} {r clock : ℕ} → clock ≡ clockOf m → atoms ≡ firstBytes s w → Advanced m (snapOf clock atoms (widthWord m) ∷ []) m′ r → Kept m′ → Called (state s) m m′ r
           unfolding refusal stateOf
-          state-played {atoms} ec ea a =
+          state-played {atoms} ec ea a kept′ =
               called-played (rw (le-ltb MOST-ATOMS (length s) h, width, le-ltb (length s) w k, ← eb, e))
               (ap₂ (λ (c : ℕ) (xs : List ℕ). record { clock = c; atoms = map isOne xs } ∷ []) ec
-              (ap₂ (λ (n : ℕ) (xs : List ℕ). take n xs) (sym ew) ea ∙ first-take w s k new-narrow ∙ ap (λ (n : ℕ). take n s) (sym width))) a
+              (ap₂ (λ (n : ℕ) (xs : List ℕ). take n xs) (sym ew) ea ∙ first-take w s k new-narrow ∙ ap (λ (n : ℕ). take n s) (sym width))) a kept′
 
-          module _ {atoms here m₁ : List ℕ} {r clock : ℕ} (ec : clock ≡ clockOf m) (ea : atoms ≡ firstBytes s w) (tried : Tried m clock atoms here m₁ r) where
+          module _ {atoms m₁ : List ℕ} {r clock : ℕ} (ec : clock ≡ clockOf m) (ea : atoms ≡ firstBytes s w) (tried : Tried m clock atoms m₁ r) where
             pub state-full : (r ≡ 0 → ⊥) → Called (state s) m m₁ r
-            state-full ne = state-played ec ea (tried-refused (state-timely ec) tried ne)
+            state-full ne = let q = tried-refused tried ne in state-played ec ea (q .0) (rw (q .1) kept)
 
             pub state-roomy : r ≡ 0 → (length m₁ ≡ SIZE) × (length atoms ≡ 256) × (widthWord m₁ ≤ 256)
             state-roomy z =
-                let v = tried-moved (state-timely ec) tried z in
+                let v = tried-moved tried z in
                 (v .long, new-bytes ea .long, omega (arith, narrow, moved-width v))
 
-            pub state-done : {m₂ : List ℕ} → r ≡ 0 → Atoms m₁ atoms (widthWord m₁) m₂ → Called (state s) m m₂ 0 × Here m₂ here
-            state-done z a =
-                let p = tried-done (state-timely ec) tried (new-bytes ea) z a in
-                (state-played ec ea (p .0), p .1)
+            module _ {m₂ : List ℕ} (z : r ≡ 0) (a : Atoms m₁ atoms (widthWord m₁) m₂) where
+              pub state-due : {first : Bool} → first ≡ eqb (begunWord m) 0 → Due m₂ first
+              state-due ef = due kept (state-timely ec .1) (new-bytes ea) (has-room tried z) (tried-moved tried z) a ef
+
+              pub state-done : {m₃ : List ℕ} → Alike m₂ m₃ × Tables m₃ → Called (state s) m m₃ 0
+              state-done renewed =
+                  let p = played kept (state-timely ec .1) (new-bytes ea) (has-room tried z) (tried-moved tried z) a in
+                  let q = advanced-renewed p (state-due refl .sound) renewed in
+                  state-played ec ea (q .0) (q .1)

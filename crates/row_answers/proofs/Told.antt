@@ -25,7 +25,6 @@ use Rattle.memory.specs.Tables.{COVERS, GONE, standing, earlyOf, settledOf}
 use Rattle.memory.specs.Layout.{ROWS, ROW}
 use Rattle.memory.specs.Kept.{Sound}
 use Rattle.memory.specs.Alike.{Alike}
-use Rattle.memory.proofs.Alike.{alike-rows}
 use Rattle.book.specs.Rows.{rowFrom}
 use Rattle.row_answers.specs.Told.{coversIn, goneIn, earlyTold, settledTold}
 use Rattle.memory.proofs.Rows.{rows-length, row-at}
@@ -162,28 +161,29 @@ module _ (m : List ℕ) (sound : Sound m) (told : (j : ℕ) → j < temporals m 
       same-settled (mapRow f (rowAt (rowsOf m) o))
       (λ h. let t = timed-at m o (timed-map f (rowAt (rowsOf m) o) h) in (covers-told o (t .0) (t .1), gone-told o (t .0) (t .1))))
 
--- ---- memories that differ in other tables alone answer the same by what they were told
-module _ {m m′ : List ℕ} (sound : Sound m) (alike : Alike m m′) (same : (j : ℕ) → j < 32 → toldAt m′ j ≡ toldAt m j) where
-  word-same : (o : ℕ) → o < rowCount m → 7 ≤ kindAt m o → toldAt m′ (slotAt m′ o) ≡ toldAt m (slotAt m o)
-  word-same o h k =
-      let few = sound .book .few in
-      let few-slots = sound .book .temporal-few in
-      let inside = sound .book .rows o h .slot k in
-      ap (toldAt m′) (alike .below (ROWS + ROW * o + 5) (omega arith)) ∙ same (slotAt m o) (omega arith)
-
+-- ---- memories with the same rows, whose temporal rows were told the same, answer the same by it
+module _ (m m′ : List ℕ) (rows : rowsOf m′ ≡ rowsOf m) (same : (o : ℕ) → o < rowCount m → 7 ≤ kindAt m o → toldAt m′ (slotAt m′ o) ≡ toldAt m (slotAt m o)) where
   pub early-same : (r : ℕ) → earlyTold m′ r ≡ earlyTold m r
   early-same r =
-      rw (alike-rows sound alike)
+      rw rows
       (answer-local (rowsOf m) Open _ _ r λ o l f.
       same-early (mapRow f (rowAt (rowsOf m) o))
-      (λ h. let t = timed-at m o (timed-map f (rowAt (rowsOf m) o) h) in ap (λ x. eqb x COVERS) (word-same o (t .0) (t .1))))
+      (λ h. let t = timed-at m o (timed-map f (rowAt (rowsOf m) o) h) in ap (λ x. eqb x COVERS) (same o (t .0) (t .1))))
 
   pub settled-same : (r : ℕ) → settledTold m′ r ≡ settledTold m r
   settled-same r =
-      rw (alike-rows sound alike)
+      rw rows
       (answer-local (rowsOf m) Open
       (λ n row. settledRule (coversIn m′ n) (goneIn m′ n) row)
       (λ n row. settledRule (coversIn m n) (goneIn m n) row)
       r λ o l f.
       same-settled (mapRow f (rowAt (rowsOf m) o))
-      (λ h. let t = timed-at m o (timed-map f (rowAt (rowsOf m) o) h) in let e = word-same o (t .0) (t .1) in (ap (λ x. eqb x COVERS) e, ap (λ x. eqb x GONE) e)))
+      (λ h. let t = timed-at m o (timed-map f (rowAt (rowsOf m) o) h) in let e = same o (t .0) (t .1) in (ap (λ x. eqb x COVERS) e, ap (λ x. eqb x GONE) e)))
+
+-- as those that differ in other tables alone
+pub alike-told : {m m′ : List ℕ} → Sound m → Alike m m′ → ((j : ℕ) → j < 32 → toldAt m′ j ≡ toldAt m j) → (o : ℕ) → o < rowCount m → 7 ≤ kindAt m o → toldAt m′ (slotAt m′ o) ≡ toldAt m (slotAt m o)
+alike-told {m} {m′} sound alike same o h k =
+    let few = sound .book .few in
+    let few-slots = sound .book .temporal-few in
+    let inside = sound .book .rows o h .slot k in
+    ap (toldAt m′) (alike .below (ROWS + ROW * o + 5) (omega arith)) ∙ same (slotAt m o) (omega arith)

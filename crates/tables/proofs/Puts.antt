@@ -26,7 +26,7 @@ use Rattle.memory.specs.Kept.{Sound}
 use Rattle.memory.specs.Alike.{Alike}
 use Rattle.memory.proofs.Alike.{alike-self, alike-on, alike-filled, alike-sound, alike-rows, alike-state, alike-set}
 use Rattle.row_answers.specs.Told.{earlyTold, settledTold}
-use Rattle.row_answers.proofs.Told.{told-early, told-settled, early-same, settled-same}
+use Rattle.row_answers.proofs.Told.{told-early, told-settled, early-same, settled-same, alike-told}
 use Rattle.tables.specs.Puts.{valuesPut, standingAt, toldPut, earlyDigit, earlyPut, settledNow, settledDigit, settledPut}
 
 -- ---- counts
@@ -195,10 +195,10 @@ module _ {m : List ℕ} (sound : Sound m) (a : ℕ) (f : ℕ → ℕ) (n : ℕ) 
   digits-values r h = filledFrom-before a f m 0 n (VALUES + r) (omega arith)
 
   digits-early : (r : ℕ) → earlyTold (filledFrom a f m n) r ≡ earlyTold m r
-  digits-early = early-same sound digits-alike digits-told
+  digits-early = early-same m (filledFrom a f m n) (alike-rows sound digits-alike) (alike-told sound digits-alike digits-told)
 
   digits-settled : (r : ℕ) → settledNow (filledFrom a f m n) r ≡ settledNow m r
-  digits-settled r = ap₂ (λ (w : ℕ) (x : Answer). cond (isOne w) x Open) (digits-alike .below 1 (omega arith)) (settled-same sound digits-alike digits-told r)
+  digits-settled r = ap₂ (λ (w : ℕ) (x : Answer). cond (isOne w) x Open) (digits-alike .below 1 (omega arith)) (settled-same m (filledFrom a f m n) (alike-rows sound digits-alike) (alike-told sound digits-alike digits-told) r)
 
   pub digits-row : (i : ℕ) → i < 32 → propertyRow (filledFrom a f m n) i ≡ propertyRow m i
   digits-row = same-property sound digits-alike
