@@ -5,3 +5,5 @@ pub mod Heads
 pub mod Plans
 pub mod Advances
 pub mod Public
+pub mod Joins
+pub mod Tries

@@ -1,0 +1,62 @@
+-- `calls::plan_call` meets its contract. The invariant: the rows passed have their new values, and their sets modes and room. Assumes nothing.
+use Prim.Native.Nat.{_≤_, _-_}
+use mathlib.Core.Path.{_≡_}
+use native.Mathlib.Omega.{arith}
+use Rattle.memory.specs.Memory.{rowCount}
+use Rattle.calls.proofs.Plans.{Going, going-start, going-sound, going-count, going-more, going-full, going-done}
+use borrow.Author.Needs.{needs}
+use Rattle.calls.proofs.plan_call.Statement.{statement}
+use Rattle.calls.proofs.plan_call.Tie as tie
+
+abbrev Inv-loop : tie.InvT-loop
+Inv-loop monitor₀ clock atoms modes₀ count row₀ monitor modes row = (row ≤ count) × (count ≡ rowCount monitor₀) × Going monitor₀ clock atoms monitor modes row
+
+abbrev μ-loop : tie.MeasureT-loop
+μ-loop monitor₀ clock atoms modes₀ count row₀ monitor modes row = count - row
+
+row-count-requires : tie.Need-row-count-requires Inv-loop μ-loop
+row-count-requires c κs = search needs
+
+loop-holds : tie.Need-loop-holds Inv-loop μ-loop
+loop-holds c = let s = (c .before .before .before) in (omega arith, c .row-count .ensures, going-start (s .args .monitor .now) (s .args .clock) (s .args .atoms .now) (s .pre .1))
+
+try-row-requires : tie.Need-try-row-requires Inv-loop μ-loop
+try-row-requires c κs = let s = (c .before .before .before .before .before .before .before) in let l = (c .before .before .before) .loop in let g = l .inv .2 in (record { sound = going-sound (s .pre .0 .sound) g; clock = s .pre .0 .clock }, (let e = l .inv .1 in let k = going-count (s .pre .0 .sound) g in omega arith, g .modes-long))
+
+add-row : tie.Need-add-row Inv-loop μ-loop
+add-row c = let s = (c .before .before .before .before .before .before .before .before .before .before .before) in let l = (c .before .before .before .before .before .before .before) .loop in let e = l .inv .1 in let f = s .pre .0 .sound .book .few in omega arith
+
+loop-less : tie.Need-loop-less Inv-loop μ-loop
+loop-less c = search needs
+
+loop-again : tie.Need-loop-again Inv-loop μ-loop
+loop-again c = let s = (c .before .before .before .before .before .before .before .before .before .before .before) in let l = (c .before .before .before .before .before .before .before) .loop in let e = l .inv .1 in (omega arith, e, going-more (s .pre .0 .sound) (l .inv .2) (omega arith) ((c .before .before .before) .try-row .ensures) (c .if1 .taken))
+
+same-length : tie.Need-same-length Inv-loop μ-loop
+same-length c = search needs
+
+returns : tie.Need-returns Inv-loop μ-loop
+returns c = let s = (c .before .before .before .before .before .before .before .before .before .before .before) in let l = (c .before .before .before .before .before .before .before) .loop in let e = l .inv .1 in going-full (s .pre .0 .sound) (l .inv .2) (omega arith) ((c .before .before .before) .try-row .ensures) (c .if1 .left)
+
+same-length-2 : tie.Need-same-length-2 Inv-loop μ-loop
+same-length-2 c = search needs
+
+returns-2 : tie.Need-returns-2 Inv-loop μ-loop
+returns-2 c = let s = (c .before .before .before .before .before) in let l = (c .before) .loop in let e = l .inv .1 in going-done (s .pre .0 .sound) (l .inv .2) (omega arith)
+
+pub plan-call-spec : {M : Type 1} → statement M
+plan-call-spec =
+    tie.close
+    (tie.spec
+    Inv-loop
+    μ-loop
+    row-count-requires
+    loop-holds
+    try-row-requires
+    add-row
+    loop-less
+    loop-again
+    same-length
+    returns
+    same-length-2
+    returns-2)
