@@ -104,6 +104,10 @@ pub tried-full : {m : List ℕ} {c : ℕ} {atoms m₁ m₂ modes : List ℕ} →
 tried-full kept p e =
     record { room = λ f. absurd (true≢false (sym (p .fits) ∙ f)); full = λ f. (refl, e ∙ restored kept _ (p .tried) (p .few) (p .values)) }
 
+-- the memory that the plan leaves is sound, whether there is room or not
+pub planned-sound : {m : List ℕ} {c : ℕ} {atoms m₁ modes : List ℕ} {room : Bool} → Sound m → Planned m c atoms m₁ room modes → Sound m₁
+planned-sound {m} {c} {atoms} sound p = rw (p .values) (alike-sound sound (alike-filled m VALUES (valueAfter m c atoms) (p .tried) (omega arith)))
+
 -- ---- a plan carried out
 module _ {m : List ℕ} {c : ℕ} {atoms m₁ modes : List ℕ} (sound : Sound m) (small : c ≤ LAST-TIME) (planned : Planned m c atoms m₁ true modes) where
   roomy : crowded (stepOf m c atoms) ≡ false
