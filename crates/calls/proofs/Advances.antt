@@ -398,14 +398,15 @@ module _ {m : List ℕ} {first : Bool} (due : Due m first) where
   renewed-still e₁ e₂ not-first =
       let sound = due .sound in
       let told : Told m = subst Told (sym e₁ ∙ e₂) (told-told sound) in
-      rw e₂
-      (alike-self m,
-      record {
-        valued = due .valued;
-        told = told;
-        answered = record {
+      rw e₂ (
+        alike-self m,
+        record {
+          valued = due .valued;
+          told = told;
+          answered = record {
             early = λ i h. due .asked .early i h ∙ ap digitOf (told-early m sound (told .right) (propertyRow m i));
             settled = λ i h. due .asked .settled not-first i h ∙ ap digitOf (told-settled m sound (told .right) (propertyRow m i));
           };
-        unused = due .unused;
-      })
+          unused = due .unused;
+        },
+      )

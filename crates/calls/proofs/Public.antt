@@ -48,16 +48,15 @@ called-played {m} {m′} {k} {r} e en a kept =
 
 -- a call that was accepted, once what is due was told and asked
 pub advanced-renewed : {m m₁ m₂ : List ℕ} {ns : List Snap} → Advanced m ns m₁ 0 → Sound m₁ → Alike m₁ m₂ × Tables m₂ → Advanced m ns m₂ 0 × Kept m₂
-advanced-renewed a sound t =
-    (
-      record {
-          number = a .number;
-          state = alike-state sound (t .0) ∙ a .state;
-          book = alike-book sound (t .0) ∙ a .book;
-          refused = λ ne. absurd (ne refl);
-        },
-      record { sound = alike-sound sound (t .0); tables = t .1 },
-    )
+advanced-renewed a sound t = (
+  record {
+    number = a .number;
+    state = alike-state sound (t .0) ∙ a .state;
+    book = alike-book sound (t .0) ∙ a .book;
+    refused = λ ne. absurd (ne refl);
+  },
+  record { sound = alike-sound sound (t .0); tables = t .1 },
+)
 
 module _ {m : List ℕ} (kept : Kept m) where
   narrow : widthWord m ≤ 256
