@@ -244,6 +244,14 @@ pub fn set_at(monitor: &[u64; SIZE], slot: usize) -> &[u64]
     &words[from..to]
 }
 
+// A row's value, by the table.
+pub fn value_at(monitor: &[u64; SIZE], row: usize) -> u64
+    requires { ⌜ row < MOST-ROWS ⌝ }
+    ensures { λ r. ⌜ r ≡ valueAt (now (monitor .entry)) row ⌝ }
+{
+    monitor[VALUES + row]
+}
+
 // Whether a row holds, by the table.
 pub fn holds(monitor: &[u64; SIZE], row: usize) -> bool
     requires { ⌜ row < MOST-ROWS ⌝ }
