@@ -1,4 +1,4 @@
--- And or Or of a row's operands as a loop finds it, and the value of a row that is not temporal, by the table. Assumes nothing.
+-- The value of a row that is not temporal, by the table. Assumes nothing.
 use Prim.Native.Nat.{ℕ, zero, suc, _+_, _-_, _<_, _≤_}
 use native.Mathlib.Omega.{arith}
 use mathlib.Core.Path.{_≡_, refl, sym, ap, ap₂, _∙_}
@@ -20,35 +20,6 @@ use Rattle.row_answers.specs.Private.{joined}
 use Rattle.row_answers.proofs.Answers.{read-words, span-as, span-book, atom-named, first-inside, second-inside}
 use Rattle.row_answers.proofs.Values.{joined-nil, joined-stop, joined-on}
 use Rattle.calls.specs.Private.{heldIn, atomsIn}
-
--- ---- how far the loop has come: the operands that are left say what all say
-pub record Joining (m : List ℕ) (stop : Bool) (place left at rest : ℕ) : Type 0 where
-  pub span : Span m (rowCount m) at rest
-  pub same : joined stop (map (heldIn m) (operandsFrom m place left)) ≡ joined stop (map (heldIn m) (operandsFrom m at rest))
-
-pub joining-start : {m : List ℕ} (stop : Bool) {place left : ℕ} → Span m (rowCount m) place left → Joining m stop place left place left
-joining-start stop span = record { span = span; same = refl }
-
-module _ {m : List ℕ} {stop : Bool} {place left at rest : ℕ} (kept : BookKept m) (j : Joining m stop place left at rest) where
-  module _ (some : 0 < rest) {x : ℕ} (ex : x ≡ operandAt m at) {v : Bool} (ev : v ≡ heldIn m x) where
-    cons : map (heldIn m) (operandsFrom m at rest) ≡ v ∷ map (heldIn m) (operandsFrom m (at + 1) (rest - 1))
-    cons = walk-cons (heldIn m) (kept .long) (j .span) some ex ev
-
-    pub joining-more : Bool·beq v stop ≡ false → Joining m stop place left (at + 1) (rest - 1)
-    joining-more e = record { span = span-rest (j .span) some; same = j .same ∙ ap (joined stop) cons ∙ sym (joined-on stop v _ e) }
-
-    pub joining-stop : Bool·beq v stop ≡ true → stop ≡ joined stop (map (heldIn m) (operandsFrom m place left))
-    joining-stop e = joined-stop stop v _ e ∙ sym (j .same ∙ ap (joined stop) cons)
-
-  pub joining-done : rest ≡ 0 → not stop ≡ joined stop (map (heldIn m) (operandsFrom m place left))
-  joining-done e = joined-nil stop ∙ sym (j .same ∙ ap (λ (n : ℕ). joined stop (map (heldIn m) (operandsFrom m at n))) e)
-
-  pub joining-inside : 0 < rest → (at < 128) × (operandAt m at < 128)
-  joining-inside some =
-      let s = j .span .inside in
-      let low = first-below (j .span) some refl in
-      let few = kept .few in
-      (omega arith, omega arith)
 
 -- ---- the value of a row that is not temporal, from its words
 module _ {m : List ℕ} {r : ℕ} {words : RowWords} (kept : BookKept m) (inside : r < rowCount m) (ew : words ≡ wordsAt m r) (atoms : List ℕ) where

@@ -69,7 +69,7 @@ module _ (m : List ℕ) (long : length m ≡ SIZE) (zeros : (i : ℕ) → getD m
       }
 
   pub empty-unused : Unused m
-  empty-unused = record { values = λ r p q. zeros _; told = λ j p q. zeros _; early = λ i p q. zeros _; settled = λ i p q. zeros _ }
+  empty-unused = record { values = λ r p q. zeros _; told = λ j p q. zeros _; early = λ i p q. zeros _; settled = λ i p q. zeros _; moves = λ r p q. zeros _ }
 
   pub empty-book : bookOf m ≡ emptyBook
   unfolding bookOf rowsOf listed

@@ -14,7 +14,7 @@ use Rattle.lists.proofs.Tests.{lt-or-ge}
 use Rattle.numset.proofs.Packs.{good-zeros}
 use Rattle.pmtl.specs.Book.{widthOf}
 use Rattle.pmtl.specs.Monitor.{initial}
-use Rattle.memory.specs.Layout.{ROWS, ROW, OPERANDS, PROPERTIES, ATOMS, OWNERS, SET, SIZE, VALUES, TOLD, EARLY, SETTLED}
+use Rattle.memory.specs.Layout.{ROWS, ROW, OPERANDS, PROPERTIES, ATOMS, OWNERS, SET, SIZE, VALUES, TOLD, EARLY, SETTLED, MOVES}
 use Rattle.lists.specs.Lists.{part, listed, put}
 use Rattle.memory.specs.Memory.{assumeCount, guaranteeCount, kindAt, argAt, lowerAt, upperAt, startAt, slotAt, operandsOf, ownerAt, setStart, slotWords, rowOf, rowsOf, bookOf, isOne, setOf, stateOf}
 use Rattle.book.specs.Rows.{countOf}
@@ -270,6 +270,7 @@ module _ (s : Sections) (m : List ℕ) (ok : Accepted s) (st : Stands s m) where
           told = λ j p q. zero-from (TOLD + j) (omega arith);
           early = λ i p q. zero-from (EARLY + i) (omega arith);
           settled = λ i p q. zero-from (SETTLED + i) (omega arith);
+          moves = λ r p q. zero-from (MOVES + r) (omega arith);
         };
       }
 

@@ -16,10 +16,10 @@ use Rattle.pmtl.specs.Book.{Row, Rows, Book, widthOf}
 use Rattle.pmtl.specs.Monitor.{State, value}
 use Rattle.pmtl.specs.Early.{early}
 use Rattle.pmtl.specs.Settled.{settled}
-use Rattle.memory.specs.Layout.{ROWS, ROW, OPERANDS, PROPERTIES, ATOMS, OWNERS, SETS, SET, VALUES, TOLD, EARLY, SETTLED, SIZE}
+use Rattle.memory.specs.Layout.{ROWS, ROW, OPERANDS, PROPERTIES, ATOMS, OWNERS, SETS, SET, VALUES, TOLD, EARLY, SETTLED, MOVES, SIZE}
 use Rattle.lists.specs.Lists.{part, listed}
-use Rattle.memory.specs.Memory.{rowCount, begunWord, clockOf, widthWord, temporals, assumeCount, guaranteeCount, kindAt, argAt, lowerAt, upperAt, startAt, slotAt, operandsOf, ownerAt, setStart, slotWords, propertyRow, valueAt, toldAt, earlyAt, settledAt, rowOf, rowsOf, bookOf, isOne, setOf, stateOf}
-use Rattle.memory.specs.Tables.{standing, propertyCount}
+use Rattle.memory.specs.Memory.{rowCount, begunWord, clockOf, widthWord, temporals, assumeCount, guaranteeCount, kindAt, argAt, lowerAt, upperAt, startAt, slotAt, operandsOf, ownerAt, setStart, slotWords, propertyRow, valueAt, toldAt, earlyAt, settledAt, movesAt, rowOf, rowsOf, bookOf, isOne, setOf, stateOf}
+use Rattle.memory.specs.Tables.{standing, propertyCount, moves}
 use Rattle.book.specs.Rows.{countOf}
 use Rattle.lists.proofs.Listed.{listed-at}
 use Rattle.memory.proofs.Rows.{rows-length, row-at}
@@ -362,6 +362,15 @@ module _ (m m′ : List ℕ) (k : Kept m) (k′ : Kept m′) (same-book : bookOf
       (λ p. k .tables .unused .settled i p h ∙ sym (k′ .tables .unused .settled i (omega arith) h))
       (lt-or-ge i (propertyCount m))
 
+  same-moves : (r : ℕ) → r < 128 → movesAt m r ≡ movesAt m′ r
+  same-moves r h =
+      let c = below 0 (omega arith) in
+      let e = same-rows m m′ (k .sound) (k′ .sound) same-book same-state in
+      ⊎-elim
+      (λ p. k .tables .moving .right r p ∙ ap (λ (b : Rows). bitOf (moves b r)) e ∙ sym (k′ .tables .moving .right r (omega arith)))
+      (λ p. k .tables .unused .moves r p h ∙ sym (k′ .tables .unused .moves r (omega arith) h))
+      (lt-or-ge r (rowCount m))
+
   -- the word at a place of the part from a on
   in-part : (a i : ℕ) → a ≤ i → getD m (a + (i - a)) 0 ≡ getD m′ (a + (i - a)) 0 → getD m i 0 ≡ getD m′ i 0
   in-part a i h e = word-at m i (a + (i - a)) (omega arith) ∙ e ∙ word-at m′ (a + (i - a)) i (omega arith)
@@ -371,7 +380,9 @@ module _ (m m′ : List ℕ) (k : Kept m) (k′ : Kept m′) (same-book : bookOf
       ⊎-elim (below i) (λ p₁.
       ⊎-elim (λ q. in-part VALUES i p₁ (same-value (i - VALUES) (omega arith))) (λ p₂.
       ⊎-elim (λ q. in-part TOLD i p₂ (same-told (i - TOLD) (omega arith))) (λ p₃.
-      ⊎-elim (λ q. in-part EARLY i p₃ (same-early (i - EARLY) (omega arith))) (λ p₄. in-part SETTLED i p₄ (same-settled (i - SETTLED) (omega arith)))
+      ⊎-elim (λ q. in-part EARLY i p₃ (same-early (i - EARLY) (omega arith))) (λ p₄.
+      ⊎-elim (λ q. in-part SETTLED i p₄ (same-settled (i - SETTLED) (omega arith))) (λ p₅. in-part MOVES i p₅ (same-moves (i - MOVES) (omega arith)))
+      (lt-or-ge i MOVES))
       (lt-or-ge i SETTLED))
       (lt-or-ge i EARLY))
       (lt-or-ge i TOLD))

@@ -74,6 +74,10 @@ EARLY = TOLD + MOST-TEMPORALS
 abbrev pub SETTLED : ℕ
 SETTLED = EARLY + MOST-PROPERTIES
 
+-- and of each row whether a time call can change its value
+abbrev pub MOVES : ℕ
+MOVES = SETTLED + MOST-PROPERTIES
+
 -- all words
 abbrev pub SIZE : ℕ
-SIZE = SETTLED + MOST-PROPERTIES
+SIZE = MOVES + MOST-ROWS

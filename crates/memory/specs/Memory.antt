@@ -11,7 +11,7 @@ use Rattle.pmtl.specs.Book.{Range, Row, Rows, Book}
 use Rattle.pmtl.specs.Monitor.{State}
 use Rattle.book.specs.Rows.{rowFrom, temporal}
 use Rattle.memory.specs.declared.RowWords.{RowWords}
-use Rattle.memory.specs.Layout.{ROW-COUNT, BEGUN, CLOCK, WIDTH, TEMPORALS, ASSUMES, GUARANTEES, ROWS, ROW, OPERANDS, PROPERTIES, ATOMS, OWNERS, SETS, SET, VALUES, TOLD, EARLY, SETTLED}
+use Rattle.memory.specs.Layout.{ROW-COUNT, BEGUN, CLOCK, WIDTH, TEMPORALS, ASSUMES, GUARANTEES, ROWS, ROW, OPERANDS, PROPERTIES, ATOMS, OWNERS, SETS, SET, VALUES, TOLD, EARLY, SETTLED, MOVES}
 
 -- ---- words read off a memory
 abbrev pub rowCount : List ℕ → ℕ
@@ -103,6 +103,10 @@ earlyAt m i = getD m (EARLY + i) 0
 
 abbrev pub settledAt : List ℕ → ℕ → ℕ
 settledAt m i = getD m (SETTLED + i) 0
+
+-- whether a time call can change a row's value
+abbrev pub movesAt : List ℕ → ℕ → ℕ
+movesAt m r = getD m (MOVES + r) 0
 
 -- ---- the monitor that a memory holds: its book
 unfoldable pub rowOf : List ℕ → ℕ → Row ℕ

@@ -1,17 +1,19 @@
 -- What the tables of a memory say of the monitor that it holds. Definitions only.
 use Prim.Native.Nat.{ℕ, _+_, _≤_, _<_}
 use mathlib.Core.Path.{_≡_}
-use mathlib.Core.Bool.{Bool, cond}
+use mathlib.Core.Bool.{Bool, true, false, cond, _||_}
 use mathlib.Core.List.{List}
 use Rattle.numbers.specs.Limits.{MOST-ROWS, MOST-PROPERTIES, MOST-TEMPORALS}
 use Rattle.numset.specs.Runs.{Runs, runs, covers}
 use Rattle.pmtl.specs.declared.Answer.{Answer}
 use Rattle.pmtl.specs.Answer.{bitOf, digitOf}
+use Rattle.pmtl.specs.Book.{Row, Rows, answer, some, itself}
+use Rattle.pmtl.specs.Book.Row.{never, always, atom, conj, disj, neg, implies, historically, once, since}
 use Rattle.pmtl.specs.Sets.{gone}
 use Rattle.pmtl.specs.Monitor.{value}
 use Rattle.pmtl.specs.Early.{early}
 use Rattle.pmtl.specs.Settled.{settled}
-use Rattle.memory.specs.Memory.{rowCount, clockOf, temporals, assumeCount, guaranteeCount, slotWords, propertyRow, valueAt, toldAt, earlyAt, settledAt, rowsOf, stateOf}
+use Rattle.memory.specs.Memory.{rowCount, clockOf, temporals, assumeCount, guaranteeCount, slotWords, propertyRow, valueAt, toldAt, earlyAt, settledAt, movesAt, rowsOf, stateOf}
 
 -- what is told of a set: that it has every instant from the clock on; that it has none of them; or neither
 abbrev pub COVERS : ℕ
@@ -40,6 +42,22 @@ settledOf m r = settled (rowsOf m) (stateOf m) r
 abbrev pub propertyCount : List ℕ → ℕ
 propertyCount m = assumeCount m + guaranteeCount m
 
+-- a row moves with the clock if it is temporal or an operand of it does
+unfoldable pub moveRule : Row Bool → Bool
+moveRule never = false
+moveRule always = false
+moveRule (atom a) = false
+moveRule (conj vs) = some itself vs
+moveRule (disj vs) = some itself vs
+moveRule (neg v) = v
+moveRule (implies l r) = l || r
+moveRule (historically g v) = true
+moveRule (once g v) = true
+moveRule (since g l r) = true
+
+abbrev pub moves : Rows → ℕ → Bool
+moves b = answer b false (λ r row. moveRule row)
+
 -- each row's word is its value
 pub record Valued (m : List ℕ) : Type 0 where
   pub right : (r : ℕ) → r < rowCount m → valueAt m r ≡ bitOf (valueOf m r)
@@ -53,8 +71,13 @@ pub record Answered (m : List ℕ) : Type 0 where
   pub early : (i : ℕ) → i < propertyCount m → earlyAt m i ≡ digitOf (earlyOf m (propertyRow m i))
   pub settled : (i : ℕ) → i < propertyCount m → settledAt m i ≡ digitOf (settledOf m (propertyRow m i))
 
+-- of each row it is known whether it moves
+pub record Moving (m : List ℕ) : Type 0 where
+  pub right : (r : ℕ) → r < rowCount m → movesAt m r ≡ bitOf (moves (rowsOf m) r)
+
 -- words of the tables that are not in use are 0
 pub record Unused (m : List ℕ) : Type 0 where
+  pub moves : (r : ℕ) → rowCount m ≤ r → r < MOST-ROWS → movesAt m r ≡ 0
   pub values : (r : ℕ) → rowCount m ≤ r → r < MOST-ROWS → valueAt m r ≡ 0
   pub told : (j : ℕ) → temporals m ≤ j → j < MOST-TEMPORALS → toldAt m j ≡ 0
   pub early : (i : ℕ) → propertyCount m ≤ i → i < MOST-PROPERTIES → earlyAt m i ≡ 0
@@ -65,4 +88,5 @@ pub record Tables (m : List ℕ) : Type 0 where
   pub valued : Valued m
   pub told : Told m
   pub answered : Answered m
+  pub moving : Moving m
   pub unused : Unused m

@@ -4,7 +4,7 @@ ghost use Prim.Native.Nat.{_<_};
 ghost use lib.ListN.{getD};
 ghost use Rattle.numbers.specs.Limits.{MOST-ROWS, MOST-OPERANDS, MOST-PROPERTIES, MOST-TEMPORALS};
 ghost use Rattle.memory.specs.Layout.{SIZE};
-ghost use Rattle.memory.specs.Memory.{rowCount, begunWord, clockOf, widthWord, temporals, assumeCount, guaranteeCount, kindAt, argAt, lowerAt, upperAt, startAt, wordsAt, slotAt, operandAt, propertyRow, ownerAt, atomsOf, slotWords, valueAt, toldAt, earlyAt, settledAt, isOne};
+ghost use Rattle.memory.specs.Memory.{rowCount, begunWord, clockOf, widthWord, temporals, assumeCount, guaranteeCount, kindAt, argAt, lowerAt, upperAt, startAt, wordsAt, slotAt, operandAt, propertyRow, ownerAt, atomsOf, slotWords, valueAt, toldAt, earlyAt, settledAt, movesAt, isOne};
 ghost use Rattle.memory.specs.Kept.{BookKept, Sound};
 ghost use Rattle.memory.specs.Tables.{propertyCount};
 use numbers::MOST_ATOMS;
@@ -70,6 +70,9 @@ pub const EARLY: usize = TOLD + MOST_TEMPORALS;
 
 pub const SETTLED: usize = EARLY + MOST_PROPERTIES;
 
+// And of each row whether a time call can change its value.
+pub const MOVES: usize = SETTLED + MOST_PROPERTIES;
+
 // What is told of a set: that it has every instant from the clock on, that it has none of them, or neither.
 pub const COVERS: u64 = 1;
 
@@ -78,7 +81,7 @@ pub const GONE: u64 = 2;
 pub const NEITHER: u64 = 0;
 
 // All words.
-pub const SIZE: usize = SETTLED + MOST_PROPERTIES;
+pub const SIZE: usize = MOVES + MOST_ROWS;
 
 // The word at a place.
 pub fn word(monitor: &[u64; SIZE], at: usize) -> u64
@@ -258,6 +261,14 @@ pub fn holds(monitor: &[u64; SIZE], row: usize) -> bool
     ensures { λ r. ⌜ r ≡ isOne (valueAt (now (monitor .entry)) row) ⌝ }
 {
     monitor[VALUES + row] == 1
+}
+
+// Whether a time call can change a row's value.
+pub fn moves_at(monitor: &[u64; SIZE], row: usize) -> bool
+    requires { ⌜ row < MOST-ROWS ⌝ }
+    ensures { λ r. ⌜ r ≡ isOne (movesAt (now (monitor .entry)) row) ⌝ }
+{
+    monitor[MOVES + row] == 1
 }
 
 // What was told of a set.

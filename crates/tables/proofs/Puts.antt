@@ -2,7 +2,7 @@
 use Prim.Native.Nat.{ℕ, _+_, _≤_, _<_}
 use native.Mathlib.Omega.{arith}
 use mathlib.Core.Path.{_≡_, refl, sym, ap, ap₂, _∙_}
-use mathlib.Core.Bool.{Bool, true, cond, _&&_}
+use mathlib.Core.Bool.{Bool, true, false, cond, _&&_}
 use mathlib.Core.List.{List}
 use lib.ListN.{length, getD, set}
 use lib.Seq.{set-getD}
@@ -15,19 +15,29 @@ use Rattle.numset.specs.Runs.{Runs, runs, Good}
 use Rattle.pmtl.specs.declared.Answer.{Answer}
 use Rattle.pmtl.specs.declared.Answer.the-variants.{Open}
 use Rattle.pmtl.specs.Answer.{bitOf, digitOf}
-use Rattle.pmtl.specs.Book.{Rows}
+use Rattle.pmtl.specs.Book.{Row, Rows, rowAt, mapRow, Below}
+use Rattle.pmtl.proofs.Table.{mapRow-local, answer-in}
 use Rattle.pmtl.specs.Monitor.{State, value}
 use Rattle.pmtl.specs.Early.{early}
 use Rattle.pmtl.specs.Settled.{settled}
-use Rattle.memory.specs.Layout.{VALUES, TOLD, EARLY, SETTLED, PROPERTIES, SIZE}
-use Rattle.memory.specs.Memory.{rowCount, begunWord, clockOf, temporals, slotWords, propertyRow, valueAt, toldAt, earlyAt, settledAt, rowsOf, stateOf, isOne}
-use Rattle.memory.specs.Tables.{standing, valueOf, earlyOf, settledOf, propertyCount, Valued, Told, Answered, Unused, Tables}
+use Rattle.memory.specs.Layout.{VALUES, TOLD, EARLY, SETTLED, MOVES, PROPERTIES, SIZE}
+use Rattle.memory.specs.Memory.{rowCount, begunWord, clockOf, temporals, slotWords, propertyRow, valueAt, toldAt, earlyAt, settledAt, movesAt, rowOf, rowsOf, stateOf, isOne}
+use Rattle.memory.specs.Tables.{standing, valueOf, earlyOf, settledOf, propertyCount, moveRule, moves, Valued, Told, Answered, Moving, Unused, Tables}
 use Rattle.memory.specs.Kept.{Sound}
 use Rattle.memory.specs.Alike.{Alike}
+use Rattle.memory.proofs.Rows.{rows-length, row-at, kept-ordered}
 use Rattle.memory.proofs.Alike.{alike-self, alike-on, alike-filled, alike-sound, alike-rows, alike-state, alike-set}
 use Rattle.row_answers.specs.Told.{earlyTold, settledTold}
 use Rattle.row_answers.proofs.Told.{told-early, told-settled, early-same, settled-same, alike-told}
-use Rattle.tables.specs.Puts.{valuesPut, standingAt, toldPut, earlyDigit, earlyPut, settledNow, settledDigit, settledPut}
+use Rattle.tables.specs.Puts.{bitIn, movesPut, valuesPut, standingAt, toldPut, earlyDigit, earlyPut, settledNow, settledDigit, settledPut}
+
+-- a word that is a bit says what it was made of
+pub bit-back : (b : Bool) → isOne (bitOf b) ≡ b
+bit-back true = refl
+bit-back false = refl
+
+abbrev pub move-word : List ℕ → ℕ → ℕ
+move-word m r = bitOf (moves (rowsOf m) r)
 
 -- ---- counts
 module _ {m : List ℕ} (sound : Sound m) where
@@ -72,20 +82,72 @@ module _ {m m′ : List ℕ} (sound : Sound m) (alike : Alike m m′) where
       let few = few-sets sound in
       record { right = rw same-sets (λ j h. let p : j < 32 = omega arith in same j p ∙ t .right j h ∙ sym (standing-same j p)) }
 
+  pub moving-same : ((r : ℕ) → r < 128 → movesAt m′ r ≡ movesAt m r) → Moving m → Moving m′
+  moving-same same v =
+      let few = few-rows sound in
+      record { right = rw (same-rows, alike-rows sound alike) (λ r h. same r (omega arith) ∙ v .right r h) }
+
   -- so are the words not in use, as far as they are the same
   pub unused-same :
       ((r : ℕ) → rowCount m ≤ r → r < 128 → valueAt m′ r ≡ valueAt m r)
       → ((j : ℕ) → temporals m ≤ j → j < 32 → toldAt m′ j ≡ toldAt m j)
       → ((i : ℕ) → propertyCount m ≤ i → i < 32 → earlyAt m′ i ≡ earlyAt m i)
       → ((i : ℕ) → propertyCount m ≤ i → i < 32 → settledAt m′ i ≡ settledAt m i)
+      → ((r : ℕ) → rowCount m ≤ r → r < 128 → movesAt m′ r ≡ movesAt m r)
       → Unused m → Unused m′
-  unused-same values told early settled u =
+  unused-same values told early settled moved u =
       record {
         values = rw same-rows (λ r p q. values r p q ∙ u .values r p q);
         told = rw same-sets (λ j p q. told j p q ∙ u .told j p q);
         early = rw same-properties (λ i p q. early i p q ∙ u .early i p q);
         settled = rw same-properties (λ i p q. settled i p q ∙ u .settled i p q);
+        moves = rw same-rows (λ r p q. moved r p q ∙ u .moves r p q);
       }
+
+-- ---- which rows move
+module _ {m : List ℕ} (sound : Sound m) where
+  -- as a loop finds it
+  module _ (n : ℕ) {m′ : List ℕ} (e : m′ ≡ filledFrom MOVES (move-word m) m n) where
+    moves-alike : Alike m m′
+    moves-alike = rw e (alike-filled m MOVES (move-word m) n (omega arith))
+
+    pub moves-sound : Sound m′
+    moves-sound = alike-sound sound moves-alike
+
+    pub moves-count : rowCount m′ ≡ rowCount m
+    moves-count = moves-alike .below 0 (omega arith)
+
+    pub moves-more : n < rowCount m → {v : Bool} → v ≡ moveRule (mapRow (bitIn m′ MOVES) (rowOf m′ n)) → {d w : ℕ} → d ≡ bitOf v → w ≡ d → set m′ (MOVES + n) w ≡ filledFrom MOVES (move-word m) m (n + 1)
+    moves-more h ev ed ew =
+        let few = few-rows sound in
+        let long = sound .book .long in
+        let h′ : n < rowCount m′ = rw moves-count h in
+        let row : rowOf m′ n ≡ rowOf m n = sym (row-at m′ n h′) ∙ ap (λ (b : Rows). rowAt b n) (alike-rows sound moves-alike) ∙ row-at m n h in
+        let low : Below n (rowOf m n) = rw (row-at m n h) at (kept-ordered (sound .book) n) in
+        let bits : (o : ℕ) → o < n → bitIn m′ MOVES o ≡ moves (rowsOf m) o =
+        λ o l. ap (λ (x : List ℕ). bitIn x MOVES o) e ∙ ap isOne (filledFrom-at MOVES (move-word m) m 0 n o l (omega arith)) ∙ bit-back (moves (rowsOf m) o) in
+        filledFrom-more MOVES (move-word m) m e
+        (ew ∙ ed ∙ ap bitOf (ev ∙ ap (λ (x : Row ℕ). moveRule (mapRow (bitIn m′ MOVES) x)) row ∙ ap moveRule (mapRow-local n (bitIn m′ MOVES) (moves (rowsOf m)) bits (rowOf m n) low)
+        ∙ sym (answer-in (rowsOf m) false (λ r x. moveRule x) (kept-ordered (sound .book)) n (rw rows-length h) ∙ ap (λ (x : Row ℕ). moveRule (mapRow (moves (rowsOf m)) x)) (row-at m n h))))
+
+  pub moves-put-alike : Alike m (movesPut m)
+  moves-put-alike = moves-alike (rowCount m) refl
+
+  pub moves-moving : Moving (movesPut m)
+  moves-moving =
+      let few = few-rows sound in
+      let long = sound .book .long in
+      record { right = rw (moves-count (rowCount m) refl, alike-rows sound moves-put-alike) (λ r h. filledFrom-at MOVES (move-word m) m 0 (rowCount m) r h (omega arith)) }
+
+  moves-before : (k : ℕ) → k < MOVES → getD (movesPut m) k 0 ≡ getD m k 0
+  moves-before k h = filledFrom-before MOVES (move-word m) m 0 (rowCount m) k h
+
+  pub moves-unused : Unused m → Unused (movesPut m)
+  moves-unused =
+      unused-same sound moves-put-alike
+      (λ r p q. moves-before (VALUES + r) (omega arith)) (λ j p q. moves-before (TOLD + j) (omega arith))
+      (λ i p q. moves-before (EARLY + i) (omega arith)) (λ i p q. moves-before (SETTLED + i) (omega arith))
+      (λ r p q. filledFrom-after MOVES (move-word m) m 0 (rowCount m) (MOVES + r) (omega arith))
 
 -- ---- the values
 module _ {m : List ℕ} (sound : Sound m) where
@@ -126,7 +188,10 @@ module _ {m : List ℕ} (sound : Sound m) where
       let few = few-rows sound in
       unused-same sound values-alike
       (λ r p q. values-after (VALUES + r) (omega arith)) (λ j p q. values-after (TOLD + j) (omega arith))
-      (λ i p q. values-after (EARLY + i) (omega arith)) (λ i p q. values-after (SETTLED + i) (omega arith))
+      (λ i p q. values-after (EARLY + i) (omega arith)) (λ i p q. values-after (SETTLED + i) (omega arith)) (λ r p q. values-after (MOVES + r) (omega arith))
+
+  pub values-moving : Moving m → Moving (valuesPut m)
+  values-moving = let few = few-rows sound in moving-same sound values-alike (λ r h. values-after (MOVES + r) (omega arith))
 
 -- ---- what the rows are told
 -- how far a loop has told them, and whether that is all as before
@@ -181,7 +246,10 @@ module _ {m : List ℕ} (sound : Sound m) where
       let few = few-sets sound in
       unused-same sound told-alike
       (λ r p q. filledFrom-before TOLD (standingAt m) m 0 (temporals m) (VALUES + r) (omega arith)) (λ j p q. told-after (TOLD + j) (omega arith))
-      (λ i p q. told-after (EARLY + i) (omega arith)) (λ i p q. told-after (SETTLED + i) (omega arith))
+      (λ i p q. told-after (EARLY + i) (omega arith)) (λ i p q. told-after (SETTLED + i) (omega arith)) (λ r p q. told-after (MOVES + r) (omega arith))
+
+  pub told-moving : Moving m → Moving (toldPut m)
+  told-moving = let few = few-sets sound in moving-same sound told-alike (λ r h. told-after (MOVES + r) (omega arith))
 
 -- ---- the digits, which are put by what was told
 module _ {m : List ℕ} (sound : Sound m) (a : ℕ) (f : ℕ → ℕ) (n : ℕ) (far : EARLY ≤ a) where
@@ -237,7 +305,7 @@ pub early-sound : {m : List ℕ} → Sound m → Sound (earlyPut m)
 early-sound {m} sound = alike-sound sound (digits-alike sound EARLY (earlyDigit m) (propertyCount m) (omega arith))
 
 -- ---- the tables are right once the digits are put where values and what was told are
-module _ {m : List ℕ} (sound : Sound m) (valued : Valued m) (told : Told m) (unused : Unused m) where
+module _ {m : List ℕ} (sound : Sound m) (valued : Valued m) (told : Told m) (moving : Moving m) (unused : Unused m) where
   abbrev early-put : List ℕ
   early-put = earlyPut m
 
@@ -294,7 +362,15 @@ module _ {m : List ℕ} (sound : Sound m) (valued : Valued m) (told : Told m) (u
       (λ j p q. before₂ (TOLD + j) (omega arith) ∙ before₁ (TOLD + j) (omega arith))
       (λ i p q. before₂ (EARLY + i) (omega arith) ∙ after₁ (EARLY + i) (omega arith))
       (λ i p q. filledFrom-after SETTLED (settledDigit early-put) early-put 0 (propertyCount early-put) (SETTLED + i) (omega (arith, count₁)) ∙ after₁ (SETTLED + i) (omega arith))
+      (λ r p q. filledFrom-after SETTLED (settledDigit early-put) early-put 0 (propertyCount early-put) (MOVES + r) (omega (arith, count₁)) ∙ after₁ (MOVES + r) (omega arith))
       unused
+
+  moving₂ : Moving (settledPut early-put)
+  moving₂ =
+      let few = few-properties sound in
+      moving-same sound asked-alike (λ r h.
+      filledFrom-after SETTLED (settledDigit early-put) early-put 0 (propertyCount early-put) (MOVES + r) (omega (arith, count₁))
+      ∙ filledFrom-after EARLY (earlyDigit m) m 0 (propertyCount m) (MOVES + r) (omega arith)) moving
 
   pub asked-tables : Tables (settledPut early-put)
   asked-tables =
@@ -303,6 +379,7 @@ module _ {m : List ℕ} (sound : Sound m) (valued : Valued m) (told : Told m) (u
         valued = valued₂;
         told = told₂;
         answered = record { early = rw count early-word; settled = rw count settled-word };
+        moving = moving₂;
         unused = unused₂;
       }
 
@@ -313,12 +390,19 @@ told-sound {m} sound = alike-sound sound (told-alike sound)
 pub values-put-sound : {m : List ℕ} → Sound m → Sound (valuesPut m)
 values-put-sound {m} sound = values-sound sound (rowCount m) refl
 
+pub moves-put-sound : {m : List ℕ} → Sound m → Sound (movesPut m)
+moves-put-sound {m} sound = alike-sound sound (moves-put-alike sound)
+
 pub worked-out : {m : List ℕ} → Sound m → Unused m
-    → Alike m (settledPut (earlyPut (toldPut (valuesPut m)))) × Tables (settledPut (earlyPut (toldPut (valuesPut m))))
+    → Alike m (settledPut (earlyPut (toldPut (valuesPut (movesPut m))))) × Tables (settledPut (earlyPut (toldPut (valuesPut (movesPut m)))))
 worked-out {m} sound unused =
-    let sound₁ = values-put-sound sound in
+    let sound₀ = moves-put-sound sound in
+    let unused₀ = moves-unused sound unused in
+    let sound₁ = values-put-sound sound₀ in
     let sound₂ = told-sound sound₁ in
-    let valued₂ = told-valued sound₁ (values-valued sound) in
+    let valued₂ = told-valued sound₁ (values-valued sound₀) in
     let told₂ = told-told sound₁ in
-    let unused₂ = told-unused sound₁ (values-unused sound unused) in
-    (alike-on (values-alike sound) (alike-on (told-alike sound₁) (asked-alike sound₂ valued₂ told₂ unused₂)), asked-tables sound₂ valued₂ told₂ unused₂)
+    let moving₂ = told-moving sound₁ (values-moving sound₀ (moves-moving sound)) in
+    let unused₂ = told-unused sound₁ (values-unused sound₀ unused₀) in
+    let to₁ = alike-on (moves-put-alike sound) (values-alike sound₀) in
+    (alike-on to₁ (alike-on (told-alike sound₁) (asked-alike sound₂ valued₂ told₂ moving₂ unused₂)), asked-tables sound₂ valued₂ told₂ moving₂ unused₂)

@@ -1,16 +1,25 @@
 -- A memory with one of its tables worked out anew from the words before the tables, and the digits by what was told. Definitions only.
-use Prim.Native.Nat.{ℕ}
-use mathlib.Core.Bool.{cond}
+use Prim.Native.Nat.{ℕ, _+_}
+use mathlib.Core.Bool.{Bool, cond}
 use mathlib.Core.List.{List}
+use lib.ListN.{getD}
 use Rattle.lists.specs.Lists.{filledFrom}
 use Rattle.numset.specs.Runs.{runs}
 use Rattle.pmtl.specs.declared.Answer.{Answer}
 use Rattle.pmtl.specs.declared.Answer.the-variants.{Open}
 use Rattle.pmtl.specs.Answer.{bitOf, digitOf}
-use Rattle.memory.specs.Layout.{VALUES, TOLD, EARLY, SETTLED}
-use Rattle.memory.specs.Memory.{rowCount, begunWord, clockOf, temporals, slotWords, propertyRow, isOne}
-use Rattle.memory.specs.Tables.{standing, valueOf, propertyCount}
+use Rattle.memory.specs.Layout.{VALUES, TOLD, EARLY, SETTLED, MOVES}
+use Rattle.memory.specs.Memory.{rowCount, begunWord, clockOf, temporals, slotWords, propertyRow, isOne, rowsOf}
+use Rattle.memory.specs.Tables.{standing, moves, valueOf, propertyCount}
 use Rattle.row_answers.specs.Told.{earlyTold, settledTold}
+
+-- what a table of bits has of row o
+abbrev pub bitIn : List ℕ → ℕ → ℕ → Bool
+bitIn m table o = isOne (getD m (table + o) 0)
+
+-- of each row whether it moves with the clock
+abbrev pub movesPut : List ℕ → List ℕ
+movesPut m = filledFrom MOVES (λ r. bitOf (moves (rowsOf m) r)) m (rowCount m)
 
 -- each row's value
 abbrev pub valuesPut : List ℕ → List ℕ

@@ -1,25 +1,78 @@
 // The tables of a monitor's memory, worked out from the book, the clock, the atoms and the sets.
 ghost use mathlib.Core.Path.{_≡_};
 ghost use mathlib.Core.Bool.{Bool, true, cond, _&&_};
-ghost use Prim.Native.Nat.{_<_};
+ghost use mathlib.Core.List.{map};
+ghost use Prim.Native.Nat.{_+_, _≤_, _<_};
 ghost use lib.Dec.{eqb};
 ghost use Rattle.numset.specs.Runs.{Good, runs};
 ghost use Rattle.pmtl.specs.Sets.{gone};
-ghost use Rattle.memory.specs.Memory.{rowCount, begunWord, isOne};
-ghost use Rattle.memory.specs.Tables.{standing, Unused, Tables};
-ghost use Rattle.memory.specs.Kept.{BookKept, Sound};
+ghost use Rattle.numbers.specs.Limits.{MOST-ROWS};
+ghost use Rattle.pmtl.specs.Book.{mapRow};
+ghost use Rattle.memory.specs.Layout.{MOVES, SIZE};
+ghost use Rattle.memory.specs.Memory.{rowCount, begunWord, operandsFrom, rowOf, isOne};
+ghost use Rattle.memory.specs.Tables.{standing, moveRule, Unused, Tables};
+ghost use Rattle.memory.specs.Kept.{BookKept, Span, Sound};
 ghost use Rattle.memory.specs.Alike.{Alike};
 ghost use Rattle.row_answers.specs.Told.{settledTold};
-ghost use Rattle.tables.specs.Puts.{valuesPut, toldPut, earlyPut, settledPut};
+ghost use Rattle.row_answers.specs.Private.{joined};
+ghost use Rattle.tables.specs.Puts.{bitIn, movesPut, valuesPut, toldPut, earlyPut, settledPut};
+use book::HISTORICALLY;
 use memory::COVERS;
 use memory::EARLY;
 use memory::GONE;
+use memory::MOVES;
 use memory::NEITHER;
 use memory::SETTLED;
 use memory::SIZE;
 use memory::TOLD;
 use memory::VALUES;
 use pmtl::Answer;
+
+// And, which stops at a false, or Or, which stops at a true, of what a table has of `left` operands from `place` on.
+pub fn joined_at(monitor: &[u64; SIZE], table: usize, place: usize, left: usize, stop: bool) -> bool
+    requires { ⌜ BookKept (now monitor) × (table + MOST-ROWS ≤ SIZE) ⌝ }
+    requires { ⌜ Span (now monitor) (rowCount (now monitor)) place left ⌝ }
+    ensures { λ r. ⌜ r ≡ joined stop (map (bitIn (now (monitor .entry)) table) (operandsFrom (now (monitor .entry)) place left)) ⌝ }
+{
+    let mut at = place;
+    let mut rest = left;
+    while rest != 0 {
+        if (memory::word(monitor, table + memory::operand_at(monitor, at)) == 1) == stop {
+            return stop;
+        }
+        at += 1;
+        rest -= 1;
+    }
+    !stop
+}
+
+// Whether a row moves with the clock, where it is known of its operands.
+fn moves_here(monitor: &[u64; SIZE], row: usize) -> bool
+    requires { ⌜ Sound (now monitor) ⌝ }
+    requires { ⌜ row < rowCount (now monitor) ⌝ }
+    ensures { λ r. ⌜ r ≡ moveRule (mapRow (bitIn (now (monitor .entry)) MOVES) (rowOf (now (monitor .entry)) row)) ⌝ }
+{
+    let words = memory::row_at(monitor, row);
+    if words.kind < HISTORICALLY {
+        let count = book::check::taken_by(words.kind, words.arg as u64);
+        return joined_at(monitor, MOVES, words.start, count, true);
+    }
+    true
+}
+
+// Of each row, from row 0 upward, whether it moves with the clock.
+fn fill_moves(monitor: &mut [u64; SIZE])
+    requires { ⌜ Sound (now monitor) ⌝ }
+    ensures { λ _. ⌜ now (monitor .exit) ≡ movesPut (now (monitor .entry)) ⌝ }
+{
+    let count = memory::row_count(monitor);
+    let mut row = 0;
+    while row < count {
+        let moves = moves_here(monitor, row);
+        monitor[MOVES + row] = lists::wide(pmtl::bit(moves));
+        row += 1;
+    }
+}
 
 // Each row's value, by the walk down from it.
 pub fn fill_values(monitor: &mut [u64; SIZE])
@@ -140,6 +193,7 @@ pub fn work_out(monitor: &mut [u64; SIZE])
     requires { ⌜ Sound (now monitor) × Unused (now monitor) ⌝ }
     ensures { λ _. ⌜ Alike (now (monitor .entry)) (now (monitor .exit)) × Tables (now (monitor .exit)) ⌝ }
 {
+    fill_moves(monitor);
     fill_values(monitor);
     retell(monitor);
     ask(monitor);
