@@ -24,9 +24,9 @@ use Rattle.pmtl.specs.Book.{Range, Rows, start, stop}
 use Rattle.pmtl.specs.Monitor.{Snap, State, setAt, value}
 use Rattle.pmtl.specs.Calls.{crowded, play}
 use Rattle.pmtl.proofs.Answers.{step-sets, step-now, step-begun}
-use Rattle.memory.specs.Layout.{ROWS, ROW, ATOMS, OWNERS, SET, VALUES, TOLD, EARLY, SETTLED}
+use Rattle.memory.specs.Layout.{ROWS, ROW, ATOMS, OWNERS, SET, VALUES, TOLD, EARLY, SETTLED, MOVES}
 use Rattle.memory.specs.Memory.{begunWord, clockOf, widthWord, temporals, rowCount, kindAt, slotAt, ownerAt, setStart, slotWords, propertyRow, valueAt, toldAt, rowsOf, setOf, stateOf, isOne, rangeAt}
-use Rattle.memory.specs.Tables.{valueOf, propertyCount, Valued, Told, Unused, Tables}
+use Rattle.memory.specs.Tables.{valueOf, propertyCount, Valued, Told, Moving, Unused, Tables}
 use Rattle.memory.specs.Kept.{Sound, Kept}
 use Rattle.memory.specs.Alike.{Alike}
 use Rattle.memory.proofs.Rows.{rows-length}
@@ -35,7 +35,7 @@ use Rattle.memory.proofs.Stepped.{Stepped, kept-step, step-book, rows-of-same, 
 use Rattle.row_answers.specs.Told.{earlyTold}
 use Rattle.row_answers.proofs.Told.{told-early, told-settled, early-same, settled-same}
 use Rattle.tables.specs.Puts.{valuesPut, toldPut, earlyPut, settledNow, settledPut}
-use Rattle.tables.proofs.Puts.{few-properties, answer-same, told-alike, told-sound, told-valued, told-told, told-unused, asked-alike, asked-tables}
+use Rattle.tables.proofs.Puts.{few-properties, answer-same, told-alike, told-sound, told-valued, told-told, told-moving, told-unused, asked-alike, asked-tables}
 use Rattle.set_change.specs.Change.{changed}
 use Rattle.set_change.proofs.Changes.{changed-under}
 use Rattle.calls.specs.Private.{Bytes, snapOf, stepOf, setAfter, valueAfter, clocked, Planned, Written, Atoms, Moved, Tried, Timely, Fitting, Asked, Due, Advanced}
@@ -234,7 +234,7 @@ module _
     atoms-are =
         let wd = width-same m m₂ (kept .sound) stepped in
         let f : ℕ → Bool = λ i. isOne (getD m₂ (ATOMS + i) 0) in
-        let long : length (take (widthWord m) atoms) ≡ widthWord m = length-take-le (widthWord m) atoms (let l = bytes .long in let n = kept .sound .book .narrow in omega arith) in
+        let long : length (take (widthWord m) atoms) ≡ widthWord m = length-take-le (widthWord m) atoms (bytes .long) in
         ap (listed f) wd
         ∙ ext-getD false (listed f (widthWord m)) (map isOne (take (widthWord m) atoms)) (listed-length f (widthWord m) ∙ sym (length-map (take (widthWord m) atoms) isOne ∙ long))
         (λ i lt.
@@ -324,6 +324,7 @@ module _
           told = rw (temporals-same m m₂ (kept .sound) stepped) (λ j p q. beyond-now (TOLD + j) (omega arith) ∙ u .told j p q);
           early = rw count-now (λ i p q. beyond-now (EARLY + i) (omega arith) ∙ u .early i p q);
           settled = rw count-now (λ i p q. beyond-now (SETTLED + i) (omega arith) ∙ u .settled i p q);
+          moves = rw rows-now (λ r p q. beyond-now (MOVES + r) (omega arith) ∙ u .moves r p q);
         }
 
     told-now : (o : ℕ) → o < rowCount m → 7 ≤ kindAt m o → toldAt m₂ (slotAt m₂ o) ≡ toldAt m (slotAt m o)
@@ -351,8 +352,13 @@ module _
               ∙ ap (settledNow m₂) (sym (property-now i h))));
         }
 
+    moving-now : Moving m₂
+    moving-now =
+        let rows = kept .sound .book .few in
+        record { right = rw (rows-now, rows-of-same m m₂ (kept .sound) stepped) (λ r h. beyond-now (MOVES + r) (omega arith) ∙ kept .tables .moving .right r h) }
+
     pub due : {first : Bool} → first ≡ eqb (begunWord m) 0 → Due m₂ first
-    due ef = record { sound = sound-now; valued = valued-now; unused = unused-now; asked = asked-now ef }
+    due ef = record { sound = sound-now; valued = valued-now; moving = moving-now; unused = unused-now; asked = asked-now ef }
 
 unmoved : {m : List ℕ} {c : ℕ} (atoms : List ℕ) → crowded (stepOf m c atoms) ≡ true → Advanced m (snapOf c atoms (widthWord m) ∷ []) m 11
 unfolding play
@@ -390,8 +396,9 @@ module _ {m : List ℕ} {first : Bool} (due : Due m first) where
       let sound₁ = told-sound sound in
       let valued₁ = told-valued sound (due .valued) in
       let told₁ = told-told sound in
+      let moving₁ = told-moving sound (due .moving) in
       let unused₁ = told-unused sound (due .unused) in
-      rw (e₂, e₁) (alike-on (told-alike sound) (asked-alike sound₁ valued₁ told₁ unused₁), asked-tables sound₁ valued₁ told₁ unused₁)
+      rw (e₂, e₁) (alike-on (told-alike sound) (asked-alike sound₁ valued₁ told₁ moving₁ unused₁), asked-tables sound₁ valued₁ told₁ moving₁ unused₁)
 
   -- nothing new: the digits are those that stand there
   pub renewed-still : {m₁ : List ℕ} → m₁ ≡ toldPut m → m₁ ≡ m → first ≡ false → Alike m m₁ × Tables m₁
@@ -407,6 +414,7 @@ module _ {m : List ℕ} {first : Bool} (due : Due m first) where
             early = λ i h. due .asked .early i h ∙ ap digitOf (told-early m sound (told .right) (propertyRow m i));
             settled = λ i h. due .asked .settled not-first i h ∙ ap digitOf (told-settled m sound (told .right) (propertyRow m i));
           };
+          moving = due .moving;
           unused = due .unused;
         },
       )

@@ -19,7 +19,7 @@ use Rattle.book.specs.Rows.{rowFrom, countOf}
 use Rattle.row_answers.specs.Private.{joined}
 use Rattle.row_answers.proofs.Answers.{read-words, span-as, span-book, atom-named, first-inside, second-inside}
 use Rattle.row_answers.proofs.Values.{joined-nil, joined-stop, joined-on}
-use Rattle.calls.specs.Private.{heldIn, atomsIn}
+use Rattle.calls.specs.Private.{heldIn, atomsIn, Named}
 
 -- ---- the value of a row that is not temporal, from its words
 module _ {m : List ℕ} {r : ℕ} {words : RowWords} (kept : BookKept m) (inside : r < rowCount m) (ew : words ≡ wordsAt m r) (atoms : List ℕ) where
@@ -118,3 +118,8 @@ is-implies (suc (suc (suc (suc (suc (suc (suc k))))))) h n = absurd (omega arith
 
 pub past-five : (m : List ℕ) (r : ℕ) {words : RowWords} → words ≡ wordsAt m r → kindAt m r < 7 → PastFive (words .kind) → words .kind ≡ 6
 past-five m r {words} ew h n = is-implies (words .kind) (rw (ap (λ (w : RowWords). w .kind) ew) h) n
+
+-- an atom has its byte
+pub named-inside : {m bytes : List ℕ} {r : ℕ} {words : RowWords} → Named m bytes r → words ≡ wordsAt m r → words .kind ≡ 2 → words .arg < length bytes
+named-inside {m} {bytes} {r} {words} n ew k =
+    rw (ap (λ (w : RowWords). w .arg) ew) (n .inside (sym (ap (λ (w : RowWords). w .kind) ew) ∙ k))

@@ -7,3 +7,5 @@ pub mod Advances
 pub mod Public
 pub mod Joins
 pub mod Tries
+pub mod Still
+pub mod Looks

@@ -28,6 +28,7 @@ use Rattle.memory.specs.Alike.{Alike}
 use Rattle.memory.proofs.Rows.{rows-length, row-at, kept-ordered}
 use Rattle.memory.proofs.Alike.{alike-filled, alike-sound, alike-rows, alike-state}
 use Rattle.set_change.specs.Change.{changed, modeIn}
+use Rattle.set_change.proofs.Changes.{changed-0, room-else}
 use Rattle.calls.specs.declared.RowPlan.{RowPlan}
 use Rattle.calls.specs.Private.{snapOf, stepOf, heldIn, atomsIn, setNext, valueNext, modeAt, setAfter, rowPlan, modePut, RowTried, valueAfter, Planned, Bounded, Slot}
 use Rattle.calls.proofs.Rules.{no-set, changed-set, set-at, set-of-slot, bit-held}
@@ -203,7 +204,7 @@ module _ {m : List ℕ} {c : ℕ} {atoms : List ℕ} (sound : Sound m) where
           ∙ ap (setRule c (setOf m n)) operands-right
           ∙ sym (set-now m (sound .book) c atoms n h)
 
-      module _ {m″ modes′ : List ℕ} {room : Bool} (t : RowTried m′ c atoms modes n m″ modes′ room) where
+      module _ {bytes m″ modes′ : List ℕ} {room : Bool} (same : valueNext m′ c bytes n ≡ valueNext m′ c atoms n) (t : RowTried m′ c bytes modes n m″ modes′ room) where
         fits-right : fits SET (setAt (stepOf m c atoms) n) ≡ room
         fits-right = sym (ap (fits SET) set-right) ∙ sym (t .room-is)
 
@@ -242,7 +243,7 @@ module _ {m : List ℕ} {c : ℕ} {atoms : List ℕ} (sound : Sound m) where
             rw (t .mode-put e)
             (record {
               few = omega arith;
-              values = t .value-put e ∙ filledFrom-more VALUES (valueAfter m c atoms) m (g .values) (ap bitOf value-right);
+              values = t .value-put e ∙ filledFrom-more VALUES (valueAfter m c atoms) m (g .values) (ap bitOf (same ∙ value-right));
               modes-long = put-long;
               sets = λ j l p.
                   ⊎-elim
@@ -327,3 +328,11 @@ module _ {m : List ℕ} {c j r : ℕ} (slot : Slot m c j r) where
         let er′ : room ≡ fits SET (setAfter m c wanted j) = er ∙ ap₂ (λ (n : ℕ) (rs : Runs). fits n rs) long q in
         let eh′ : here ≡ has (setAfter m c wanted j) c = eh ∙ ap (λ (rs : Runs). has rs c) q in
         λ i. record { mode = em i; here = eh′ i; room = er′ i }
+
+    -- a set that stays has room for itself
+    pub plan-stays :
+        {mode : ℕ} {here : Bool} → mode ≡ 0 → here ≡ has (runs p) c → {wanted : ℕ} → mode ≡ wanted → record { mode = mode; here = here; room = true } ≡ rowPlan m c wanted j
+    plan-stays {mode} {here} z eh {wanted} em =
+        let g = rangeAt m r in
+        let still : changed mode (start g c) (stop g c) (runs p) ≡ runs p = changed-0 (start g c) (stop g c) (runs p) mode z in
+        plan-made refl refl (room-else mode (start g c) (stop g c) slot-good slot-long (λ one. omega arith)) (eh ∙ sym (ap (λ (rs : Runs). has rs c) still)) em

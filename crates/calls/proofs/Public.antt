@@ -22,10 +22,10 @@ use Rattle.memory.specs.Tables.{Tables}
 use Rattle.memory.specs.Kept.{Sound, Kept}
 use Rattle.memory.specs.Alike.{Alike}
 use Rattle.memory.proofs.Alike.{alike-sound, alike-book, alike-state}
-use Rattle.calls.specs.Private.{firstBytes, Bytes, snapOf, Atoms, Tried, Due, Advanced}
+use Rattle.calls.specs.Private.{Bytes, snapOf, Atoms, Tried, Due, Advanced}
 use Rattle.calls.specs.Called.{Called}
 use Rattle.calls.proofs.Plans.{some-hit}
-use Rattle.calls.proofs.Heads.{first-bytes, first-take}
+use Rattle.calls.proofs.Heads.{old-same, old-bytes, old-atoms}
 use Rattle.calls.proofs.Advances.{moved-width, played, due, has-room, tried-moved, tried-refused, tried-stands}
 
 -- ---- a call that is refused for itself, and one that is not
@@ -66,28 +66,6 @@ module _ {m : List ℕ} (kept : Kept m) where
   state-timely ec = (kept, rw ec (kept .sound .clock))
 
   -- ---- a time call
-  old-same : (i : ℕ) → i < widthWord m → getD m (ATOMS + i) 0 ≡ getD (atomsOf m) i 0
-  old-same i h = sym (listed-at (atomAt m) 0 256 i (omega (arith, narrow)))
-
-  old-bytes : Bytes (atomsOf m) (widthWord m)
-  old-bytes = record {
-    long = listed-length (atomAt m) 256;
-    bits = λ i h. rw (sym (old-same i h)) (kept .sound .atoms i h);
-  }
-
-  old-atoms : map isOne (take (widthWord m) (atomsOf m)) ≡ listed (λ i. isOne (atomAt m i)) (widthWord m)
-  old-atoms =
-      let w : ℕ = widthWord m in
-      let f : ℕ → Bool = λ i. isOne (atomAt m i) in
-      let bytes : List ℕ = take w (atomsOf m) in
-      let long : length (map isOne bytes) ≡ w = length-map bytes isOne ∙ length-take-le w (atomsOf m) (omega (arith, listed-length (atomAt m) 256, narrow)) in
-      ext-getD false (map isOne bytes) (listed f w) (long ∙ sym (listed-length f w))
-      (λ i lt.
-      let h : i < w = omega arith in
-      List·getD-map isOne bytes i 0
-      ∙ ap isOne (getD-take w (atomsOf m) i 0 h ∙ sym (old-same i h))
-      ∙ sym (listed-at f false w i h))
-
   module _ {t clock : ℕ} (ec : clock ≡ clockOf m) where
     pub time-early : t < clock → Called (time t) m m 7
     unfolding refusal stateOf
@@ -101,25 +79,22 @@ module _ {m : List ℕ} (kept : Kept m) where
       time-played : {m′ : List ℕ} {r : ℕ} → Advanced m (snapOf t (atomsOf m) (widthWord m) ∷ []) m′ r → Kept m′ → Called (time t) m m′ r
       unfolding refusal stateOf
       time-played a kept′ =
-          called-played (let e = le-ltb t (clockOf m) (omega arith) in rw (e, le-ltb LAST-TIME t k)) (ap (λ (bs : List Bool). record { clock = t; atoms = bs } ∷ []) old-atoms) a kept′
+          called-played (let e = le-ltb t (clockOf m) (omega arith) in rw (e, le-ltb LAST-TIME t k)) (ap (λ (bs : List Bool). record { clock = t; atoms = bs } ∷ []) (old-atoms (kept .sound))) a kept′
 
-      module _ {atoms m₁ : List ℕ} {r : ℕ} (ea : atoms ≡ atomsOf m) (tried : Tried m t atoms m₁ r) where
-        as-atoms : Tried m t (atomsOf m) m₁ r
-        as-atoms = subst (λ (xs : List ℕ). Tried m t xs m₁ r) ea tried
-
+      module _ {m₁ : List ℕ} {r : ℕ} (tried : Tried m t (atomsOf m) m₁ r) where
         pub time-full : (r ≡ 0 → ⊥) → Called (time t) m m₁ r
-        time-full ne = let q = tried-refused as-atoms ne in time-played (q .0) (rw (q .1) kept)
+        time-full ne = let q = tried-refused tried ne in time-played (q .0) (rw (q .1) kept)
 
         -- its atoms stand there already
         stands : r ≡ 0 → Atoms m₁ (atomsOf m) (widthWord m₁) m₁
-        stands = tried-stands as-atoms (kept .sound) old-same
+        stands = tried-stands tried (kept .sound) (old-same (kept .sound))
 
         pub time-due : r ≡ 0 → {first : Bool} → first ≡ eqb (begunWord m) 0 → Due m₁ first
-        time-due z ef = due kept k old-bytes (has-room as-atoms z) (tried-moved as-atoms z) (stands z) ef
+        time-due z ef = due kept k (old-bytes (kept .sound)) (has-room tried z) (tried-moved tried z) (stands z) ef
 
         pub time-done : {m₂ : List ℕ} → r ≡ 0 → Alike m₁ m₂ × Tables m₂ → Called (time t) m m₂ 0
         time-done z renewed =
-            let a = played kept k old-bytes (has-room as-atoms z) (tried-moved as-atoms z) (stands z) in
+            let a = played kept k (old-bytes (kept .sound)) (has-room tried z) (tried-moved tried z) (stands z) in
             let q = advanced-renewed a (time-due z refl .sound) renewed in
             time-played (q .0) (q .1)
 
@@ -142,38 +117,34 @@ module _ {m : List ℕ} (kept : Kept m) where
         unfolding refusal
         state-other e = called-refused kept (rw (le-ltb MOST-ATOMS (length s) h, width, le-ltb (length s) w k, ← eb, e)) (omega arith)
 
-        new-narrow : w ≤ 256
-        new-narrow = omega (arith, narrow)
-
         module _ (e : b ≡ false) where
           bit-each : (i : ℕ) → i < length s → getD s i 0 ≤ 1
           bit-each i lt = ltb-false 1 (getD s i 0) (fails-by (ltb 1 (getD s i 0)) (λ z. true≢false (sym (some-hit (ltb 1) 0 s i lt z) ∙ sym eb ∙ e)))
 
-          new-bytes : {atoms : List ℕ} → atoms ≡ firstBytes s w → Bytes atoms (widthWord m)
-          new-bytes ea = rw (ea, ← ew) (first-bytes w s k new-narrow (λ i lt. bit-each i (omega arith)))
+          new-bytes : Bytes s (widthWord m)
+          new-bytes = record { long = rw (← ew) k; bits = λ i lt. bit-each i (omega arith) }
 
-          state-played : {atoms m′ : List ℕ} {r clock : ℕ} → clock ≡ clockOf m → atoms ≡ firstBytes s w → Advanced m (snapOf clock atoms (widthWord m) ∷ []) m′ r → Kept m′ → Called (state s) m m′ r
+          state-played : {m′ : List ℕ} {r clock : ℕ} → clock ≡ clockOf m → Advanced m (snapOf clock s (widthWord m) ∷ []) m′ r → Kept m′ → Called (state s) m m′ r
           unfolding refusal stateOf
-          state-played {atoms} ec ea a kept′ =
+          state-played ec a kept′ =
               called-played (rw (le-ltb MOST-ATOMS (length s) h, width, le-ltb (length s) w k, ← eb, e))
-              (ap₂ (λ (c : ℕ) (xs : List ℕ). record { clock = c; atoms = map isOne xs } ∷ []) ec
-              (ap₂ (λ (n : ℕ) (xs : List ℕ). take n xs) (sym ew) ea ∙ first-take w s k new-narrow ∙ ap (λ (n : ℕ). take n s) (sym width))) a kept′
+              (ap₂ (λ (c n : ℕ). record { clock = c; atoms = map isOne (take n s) } ∷ []) ec (kept .sound .book .width)) a kept′
 
-          module _ {atoms m₁ : List ℕ} {r clock : ℕ} (ec : clock ≡ clockOf m) (ea : atoms ≡ firstBytes s w) (tried : Tried m clock atoms m₁ r) where
+          module _ {m₁ : List ℕ} {r clock : ℕ} (ec : clock ≡ clockOf m) (tried : Tried m clock s m₁ r) where
             pub state-full : (r ≡ 0 → ⊥) → Called (state s) m m₁ r
-            state-full ne = let q = tried-refused tried ne in state-played ec ea (q .0) (rw (q .1) kept)
+            state-full ne = let q = tried-refused tried ne in state-played ec (q .0) (rw (q .1) kept)
 
-            pub state-roomy : r ≡ 0 → (length m₁ ≡ SIZE) × (length atoms ≡ 256) × (widthWord m₁ ≤ 256)
+            pub state-roomy : r ≡ 0 → (length m₁ ≡ SIZE) × (widthWord m₁ ≤ length s) × (widthWord m₁ ≤ 256)
             state-roomy z =
                 let v = tried-moved tried z in
-                (v .long, new-bytes ea .long, omega (arith, narrow, moved-width v))
+                (v .long, rw (moved-width v) (new-bytes .long), omega (arith, narrow, moved-width v))
 
-            module _ {m₂ : List ℕ} (z : r ≡ 0) (a : Atoms m₁ atoms (widthWord m₁) m₂) where
+            module _ {m₂ : List ℕ} (z : r ≡ 0) (a : Atoms m₁ s (widthWord m₁) m₂) where
               pub state-due : {first : Bool} → first ≡ eqb (begunWord m) 0 → Due m₂ first
-              state-due ef = due kept (state-timely ec .1) (new-bytes ea) (has-room tried z) (tried-moved tried z) a ef
+              state-due ef = due kept (state-timely ec .1) new-bytes (has-room tried z) (tried-moved tried z) a ef
 
               pub state-done : {m₃ : List ℕ} → Alike m₂ m₃ × Tables m₃ → Called (state s) m m₃ 0
               state-done renewed =
-                  let p = played kept (state-timely ec .1) (new-bytes ea) (has-room tried z) (tried-moved tried z) a in
+                  let p = played kept (state-timely ec .1) new-bytes (has-room tried z) (tried-moved tried z) a in
                   let q = advanced-renewed p (state-due refl .sound) renewed in
-                  state-played ec ea (q .0) (q .1)
+                  state-played ec (q .0) (q .1)

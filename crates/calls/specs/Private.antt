@@ -3,9 +3,8 @@ use Prim.Native.Nat.{ℕ, _+_, _≤_, _<_}
 use mathlib.Core.Path.{_≡_}
 use mathlib.Core.Bool.{Bool, true, false, cond, not}
 use mathlib.Core.List.{List, map}
-use lib.ListN.{length, getD, set, take, replicate}
-use lib.Seq.{paste}
-use Rattle.numbers.specs.Limits.{MAX, LAST-TIME, MOST-ATOMS, MOST-ROWS, MOST-TEMPORALS}
+use lib.ListN.{length, getD, set, take}
+use Rattle.numbers.specs.Limits.{MAX, LAST-TIME, MOST-ROWS, MOST-TEMPORALS}
 use Rattle.numbers.specs.Refusals.{ACCEPTED, NO-ROOM}
 use Rattle.lists.specs.Lists.{filledFrom}
 use Rattle.numset.specs.Runs.{Runs, runs, Good, has, fits, pack}
@@ -14,22 +13,22 @@ use Rattle.pmtl.specs.Book.{start, stop, mapRow}
 use Rattle.pmtl.specs.Sets.{setRule}
 use Rattle.pmtl.specs.Monitor.{Snap, State, setAt, valueRule, value, step}
 use Rattle.pmtl.specs.Calls.{crowded, play}
-use Rattle.book.specs.Rows.{temporal}
+use Rattle.book.specs.Rows.{temporal, ATOM}
 use Rattle.memory.specs.Layout.{ATOMS, SETS, SET, VALUES, SIZE, BEGUN, CLOCK}
-use Rattle.memory.specs.Memory.{rowCount, rangeAt, begunWord, clockOf, widthWord, temporals, kindAt, lowerAt, upperAt, slotAt, ownerAt, slotWords, valueAt, earlyAt, settledAt, rowOf, rowsOf, bookOf, setOf, stateOf, isOne}
-use Rattle.memory.specs.Tables.{propertyCount, Valued, Unused}
+use Rattle.memory.specs.Memory.{rowCount, rangeAt, begunWord, clockOf, widthWord, temporals, kindAt, argAt, lowerAt, upperAt, slotAt, ownerAt, slotWords, atomsOf, valueAt, earlyAt, settledAt, rowOf, rowsOf, bookOf, setOf, stateOf, isOne}
+use Rattle.memory.specs.Tables.{propertyCount, Valued, Moving, Unused}
 use Rattle.memory.specs.Kept.{Sound, Kept}
 use Rattle.tables.specs.Puts.{earlyDigit, settledDigit}
 use Rattle.set_change.specs.Change.{changed, modeIn}
 use Rattle.calls.specs.declared.RowPlan.{RowPlan}
 
--- the first so many of a list's bytes, and zeros: the atoms as a call hands them on
-abbrev pub firstBytes : List ℕ → ℕ → List ℕ
-firstBytes bytes width = paste (replicate MOST-ATOMS 0) 0 bytes width
+-- the atoms of a call: the bytes of a state, or those that stand there
+abbrev pub atomsFor : List ℕ → (fresh : Bool) → List ℕ → List ℕ
+atomsFor m fresh bytes = cond fresh bytes (atomsOf m)
 
 -- bytes that can be a call's atoms
 pub record Bytes (atoms : List ℕ) (width : ℕ) : Type 0 where
-  pub long : length atoms ≡ MOST-ATOMS
+  pub long : width ≤ length atoms
   pub bits : (i : ℕ) → i < width → getD atoms i 0 ≤ 1
 
 -- the clock and atoms that a call leaves, and the state
@@ -67,6 +66,10 @@ rowPlan m c mode j = record {
   here = has (setAfter m c mode j) c;
   room = fits SET (setAfter m c mode j);
 }
+
+-- if row r is an atom, there is a byte for it
+pub record Named (m bytes : List ℕ) (r : ℕ) : Type 0 where
+  pub inside : kindAt m r ≡ ATOM → argAt m r < length bytes
 
 -- modes with that of row r, if it is temporal
 unfoldable pub modePut : List ℕ → List ℕ → ℕ → List ℕ
@@ -174,6 +177,7 @@ pub record Asked (m : List ℕ) (first : Bool) : Type 0 where
 pub record Due (m : List ℕ) (first : Bool) : Type 0 where
   pub sound : Sound m
   pub valued : Valued m
+  pub moving : Moving m
   pub unused : Unused m
   pub asked : Asked m first
 

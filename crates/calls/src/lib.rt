@@ -1,6 +1,6 @@
 // The calls of a monitor: planned, and then carried out in place. A call that is refused changes nothing.
 ghost use mathlib.Core.Path.{_≡_};
-ghost use mathlib.Core.Bool.{false, cond, not};
+ghost use mathlib.Core.Bool.{true, false, cond, not, _||_};
 ghost use mathlib.Core.List.{map};
 ghost use Prim.Native.Nat.{_+_, _≤_, _<_};
 ghost use lib.ListN.{length, getD, set};
@@ -12,13 +12,12 @@ ghost use Rattle.pmtl.specs.Book.{start, stop, some, mapRow};
 ghost use Rattle.pmtl.specs.Monitor.{valueRule};
 ghost use Rattle.pmtl.specs.Calls.{Call};
 ghost use Rattle.memory.specs.Layout.{SET, VALUES, SIZE};
-ghost use Rattle.memory.specs.Memory.{rowCount, widthWord, temporals, kindAt, setStart, slotWords, operandsFrom, rangeAt, rowOf, isOne};
+ghost use Rattle.memory.specs.Memory.{rowCount, widthWord, temporals, kindAt, setStart, slotWords, movesAt, rangeAt, rowOf, isOne};
 ghost use Rattle.memory.specs.Tables.{Tables};
-ghost use Rattle.memory.specs.Kept.{BookKept, Span, Kept};
+ghost use Rattle.memory.specs.Kept.{BookKept, Kept};
 ghost use Rattle.memory.specs.Alike.{Alike};
-ghost use Rattle.row_answers.specs.Private.{joined};
 ghost use Rattle.set_change.specs.Change.{changed};
-ghost use Rattle.calls.specs.Private.{firstBytes, heldIn, atomsIn, modeAt, setAfter, rowPlan, RowTried, clocked, Bounded, Slot, Planned, Timely, Roomy, Fit, Fitting, Written, Atoms, Tried, Due};
+ghost use Rattle.calls.specs.Private.{atomsFor, heldIn, atomsIn, Named, modeAt, setAfter, rowPlan, RowTried, clocked, Bounded, Slot, Planned, Timely, Roomy, Fit, Fitting, Written, Atoms, Tried, Due};
 ghost use Rattle.calls.specs.Called.{Called};
 ghost use Rattle.book.specs.Rows.{HISTORICALLY};
 ghost use Rattle.numbers.specs.Limits.{LAST-TIME, MOST-ATOMS, MOST-ROWS, MOST-TEMPORALS};
@@ -31,6 +30,7 @@ use book::ONCE;
 use book::OR;
 use book::TRUE;
 use memory::SIZE;
+use memory::VALUES;
 use memory::holds;
 use memory::operand_at;
 use memory::set_at;
@@ -45,6 +45,7 @@ use numbers::PAST_LIMIT;
 use numbers::TOO_EARLY;
 use numbers::TOO_LATE;
 use numbers::TOO_NARROW;
+use tables::joined_at;
 
 // What is planned for a temporal row: the change of its set, whether the set will contain the clock, and whether there is room.
 pub struct RowPlan {
@@ -54,35 +55,18 @@ pub struct RowPlan {
 }
 
 // Whether an atom holds.
-fn atom_at(atoms: &[u8; MOST_ATOMS], atom: usize) -> bool
-    requires { ⌜ atom < MOST-ATOMS ⌝ }
+fn atom_at(atoms: &[u8], atom: usize) -> bool
+    requires { ⌜ atom < length (now atoms) ⌝ }
     ensures { λ r. ⌜ r ≡ isOne (getD (now (atoms .entry)) atom 0) ⌝ }
 {
     atoms[atom] == 1
 }
 
-// And, which stops at a false, or Or, which stops at a true, of `left` operands from `place` on, by the table.
-fn joined_at(monitor: &[u64; SIZE], place: usize, left: usize, stop: bool) -> bool
-    requires { ⌜ BookKept (now monitor) ⌝ }
-    requires { ⌜ Span (now monitor) (rowCount (now monitor)) place left ⌝ }
-    ensures { λ r. ⌜ r ≡ joined stop (map (heldIn (now (monitor .entry))) (operandsFrom (now (monitor .entry)) place left)) ⌝ }
-{
-    let mut at = place;
-    let mut rest = left;
-    while rest != 0 {
-        if holds(monitor, operand_at(monitor, at)) == stop {
-            return stop;
-        }
-        at += 1;
-        rest -= 1;
-    }
-    !stop
-}
-
 // The new value of a row that is not temporal, where those of its operands are new in the table.
-fn plain_value<'a>(monitor: &'a [u64; SIZE], atoms: &'a [u8; MOST_ATOMS], row: usize) -> bool
+fn plain_value<'a>(monitor: &'a [u64; SIZE], atoms: &'a [u8], row: usize) -> bool
     requires { ⌜ BookKept (now monitor) ⌝ }
     requires { ⌜ (row < rowCount (now monitor)) × (kindAt (now monitor) row < HISTORICALLY) ⌝ }
+    requires { ⌜ Named (now monitor) (now atoms) row ⌝ }
     ensures { λ r. ⌜ r ≡ valueRule (atomsIn (now (monitor .entry)) (now (atoms .entry))) false (mapRow (heldIn (now (monitor .entry))) (rowOf (now (monitor .entry)) row)) ⌝ }
 {
     let words = memory::row_at(monitor, row);
@@ -91,8 +75,8 @@ fn plain_value<'a>(monitor: &'a [u64; SIZE], atoms: &'a [u8; MOST_ATOMS], row: u
         FALSE => false,
         TRUE => true,
         ATOM => atom_at(atoms, words.arg),
-        AND => joined_at(monitor, words.start, words.arg, false),
-        OR => joined_at(monitor, words.start, words.arg, true),
+        AND => joined_at(monitor, VALUES, words.start, words.arg, false),
+        OR => joined_at(monitor, VALUES, words.start, words.arg, true),
         NOT => !holds(monitor, operand_at(monitor, words.start)),
         _ => {
             if holds(monitor, operand_at(monitor, words.start)) {
@@ -143,15 +127,22 @@ fn stop_of(monitor: &[u64; SIZE], clock: u64, row: usize) -> u64
     clock + upper
 }
 
-// The plan of one temporal row, where the values of the rows below it are new in the table.
+// The plan of one temporal row, most of which stay as they are, where the values of the rows below it are new in the table.
 fn plan_row(monitor: &[u64; SIZE], clock: u64, slot: usize, row: usize) -> RowPlan
     requires { ⌜ Slot (now monitor) clock slot row ⌝ }
     ensures { λ r. ⌜ r ≡ rowPlan (now (monitor .entry)) clock (modeAt (now (monitor .entry)) row) slot ⌝ }
 {
     let mode = mode_of(monitor, row);
+    let set = set_at(monitor, slot);
+    if mode == set_change::STAYS {
+        return RowPlan {
+            mode,
+            here: numset::contains(set, clock),
+            room: true,
+        };
+    }
     let start = start_of(monitor, clock, row);
     let stop = stop_of(monitor, clock, row);
-    let set = set_at(monitor, slot);
     let room = set_change::room_for(set, mode, start, stop);
     let here = set_change::will_have(set, mode, start, stop, clock);
     RowPlan { mode, here, room }
@@ -169,7 +160,7 @@ fn put_value(monitor: &mut [u64; SIZE], row: usize, value: bool)
     requires { ⌜ (row < MOST-ROWS) × (length (now monitor) ≡ SIZE) ⌝ }
     ensures { λ _. ⌜ now (monitor .exit) ≡ set (now (monitor .entry)) (VALUES + row) (bitOf value) ⌝ }
 {
-    monitor[memory::VALUES + row] = lists::wide(pmtl::bit(value));
+    monitor[VALUES + row] = lists::wide(pmtl::bit(value));
 }
 
 // Tries a row, where the values of the rows below it are new in the table: its own is noted, and if it is temporal its mode; but nothing
@@ -177,12 +168,12 @@ fn put_value(monitor: &mut [u64; SIZE], row: usize, value: bool)
 fn try_row(
     monitor: &mut [u64; SIZE],
     clock: u64,
-    atoms: &[u8; MOST_ATOMS],
+    atoms: &[u8],
     row: usize,
     modes: &mut [u8],
 ) -> bool
     requires { ⌜ Timely (now monitor) clock ⌝ }
-    requires { ⌜ (row < rowCount (now monitor)) × (length (now modes) ≡ MOST-TEMPORALS) ⌝ }
+    requires { ⌜ (row < rowCount (now monitor)) × (length (now modes) ≡ MOST-TEMPORALS) × Named (now monitor) (now atoms) row ⌝ }
     ensures { λ r. ⌜ RowTried (now (monitor .entry)) clock (now (atoms .entry)) (now (modes .entry)) row (now (monitor .exit)) (now (modes .exit)) r ⌝ }
 {
     let kind = memory::kind_at(monitor, row);
@@ -202,24 +193,41 @@ fn try_row(
     false
 }
 
-// The plan of a call, from row 0 upward, up to the first row whose set lacks room.
+// Whether a call looks at a row. A state call looks at all, a time call at those that move with the clock: the others keep their values.
+fn visits(monitor: &[u64; SIZE], row: usize, fresh: bool) -> bool
+    requires { ⌜ row < MOST-ROWS ⌝ }
+    ensures { λ r. ⌜ r ≡ (fresh || isOne (movesAt (now (monitor .entry)) row)) ⌝ }
+{
+    if fresh {
+        true
+    } else {
+        memory::moves_at(monitor, row)
+    }
+}
+
+// The plan of a call, from row 0 upward, up to the first row whose set lacks room. A call with no fresh atoms has no bytes for them.
 fn plan_call(
     monitor: &mut [u64; SIZE],
     clock: u64,
-    atoms: &[u8; MOST_ATOMS],
+    atoms: &[u8],
+    fresh: bool,
     modes: &mut [u8],
 ) -> bool
-    requires { ⌜ Timely (now monitor) clock ⌝ }
-    requires { ⌜ length (now modes) ≡ MOST-TEMPORALS ⌝ }
-    ensures { λ r. ⌜ Planned (now (monitor .entry)) clock (now (atoms .entry)) (now (monitor .exit)) r (now (modes .exit)) ⌝ }
+    requires { ⌜ Kept (now monitor) × (clock ≤ LAST-TIME) ⌝ }
+    requires { ⌜ (length (now modes) ≡ MOST-TEMPORALS) × (fresh ≡ true → widthWord (now monitor) ≤ length (now atoms)) ⌝ }
+    ensures { λ r. ⌜ Planned (now (monitor .entry)) clock (atomsFor (now (monitor .entry)) fresh (now (atoms .entry))) (now (monitor .exit)) r (now (modes .exit)) ⌝ }
 {
     let count = memory::row_count(monitor);
     let mut row = 0;
     while row < count {
-        if try_row(monitor, clock, atoms, row, modes) {
-            row += 1;
+        if visits(monitor, row, fresh) {
+            if try_row(monitor, clock, atoms, row, modes) {
+                row += 1;
+            } else {
+                return false;
+            }
         } else {
-            return false;
+            row += 1;
         }
     }
     true
@@ -272,8 +280,8 @@ fn put_clock(monitor: &mut [u64; SIZE], clock: u64)
 }
 
 // Sets the atoms.
-fn put_atoms(monitor: &mut [u64; SIZE], atoms: &[u8; MOST_ATOMS])
-    requires { ⌜ (length (now monitor) ≡ SIZE) × (length (now atoms) ≡ MOST-ATOMS) × (widthWord (now monitor) ≤ MOST-ATOMS) ⌝ }
+fn put_atoms(monitor: &mut [u64; SIZE], atoms: &[u8])
+    requires { ⌜ (length (now monitor) ≡ SIZE) × (widthWord (now monitor) ≤ length (now atoms)) × (widthWord (now monitor) ≤ MOST-ATOMS) ⌝ }
     ensures { λ _. ⌜ Atoms (now (monitor .entry)) (now (atoms .entry)) (widthWord (now (monitor .entry))) (now (monitor .exit)) ⌝ }
 {
     let count = memory::width(monitor);
@@ -286,12 +294,13 @@ fn put_atoms(monitor: &mut [u64; SIZE], atoms: &[u8; MOST_ATOMS])
 
 // A call at a clock and atoms: planned, and then carried out, all but the atoms, which a time call leaves as they are. Where a set
 // lacks room, the values are worked out anew from what did not change: these are the old ones.
-fn advance(monitor: &mut [u64; SIZE], clock: u64, atoms: &[u8; MOST_ATOMS]) -> u64
+fn advance(monitor: &mut [u64; SIZE], clock: u64, atoms: &[u8], fresh: bool) -> u64
     requires { ⌜ Kept (now monitor) × (clock ≤ LAST-TIME) ⌝ }
-    ensures { λ r. ⌜ Tried (now (monitor .entry)) clock (now (atoms .entry)) (now (monitor .exit)) r ⌝ }
+    requires { ⌜ (fresh ≡ true → widthWord (now monitor) ≤ length (now atoms)) ⌝ }
+    ensures { λ r. ⌜ Tried (now (monitor .entry)) clock (atomsFor (now (monitor .entry)) fresh (now (atoms .entry))) (now (monitor .exit)) r ⌝ }
 {
     let mut modes = [0u8; MOST_TEMPORALS];
-    if plan_call(monitor, clock, atoms, &mut modes) {
+    if plan_call(monitor, clock, atoms, fresh, &mut modes) {
         commit(monitor, clock, &modes);
         put_clock(monitor, clock);
         return ACCEPTED;
@@ -315,20 +324,6 @@ fn renew(monitor: &mut [u64; SIZE], first: bool)
         return;
     }
     tables::ask(monitor);
-}
-
-// The atoms of a state: its first bytes.
-fn new_atoms(state: &[u8], count: usize) -> [u8; MOST_ATOMS]
-    requires { ⌜ (count ≤ length (now state)) × (count ≤ MOST-ATOMS) ⌝ }
-    ensures { λ r. ⌜ r ≡ firstBytes (now (state .entry)) count ⌝ }
-{
-    let mut atoms = [0u8; MOST_ATOMS];
-    let mut i = 0;
-    while i < count {
-        atoms[i] = state[i];
-        i += 1;
-    }
-    atoms
 }
 
 // Whether a byte is neither 0 nor 1.
@@ -357,8 +352,7 @@ pub fn update_time(monitor: &mut [u64; SIZE], time: u64) -> u64
         return TOO_LATE;
     }
     let first = memory::begun(monitor) == 0;
-    let atoms = memory::read_atoms(monitor);
-    let number = advance(monitor, time, &atoms);
+    let number = advance(monitor, time, b"", false);
     if number != ACCEPTED {
         return number;
     }
@@ -382,13 +376,12 @@ pub fn update_state(monitor: &mut [u64; SIZE], state: &[u8]) -> u64
         return NOT_A_BIT;
     }
     let first = memory::begun(monitor) == 0;
-    let atoms = new_atoms(state, count);
     let clock = memory::clock(monitor);
-    let number = advance(monitor, clock, &atoms);
+    let number = advance(monitor, clock, state, true);
     if number != ACCEPTED {
         return number;
     }
-    put_atoms(monitor, &atoms);
+    put_atoms(monitor, state);
     renew(monitor, first);
     ACCEPTED
 }

@@ -1,5 +1,6 @@
 -- `calls::update_time` meets its contract: refused for itself, or played. Assumes nothing.
-use mathlib.Core.Path.{ap}
+use mathlib.Core.Path.{ap, sym}
+use mathlib.Core.Bool.{true≢false}
 use lib.Dec.{eqb}
 use Rattle.calls.proofs.Public.{time-early, time-late, time-full, time-due, time-done}
 use borrow.Author.Needs.{needs}
@@ -18,20 +19,20 @@ returns-2 c = time-late ((c .before .before .before .before) .pre) ((c .before .
 begun-requires : tie.Need-begun-requires
 begun-requires c κs = search needs
 
-read-atoms-requires : tie.Need-read-atoms-requires
-read-atoms-requires c κs = (c .before .before .before .before .before .before .before) .pre .sound
+slice-aggregate-advance : tie.Need-slice-aggregate-advance
+slice-aggregate-advance c = search needs
 
 advance-requires : tie.Need-advance-requires
-advance-requires c κs = ((c .before .before .before .before .before .before .before .before .before .before) .pre, (c .before .before .before .before .before .before) .if2 .left)
+advance-requires c κs = (((c .before .before .before .before .before .before .before .before) .pre, (c .before .before .before .before) .if2 .left), λ e. absurd (true≢false (sym e)))
 
 returns-3 : tie.Need-returns-3
-returns-3 c = time-full ((c .before .before .before .before .before .before .before .before .before .before .before .before) .pre) ((c .before .before .before .before .before .before .before .before .before .before) .clock .ensures) ((c .before .before .before .before .before .before .before .before .before) .if1 .left) ((c .before .before .before .before .before .before .before .before) .if2 .left) ((c .before .before .before .before) .read-atoms .ensures) ((c .before) .advance .ensures) (c .if3 .taken)
+returns-3 c = time-full ((c .before .before .before .before .before .before .before .before .before .before) .pre) ((c .before .before .before .before .before .before .before .before) .clock .ensures) ((c .before .before .before .before .before .before .before) .if1 .left) ((c .before .before .before .before .before .before) .if2 .left) ((c .before) .advance .ensures) (c .if3 .taken)
 
 renew-requires : tie.Need-renew-requires
-renew-requires c κs = time-due ((c .before .before .before .before .before .before .before .before .before .before .before .before .before) .pre) ((c .before .before .before .before .before .before .before .before .before .before .before) .clock .ensures) ((c .before .before .before .before .before .before .before .before .before .before) .if1 .left) ((c .before .before .before .before .before .before .before .before .before) .if2 .left) ((c .before .before .before .before .before) .read-atoms .ensures) ((c .before .before) .advance .ensures) ((c .before) .if3 .left) (ap (λ x. eqb x 0) ((c .before .before .before .before .before .before .before) .begun .ensures))
+renew-requires c κs = time-due ((c .before .before .before .before .before .before .before .before .before .before .before) .pre) ((c .before .before .before .before .before .before .before .before .before) .clock .ensures) ((c .before .before .before .before .before .before .before .before) .if1 .left) ((c .before .before .before .before .before .before .before) .if2 .left) ((c .before .before) .advance .ensures) ((c .before) .if3 .left) (ap (λ x. eqb x 0) ((c .before .before .before .before .before) .begun .ensures))
 
 returns-4 : tie.Need-returns-4
-returns-4 c = time-done ((c .before .before .before .before .before .before .before .before .before .before .before .before .before .before) .pre) ((c .before .before .before .before .before .before .before .before .before .before .before .before) .clock .ensures) ((c .before .before .before .before .before .before .before .before .before .before .before) .if1 .left) ((c .before .before .before .before .before .before .before .before .before .before) .if2 .left) ((c .before .before .before .before .before .before) .read-atoms .ensures) ((c .before .before .before) .advance .ensures) ((c .before .before) .if3 .left) (c .renew .ensures)
+returns-4 c = time-done ((c .before .before .before .before .before .before .before .before .before .before .before .before) .pre) ((c .before .before .before .before .before .before .before .before .before .before) .clock .ensures) ((c .before .before .before .before .before .before .before .before .before) .if1 .left) ((c .before .before .before .before .before .before .before .before) .if2 .left) ((c .before .before .before) .advance .ensures) ((c .before .before) .if3 .left) (c .renew .ensures)
 
 pub update-time-spec : {M : Type 1} → statement M
 update-time-spec =
@@ -41,7 +42,7 @@ update-time-spec =
     returns
     returns-2
     begun-requires
-    read-atoms-requires
+    slice-aggregate-advance
     advance-requires
     returns-3
     renew-requires
