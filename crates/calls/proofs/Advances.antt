@@ -38,7 +38,7 @@ use Rattle.tables.specs.Puts.{valuesPut, toldPut, earlyPut, settledNow, settled
 use Rattle.tables.proofs.Puts.{few-properties, answer-same, told-alike, told-sound, told-valued, told-told, told-moving, told-unused, asked-alike, asked-tables}
 use Rattle.set_change.specs.Change.{changed}
 use Rattle.set_change.proofs.Changes.{changed-under}
-use Rattle.calls.specs.Private.{Bytes, snapOf, stepOf, setAfter, valueAfter, clocked, Planned, Written, Atoms, Moved, Tried, Timely, Fitting, Asked, Due, Advanced}
+use Rattle.calls.specs.Private.{Bytes, snapOf, stepOf, setAfter, valueAfter, clocked, Planned, Written, Atoms, Moved, Tried, Fitting, Asked, Due, Advanced}
 use Rattle.calls.proofs.Rules.{set-of-slot, set-of-none}
 use Rattle.calls.proofs.Plans.{set-none, fits-each}
 use Rattle.calls.proofs.Commits.{room-is}

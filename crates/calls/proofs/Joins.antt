@@ -1,24 +1,22 @@
 -- The value of a row that is not temporal, by the table. Assumes nothing.
-use Prim.Native.Nat.{ℕ, zero, suc, _+_, _-_, _<_, _≤_}
+use Prim.Native.Nat.{ℕ, zero, suc, _+_, _-_, _<_}
 use native.Mathlib.Omega.{arith}
-use mathlib.Core.Path.{_≡_, refl, sym, ap, ap₂, _∙_}
+use mathlib.Core.Path.{_≡_, refl, sym, ap, _∙_}
 use mathlib.Core.Logic.{_⊎_, inl, inr}
-use mathlib.Core.Bool.{Bool, true, false, not, Bool·beq}
-use mathlib.Core.List.{List, _∷_, map}
+use mathlib.Core.Bool.{Bool, true, false, not}
+use mathlib.Core.List.{List, map}
 use lib.ListN.{length, getD, take, drop, List·getD-map}
 use lib.Seq.{getD-take}
 use lib.Dec.{lit<}
 use Rattle.pmtl.specs.Book.{mapRow}
 use Rattle.pmtl.specs.Monitor.{valueRule}
 use Rattle.memory.specs.declared.RowWords.{RowWords}
-use Rattle.memory.specs.Layout.{OPERANDS, SIZE}
 use Rattle.memory.specs.Memory.{rowCount, widthWord, kindAt, lowerAt, upperAt, wordsAt, operandAt, operandsOf, operandsFrom, rowOf, isOne}
 use Rattle.memory.specs.Kept.{BookKept, Span}
-use Rattle.memory.proofs.Rows.{Read, span-rest, walk-cons, first-is, first-below, second-is, second-below}
+use Rattle.memory.proofs.Rows.{Read, first-is, first-below, second-is, second-below}
 use Rattle.book.specs.Rows.{rowFrom, countOf}
 use Rattle.row_answers.specs.Private.{joined}
 use Rattle.row_answers.proofs.Answers.{read-words, span-as, span-book, atom-named, first-inside, second-inside}
-use Rattle.row_answers.proofs.Values.{joined-nil, joined-stop, joined-on}
 use Rattle.calls.specs.Private.{heldIn, atomsIn, Named}
 
 -- ---- the value of a row that is not temporal, from its words

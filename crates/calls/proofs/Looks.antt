@@ -1,30 +1,29 @@
 -- Which rows a call looks at: those that it passes over keep their values, and those of a time call are no atoms. Assumes nothing.
 use Prim.Native.Nat.{ℕ, zero, suc, _+_, _*_, _≤_, _<_}
 use native.Mathlib.Omega.{arith}
-use mathlib.Core.Path.{_≡_, refl, sym, ap, ap₂, _∙_}
+use mathlib.Core.Path.{_≡_, refl, sym, ap, _∙_}
 use mathlib.Core.Logic.{⊎-elim}
 use mathlib.Core.Bool.{Bool, true, false, _||_, true≢false}
-use mathlib.Core.List.{List, [], map}
+use mathlib.Core.List.{List, map}
 use lib.ListN.{length, getD, set, take}
 use lib.Seq.{set-getD}
-use Rattle.lists.specs.Lists.{filledFrom}
 use Rattle.lists.proofs.Tests.{lt-or-ge}
 use Rattle.lists.proofs.Filled.{filledFrom-before, filledFrom-after, filledFrom-more}
-use Rattle.numset.specs.Runs.{Runs, has}
+use Rattle.numset.specs.Runs.{has}
 use Rattle.pmtl.specs.Answer.{bitOf}
-use Rattle.pmtl.specs.Book.{Row, mapRow, rowAt}
-use Rattle.pmtl.specs.Monitor.{Snap, State, setAt, valueRule, value}
+use Rattle.pmtl.specs.Book.{Row, mapRow}
+use Rattle.pmtl.specs.Monitor.{Snap, valueRule, value}
 use Rattle.pmtl.proofs.Table.{answer-in}
 use Rattle.pmtl.proofs.Answers.{step-now}
 use Rattle.memory.specs.Layout.{ROWS, ROW, VALUES, MOVES}
-use Rattle.memory.specs.Memory.{rowCount, widthWord, temporals, kindAt, argAt, lowerAt, upperAt, startAt, ownerAt, operandsOf, atomsOf, valueAt, movesAt, rowOf, rowsOf, stateOf, isOne}
+use Rattle.memory.specs.Memory.{rowCount, widthWord, temporals, kindAt, argAt, ownerAt, atomsOf, valueAt, movesAt, rowOf, rowsOf, stateOf, isOne}
 use Rattle.memory.specs.Tables.{moveRule, moves}
 use Rattle.memory.specs.Kept.{Kept}
 use Rattle.memory.proofs.Rows.{rows-length, row-at, kept-ordered}
 use Rattle.book.specs.Rows.{rowFrom}
-use Rattle.tables.proofs.Puts.{bit-back}
+use Rattle.memory.proofs.Bits.{bit-back}
 use Rattle.calls.specs.Private.{atomsFor, snapOf, stepOf, heldIn, atomsIn, setNext, valueNext, Named, valueAfter}
-use Rattle.calls.proofs.Plans.{Going, going-sound}
+use Rattle.calls.proofs.Plans.{Going}
 use Rattle.calls.proofs.Heads.{old-atoms}
 use Rattle.calls.proofs.Still.{still}
 

@@ -29,9 +29,9 @@ use Rattle.memory.proofs.Rows.{rows-length, row-at, kept-ordered}
 use Rattle.memory.proofs.Alike.{alike-filled, alike-sound, alike-rows, alike-state}
 use Rattle.set_change.specs.Change.{changed, modeIn}
 use Rattle.set_change.proofs.Changes.{changed-0, room-else}
-use Rattle.calls.specs.declared.RowPlan.{RowPlan}
 use Rattle.calls.specs.Private.{snapOf, stepOf, heldIn, atomsIn, setNext, valueNext, modeAt, setAfter, rowPlan, modePut, RowTried, valueAfter, Planned, Bounded, Slot}
-use Rattle.calls.proofs.Rules.{no-set, changed-set, set-at, set-of-slot, bit-held}
+use Rattle.calls.proofs.Rules.{no-set, changed-set, set-at, set-of-slot}
+use Rattle.memory.proofs.Bits.{bit-back}
 use Rattle.calls.proofs.Commits.{set-long}
 
 -- ---- a test of every element
@@ -148,7 +148,7 @@ module _ {m : List ℕ} {c : ℕ} {atoms : List ℕ} (sound : Sound m) where
         let long = sound .book .long in
         let small = g .few in
         ap (λ (x : List ℕ). heldIn x o) (g .values)
-        ∙ ap isOne (filledFrom-at VALUES (valueAfter m c atoms) m 0 n o h (omega arith)) ∙ bit-held (value (rowsOf m) (stepOf m c atoms) o)
+        ∙ ap isOne (filledFrom-at VALUES (valueAfter m c atoms) m 0 n o h (omega arith)) ∙ bit-back (value (rowsOf m) (stepOf m c atoms) o)
 
     module _ (h : n < rowCount m) where
       small : n < 128

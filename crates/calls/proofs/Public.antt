@@ -1,23 +1,20 @@
 -- The public calls, arm by arm: refused for themselves, or played. Assumes nothing.
-use Prim.Native.Nat.{ℕ, _+_, _≤_, _<_}
-use mathlib.Core.Path.{_≡_, refl, sym, ap, ap₂, subst, _∙_}
+use Prim.Native.Nat.{ℕ, _≤_, _<_}
+use mathlib.Core.Path.{_≡_, refl, sym, ap, ap₂, _∙_}
 use mathlib.Core.Bool.{Bool, true, false, true≢false}
 use mathlib.Core.List.{List, [], _∷_, map}
 use native.Mathlib.Omega.{arith}
-use lib.ListN.{length, getD, take, length-map, List·getD-map}
-use lib.Seq.{ext-getD, getD-take, length-take-le}
+use lib.ListN.{length, getD, take}
 use lib.Dec.{ltb, eqb}
 use borrow.Author.Tests.{lt-ltb, le-ltb, ltb-false, ne-eqb}
 use Rattle.numbers.specs.Limits.{LAST-TIME, MOST-ATOMS}
-use Rattle.lists.specs.Lists.{listed}
 use Rattle.lists.proofs.Tests.{fails-by}
-use Rattle.lists.proofs.Listed.{listed-length, listed-at}
 use Rattle.pmtl.specs.Book.{widthOf, some}
 use Rattle.pmtl.specs.Monitor.{Snap}
 use Rattle.pmtl.specs.Calls.{Call, turns, refusal, play, call}
 use Rattle.pmtl.specs.Calls.Call.{time, state}
-use Rattle.memory.specs.Layout.{ATOMS, SIZE}
-use Rattle.memory.specs.Memory.{begunWord, clockOf, widthWord, rowsOf, bookOf, stateOf, isOne, atomAt, atomsOf}
+use Rattle.memory.specs.Layout.{SIZE}
+use Rattle.memory.specs.Memory.{begunWord, clockOf, widthWord, rowsOf, bookOf, stateOf, isOne, atomsOf}
 use Rattle.memory.specs.Tables.{Tables}
 use Rattle.memory.specs.Kept.{Sound, Kept}
 use Rattle.memory.specs.Alike.{Alike}

@@ -1,18 +1,17 @@
 -- The definitions' rules at the rows of a memory: the change of a temporal row's set, and values. Assumes nothing.
 use Prim.Native.Nat.{ℕ, zero, suc, _-_, _≤_, _<_}
-use mathlib.Core.Path.{_≡_, refl, sym, ap, _∙_, subst⁻¹}
-use mathlib.Core.Bool.{Bool, true, false, cond, not}
+use mathlib.Core.Path.{_≡_, refl, subst⁻¹}
+use mathlib.Core.Bool.{Bool, cond, not}
 use mathlib.Core.List.{List, []}
 use native.Mathlib.Omega.{arith}
 use lib.ListN.{drop}
 use lib.Dec.{eqb}
 use borrow.Author.Tests.{le-leb, lt-leb}
 use Rattle.numset.specs.Runs.{Runs, runs}
-use Rattle.pmtl.specs.Answer.{bitOf}
 use Rattle.pmtl.specs.Book.{start, stop, mapRow}
 use Rattle.pmtl.specs.Sets.{setRule}
 use Rattle.pmtl.specs.Monitor.{setAt, valueRule}
-use Rattle.memory.specs.Memory.{rowCount, kindAt, argAt, lowerAt, upperAt, startAt, slotAt, operandsOf, slotWords, rowOf, rowsOf, setOf, stateOf, isOne, rangeAt}
+use Rattle.memory.specs.Memory.{rowCount, kindAt, argAt, lowerAt, upperAt, startAt, slotAt, operandsOf, slotWords, rowOf, setOf, stateOf, rangeAt}
 use Rattle.book.specs.Rows.{rowFrom}
 use Rattle.lists.proofs.Listed.{listed-at}
 use Rattle.set_change.specs.Change.{changed, modeIn}
@@ -83,8 +82,3 @@ temporal-held bits here f m r h k =
     let e : kindAt m r ≡ suc (suc (suc (suc (suc (suc (suc (kindAt m r - 7))))))) = omega arith in
     subst⁻¹ (λ (kind : ℕ). valueRule bits here (mapRow f (rowFrom kind (argAt m r) (lowerAt m r) (upperAt m r) (drop (startAt m r) (operandsOf m)))) ≡ cond (eqb kind 7) (not here) here) e
     (temporal-from bits here f (kindAt m r - 7) _ _ _ _ (omega arith))
-
--- a word that is a bit says what it was made of
-pub bit-held : (b : Bool) → isOne (bitOf b) ≡ b
-bit-held true = refl
-bit-held false = refl

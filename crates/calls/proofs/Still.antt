@@ -1,5 +1,5 @@
 -- A row that does not move with the clock keeps its value in a time call. Assumes nothing.
-use Prim.Native.Nat.{ℕ, _<_, _≤_}
+use Prim.Native.Nat.{ℕ, _<_}
 use native.Mathlib.Omega.{arith}
 use native.Mathlib.Decide.{decLt}
 use mathlib.Core.Path.{_≡_, refl, sym, ap, ap₂, _∙_}
@@ -9,7 +9,7 @@ use lib.ListN.{length}
 use Rattle.numset.specs.Runs.{has}
 use Rattle.pmtl.specs.Book.{Row, Rows, mapRow, rowAt, AllBelow, Below, Ordered, every, some, itself}
 use Rattle.pmtl.specs.Book.Row.{never, always, atom, conj, disj, neg, implies, historically, once, since}
-use Rattle.pmtl.specs.Monitor.{Snap, State, setAt, valueRule, value}
+use Rattle.pmtl.specs.Monitor.{State, setAt, valueRule, value}
 use Rattle.pmtl.proofs.Table.{by-rows, answer-in}
 use Rattle.pmtl.proofs.Answers.{value-fix, value-out}
 use Rattle.memory.specs.Tables.{moveRule, moves}

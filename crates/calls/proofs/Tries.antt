@@ -12,11 +12,10 @@ use Rattle.pmtl.specs.Answer.{bitOf}
 use Rattle.pmtl.specs.Book.{mapRow, start, stop}
 use Rattle.pmtl.specs.Monitor.{valueRule}
 use Rattle.memory.specs.Layout.{SET, VALUES}
-use Rattle.memory.specs.Memory.{rowCount, temporals, kindAt, slotAt, ownerAt, slotWords, rowOf, setOf, rangeAt}
-use Rattle.memory.specs.Kept.{Sound}
+use Rattle.memory.specs.Memory.{rowCount, kindAt, slotAt, slotWords, rowOf, setOf, rangeAt}
 use Rattle.set_change.specs.Change.{changed}
 use Rattle.calls.specs.declared.RowPlan.{RowPlan}
-use Rattle.calls.specs.Private.{heldIn, atomsIn, setNext, valueNext, modeAt, setAfter, rowPlan, modePut, RowTried, Timely, Slot}
+use Rattle.calls.specs.Private.{heldIn, atomsIn, setNext, modeAt, setAfter, rowPlan, modePut, RowTried, Timely, Slot}
 use Rattle.calls.proofs.Rules.{no-set, changed-set, set-of-slot, temporal-held}
 
 module _ {m : List ℕ} {c : ℕ} (timely : Timely m c) (atoms modes : List ℕ) {r : ℕ} (inside : r < rowCount m) {kind : ℕ} (ek : kind ≡ kindAt m r) where

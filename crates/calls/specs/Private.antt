@@ -17,7 +17,7 @@ use Rattle.book.specs.Rows.{temporal, ATOM}
 use Rattle.memory.specs.Layout.{ATOMS, SETS, SET, VALUES, SIZE, BEGUN, CLOCK}
 use Rattle.memory.specs.Memory.{rowCount, rangeAt, begunWord, clockOf, widthWord, temporals, kindAt, argAt, lowerAt, upperAt, slotAt, ownerAt, slotWords, atomsOf, valueAt, earlyAt, settledAt, rowOf, rowsOf, bookOf, setOf, stateOf, isOne}
 use Rattle.memory.specs.Tables.{propertyCount, Valued, Moving, Unused}
-use Rattle.memory.specs.Kept.{Sound, Kept}
+use Rattle.memory.specs.Kept.{Sound}
 use Rattle.tables.specs.Puts.{earlyDigit, settledDigit}
 use Rattle.set_change.specs.Change.{changed, modeIn}
 use Rattle.calls.specs.declared.RowPlan.{RowPlan}

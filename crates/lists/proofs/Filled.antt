@@ -6,7 +6,7 @@ use native.Mathlib.Decide.{decLt, ℕ-discrete}
 use mathlib.Core.Path.{_≡_, refl, sym, ap, _∙_}
 use mathlib.Core.List.{List, [], _∷_, _++_, append-assoc}
 use lib.ListN.{length, getD, set, drop, replicate, length-set, length-replicate, getD-replicate, List·getD-eq-default}
-use lib.Seq.{ext-getD, getD-set-same, getD-set-other, set-getD, drop-cons, set-at}
+use lib.Seq.{ext-getD, getD-set-same, getD-set-other, drop-cons, set-at}
 use Rattle.lists.specs.Lists.{listed, filledTo, filledFrom}
 use Rattle.lists.proofs.Listed.{listed-length, listed-at}
 
@@ -113,10 +113,3 @@ module _ {A : Type 0} (a : ℕ) (f : ℕ → A) (xs : List A) where
   pub filledFrom-after : (d : A) (n k : ℕ) → a + n ≤ k → getD (filledFrom a f xs n) k d ≡ getD xs k d
   filledFrom-after d zero k h = refl
   filledFrom-after d (suc i) k h = getD-set-other (filledFrom a f xs i) (a + i) k (f i) d (λ q. omega arith) ∙ filledFrom-after d i k (omega arith)
-
-  -- where they are what stood there, nothing is new
-  pub filledFrom-same : (d : A) (n : ℕ) → ((i : ℕ) → i < n → f i ≡ getD xs (a + i) d) → filledFrom a f xs n ≡ xs
-  filledFrom-same d zero e = refl
-  filledFrom-same d (suc i) e =
-      let so-far = filledFrom-same d i (λ k h. e k (omega arith)) in
-      rw so-far (ap (set xs (a + i)) (e i (omega arith)) ∙ set-getD xs (a + i) d)

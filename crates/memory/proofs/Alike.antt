@@ -1,12 +1,11 @@
 -- Memories that differ in their tables alone hold the same monitor, and are sound together. Assumes nothing.
-use Prim.Native.Nat.{ℕ, _+_, _*_, _≤_, _<_}
+use Prim.Native.Nat.{ℕ, _+_, _≤_, _<_}
 use native.Mathlib.Omega.{arith}
 use mathlib.Core.Path.{_≡_, refl, ap, _∙_}
 use mathlib.Core.Logic.{⊎-elim}
 use mathlib.Core.Bool.{Bool}
 use mathlib.Core.List.{List}
-use lib.ListN.{length, getD, set, length-set}
-use lib.Seq.{getD-set-other}
+use lib.ListN.{getD}
 use borrow.Author.Tests.{lt-leb}
 use Rattle.lists.specs.Lists.{filledFrom}
 use Rattle.lists.proofs.Tests.{lt-or-ge}
@@ -14,7 +13,7 @@ use Rattle.lists.proofs.Listed.{listed-agree}
 use Rattle.lists.proofs.Parts.{part-same}
 use Rattle.lists.proofs.Filled.{filledFrom-length, filledFrom-before}
 use Rattle.memory.specs.Layout.{ATOMS, OWNERS, SET, VALUES}
-use Rattle.memory.specs.Memory.{rowCount, widthWord, temporals, kindAt, slotAt, atomAt, setStart, slotWords, rowsOf, bookOf, isOne, setOf, stateOf}
+use Rattle.memory.specs.Memory.{rowCount, widthWord, kindAt, slotAt, atomAt, setStart, slotWords, rowsOf, bookOf, isOne, setOf, stateOf}
 use Rattle.memory.specs.Kept.{Sound}
 use Rattle.memory.specs.Alike.{Alike}
 use Rattle.memory.proofs.Stepped.{Stepped, kept-step, step-book, rows-of-same, kind-same, slot-same}

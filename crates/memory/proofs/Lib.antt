@@ -4,3 +4,4 @@ pub mod Stepped
 pub mod Codes
 pub mod Same
 pub mod Alike
+pub mod Bits

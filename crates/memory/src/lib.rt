@@ -4,8 +4,8 @@ ghost use Prim.Native.Nat.{_<_};
 ghost use lib.ListN.{getD};
 ghost use Rattle.numbers.specs.Limits.{MOST-ROWS, MOST-OPERANDS, MOST-PROPERTIES, MOST-TEMPORALS};
 ghost use Rattle.memory.specs.Layout.{SIZE};
-ghost use Rattle.memory.specs.Memory.{rowCount, begunWord, clockOf, widthWord, temporals, assumeCount, guaranteeCount, kindAt, argAt, lowerAt, upperAt, startAt, wordsAt, slotAt, operandAt, propertyRow, ownerAt, atomsOf, slotWords, valueAt, toldAt, earlyAt, settledAt, movesAt, isOne};
-ghost use Rattle.memory.specs.Kept.{BookKept, Sound};
+ghost use Rattle.memory.specs.Memory.{rowCount, begunWord, clockOf, widthWord, temporals, assumeCount, guaranteeCount, kindAt, argAt, lowerAt, upperAt, startAt, wordsAt, slotAt, operandAt, propertyRow, ownerAt, slotWords, valueAt, toldAt, earlyAt, settledAt, movesAt, isOne};
+ghost use Rattle.memory.specs.Kept.{BookKept};
 ghost use Rattle.memory.specs.Tables.{propertyCount};
 use numbers::MOST_ATOMS;
 use numbers::MOST_OPERANDS;
@@ -293,19 +293,4 @@ pub fn settled_at(monitor: &[u64; SIZE], i: usize) -> u64
     ensures { λ r. ⌜ r ≡ settledAt (now (monitor .entry)) i ⌝ }
 {
     monitor[SETTLED + i]
-}
-
-// The atoms, a byte for each.
-pub fn read_atoms(monitor: &[u64; SIZE]) -> [u8; MOST_ATOMS]
-    requires { ⌜ Sound (now monitor) ⌝ }
-    ensures { λ r. ⌜ r ≡ atomsOf (now (monitor .entry)) ⌝ }
-{
-    let count = width(monitor);
-    let mut atoms = [0u8; MOST_ATOMS];
-    let mut i = 0;
-    while i < count {
-        atoms[i] = word(monitor, ATOMS + i) as u8;
-        i += 1;
-    }
-    atoms
 }

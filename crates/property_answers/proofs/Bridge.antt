@@ -3,7 +3,7 @@ use Prim.Native.Nat.{ℕ, zero, suc, _+_, _≤_, _<_}
 use native.Mathlib.Omega.{arith}
 use native.Mathlib.Decide.{decLt}
 use mathlib.Core.Path.{_≡_, refl, sym, ap, _∙_}
-use mathlib.Core.Bool.{Bool, true, false, cond}
+use mathlib.Core.Bool.{Bool, cond}
 use mathlib.Core.List.{List, _++_}
 use lib.ListN.{length, getD, take, drop, List·getD-eq-default, length-take, length-drop}
 use lib.Seq.{getD-take, getD-drop, take-add, drop-drop}
@@ -13,7 +13,7 @@ use Rattle.lists.proofs.Listed.{listed-at}
 use Rattle.lists.proofs.Filled.{any-default, filledTo-is}
 use Rattle.pmtl.specs.declared.Answer.{Answer}
 use Rattle.pmtl.specs.declared.Answer.the-variants.{False, True, Open}
-use Rattle.pmtl.specs.Answer.{bitOf, digitOf}
+use Rattle.pmtl.specs.Answer.{digitOf}
 use Rattle.pmtl.specs.Book.{properties}
 use Rattle.pmtl.specs.Monitor.{value}
 use Rattle.pmtl.specs.Early.{early}
@@ -23,6 +23,7 @@ use Rattle.memory.specs.Layout.{PROPERTIES}
 use Rattle.memory.specs.Memory.{rowCount, assumeCount, guaranteeCount, propertyRow, valueAt, earlyAt, settledAt, isOne, rowsOf, bookOf, stateOf}
 use Rattle.memory.specs.Tables.{propertyCount}
 use Rattle.memory.specs.Kept.{Kept}
+use Rattle.memory.proofs.Bits.{bit-back}
 use Rattle.property_answers.specs.declared.Verdict.{Verdict}
 use Rattle.property_answers.specs.Verdict.{propertyAt, verdictIn, verdictOf, propertiesIn, answersNumber, answersList}
 use Rattle.property_answers.specs.Private.{answerOf, absent, blank, Answered}
@@ -68,10 +69,6 @@ unfolding answerOf
 answer-back False = refl
 answer-back True = refl
 answer-back Open = refl
-
-bit-back : (b : Bool) → isOne (bitOf b) ≡ b
-bit-back true = refl
-bit-back false = refl
 
 -- and of one that is: what the tables say
 pub verdict-in : {m : List ℕ} → Kept m → (i : ℕ) → i < propertyCount m → {row : ℕ} → row ≡ propertyRow m i → {v : Bool} {e s : Answer} {de ds : ℕ} → v ≡ isOne (valueAt m row) → de ≡ earlyAt m i → e ≡ answerOf de

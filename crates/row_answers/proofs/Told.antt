@@ -8,7 +8,6 @@ use mathlib.Core.List.{List}
 use borrow.Author.Tests.{eqb-true}
 use lib.Dec.{eqb}
 use Rattle.numbers.specs.Limits.{MAX}
-use Rattle.lists.proofs.Tests.{fails-by}
 use Rattle.numset.specs.Runs.{Runs, runs, covers, Canonical}
 use Rattle.pmtl.specs.declared.Answer.{Answer}
 use Rattle.pmtl.specs.declared.Answer.the-variants.{Open}

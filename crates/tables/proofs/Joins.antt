@@ -1,11 +1,10 @@
 -- And or Or of what a table has of a row's operands, as a loop finds it; and whether a row moves. Assumes nothing.
 use Prim.Native.Nat.{ℕ, zero, suc, _+_, _-_, _≤_, _<_}
 use native.Mathlib.Omega.{arith}
-use mathlib.Core.Path.{_≡_, refl, sym, ap, ap₂, _∙_, subst⁻¹}
+use mathlib.Core.Path.{_≡_, refl, sym, ap, _∙_, subst⁻¹}
 use mathlib.Core.Bool.{Bool, true, false, not, _||_, Bool·beq}
 use mathlib.Core.List.{List, [], _∷_, map}
 use lib.ListN.{length, getD, take, drop, length-drop}
-use lib.Seq.{length-take-le}
 use Rattle.pmtl.specs.Book.{mapRow, some, itself}
 use Rattle.memory.specs.declared.RowWords.{RowWords}
 use Rattle.memory.specs.Layout.{OPERANDS, MOVES}
@@ -14,7 +13,7 @@ use Rattle.memory.specs.Tables.{moveRule}
 use Rattle.memory.specs.Kept.{BookKept, Span, Sound}
 use Rattle.memory.proofs.Rows.{Read, span-rest, walk-cons, first-below}
 use Rattle.book.specs.Rows.{rowFrom, countOf}
-use Rattle.book.specs.Judging.{argGood, formGood}
+use Rattle.book.specs.Judging.{argGood}
 use Rattle.book.proofs.Accepted.{form-arg}
 use Rattle.lists.proofs.Parts.{part-length}
 use Rattle.row_answers.specs.Private.{joined}

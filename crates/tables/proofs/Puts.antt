@@ -4,14 +4,14 @@ use native.Mathlib.Omega.{arith}
 use mathlib.Core.Path.{_≡_, refl, sym, ap, ap₂, _∙_}
 use mathlib.Core.Bool.{Bool, true, false, cond, _&&_}
 use mathlib.Core.List.{List}
-use lib.ListN.{length, getD, set}
+use lib.ListN.{getD, set}
 use lib.Seq.{set-getD}
 use lib.Dec.{eqb}
 use borrow.Author.Tests.{eqb-true}
 use Rattle.lists.specs.Lists.{filledFrom}
 use Rattle.lists.proofs.Tests.{and-left, and-right}
-use Rattle.lists.proofs.Filled.{filledFrom-at, filledFrom-before, filledFrom-after, filledFrom-more, filledFrom-same}
-use Rattle.numset.specs.Runs.{Runs, runs, Good}
+use Rattle.lists.proofs.Filled.{filledFrom-at, filledFrom-before, filledFrom-after, filledFrom-more}
+use Rattle.numset.specs.Runs.{runs}
 use Rattle.pmtl.specs.declared.Answer.{Answer}
 use Rattle.pmtl.specs.declared.Answer.the-variants.{Open}
 use Rattle.pmtl.specs.Answer.{bitOf, digitOf}
@@ -20,21 +20,17 @@ use Rattle.pmtl.proofs.Table.{mapRow-local, answer-in}
 use Rattle.pmtl.specs.Monitor.{State, value}
 use Rattle.pmtl.specs.Early.{early}
 use Rattle.pmtl.specs.Settled.{settled}
-use Rattle.memory.specs.Layout.{VALUES, TOLD, EARLY, SETTLED, MOVES, PROPERTIES, SIZE}
-use Rattle.memory.specs.Memory.{rowCount, begunWord, clockOf, temporals, slotWords, propertyRow, valueAt, toldAt, earlyAt, settledAt, movesAt, rowOf, rowsOf, stateOf, isOne}
-use Rattle.memory.specs.Tables.{standing, valueOf, earlyOf, settledOf, propertyCount, moveRule, moves, Valued, Told, Answered, Moving, Unused, Tables}
+use Rattle.memory.specs.Layout.{VALUES, TOLD, EARLY, SETTLED, MOVES, PROPERTIES}
+use Rattle.memory.specs.Memory.{rowCount, clockOf, temporals, slotWords, propertyRow, valueAt, toldAt, earlyAt, settledAt, movesAt, rowOf, rowsOf, stateOf, isOne}
+use Rattle.memory.specs.Tables.{standing, valueOf, earlyOf, settledOf, propertyCount, moveRule, moves, Valued, Told, Moving, Unused, Tables}
 use Rattle.memory.specs.Kept.{Sound}
 use Rattle.memory.specs.Alike.{Alike}
+use Rattle.memory.proofs.Bits.{bit-back}
 use Rattle.memory.proofs.Rows.{rows-length, row-at, kept-ordered}
-use Rattle.memory.proofs.Alike.{alike-self, alike-on, alike-filled, alike-sound, alike-rows, alike-state, alike-set}
-use Rattle.row_answers.specs.Told.{earlyTold, settledTold}
+use Rattle.memory.proofs.Alike.{alike-on, alike-filled, alike-sound, alike-rows, alike-state, alike-set}
+use Rattle.row_answers.specs.Told.{earlyTold}
 use Rattle.row_answers.proofs.Told.{told-early, told-settled, early-same, settled-same, alike-told}
 use Rattle.tables.specs.Puts.{bitIn, movesPut, valuesPut, standingAt, toldPut, earlyDigit, earlyPut, settledNow, settledDigit, settledPut}
-
--- a word that is a bit says what it was made of
-pub bit-back : (b : Bool) → isOne (bitOf b) ≡ b
-bit-back true = refl
-bit-back false = refl
 
 abbrev pub move-word : List ℕ → ℕ → ℕ
 move-word m r = bitOf (moves (rowsOf m) r)
