@@ -288,9 +288,8 @@ next-is-short s at d h p q e f =
     ∙ next-here s (at + 1) (omega arith) (w .stays)
     ∙ sym (next-more s at (omega arith) p)
 
--- between two spaces a digit below 2 is
-pub next-is-bit : (s : List ℕ) (at : ℕ) → at + 2 < length s → getD s at 0 ≡ 32 → 48 ≤ getD s (at + 1) 0 → getD s (at + 1) 0 ≤ 49 → getD s (at + 2) 0 ≡ 32 → nextWord s at ≡ Word (getD s (at + 1) 0 - 48) (at + 2)
-unfolding parts
+-- a digit below 2 by its byte alone
+pub next-is-bit : (s : List ℕ) (at : ℕ) → at + 2 < length s → parts (getD s at 0) ≡ true → 48 ≤ getD s (at + 1) 0 → getD s (at + 1) 0 ≤ 49 → parts (getD s (at + 2) 0) ≡ true → nextWord s at ≡ Word (getD s (at + 1) 0 - 48) (at + 2)
 next-is-bit s at h p low high q =
     let b = getD s (at + 1) 0 in
-    sym (next-is-short s at (b - 48) h (rw p) (rw q) (kind-digit b low (omega arith)) (omega arith))
+    sym (next-is-short s at (b - 48) h p q (kind-digit b low (omega arith)) (omega arith))

@@ -7,3 +7,4 @@ pub use decimals::write_last;
 pub use words::Read;
 pub use words::next_short;
 pub use words::next_word;
+pub use words::parts;

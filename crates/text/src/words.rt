@@ -42,7 +42,7 @@ pub enum Read {
 }
 
 // Whether a byte parts words.
-fn parts(b: u8) -> bool
+pub fn parts(b: u8) -> bool
     ensures { λ r. ⌜ r ≡ Words·parts b ⌝ }
 {
     if b == SPACE { true } else { b == LINE_FEED }

@@ -1,13 +1,14 @@
 -- Laws of reading words into lent memory. Assumes nothing.
 use Prim.Native.Nat.{ℕ, suc, _+_, _*_, _-_, _≤_, _<_}
 use mathlib.Core.Path.{_≡_, refl, sym, ap, _∙_}
+use mathlib.Core.Bool.{true}
 use mathlib.Core.List.{List, [], _∷_, _++_, map, append-assoc, append-nil, map-append}
 use native.Mathlib.Omega.{arith}
 use native.Mathlib.Numerals.{add-one}
 use lib.ListN.{length, getD, take, drop, set, length-drop, length-set, length-append}
 use lib.Seq.{take-suc, drop-cons, take-suc-set, length-take-le, take-at, drop-at}
 use borrow.Author.Tests.{lt-ltb, le-ltb}
-use Rattle.text.specs.Words.{Supply, space, nextWord, supplyFrom}
+use Rattle.text.specs.Words.{Supply, parts, nextWord, supplyFrom}
 use Rattle.text.specs.declared.words.Read as text
 use Rattle.text.proofs.Letters.{next-is-bit}
 use Rattle.text.proofs.Supplies.{word, refused as ended}
@@ -145,16 +146,16 @@ module _ {input : List ℕ} {cursor count : ℕ} {m₀ m : List ℕ} {i from : �
 pub record Telling (input : List ℕ) (cursor count : ℕ) (m₀ m : List ℕ) (i from : ℕ) : Type 0 where
   pub turning : Turning input cursor count m₀ m i from
   pub place : from ≡ cursor + 2 * i
-  pub parted : getD input from 0 ≡ space
+  pub parted : parts (getD input from 0) ≡ true
 
-pub tell-start : (input : List ℕ) (cursor count : ℕ) (m : List ℕ) → getD input cursor 0 ≡ space → Telling input cursor count m m 0 cursor
+pub tell-start : (input : List ℕ) (cursor count : ℕ) (m : List ℕ) → parts (getD input cursor 0) ≡ true → Telling input cursor count m m 0 cursor
 tell-start input cursor count m h = record { turning = turn-start input cursor count m; place = omega arith; parted = h }
 
 bit-byte : (w : ℕ) → w ≤ 1 → w ≡ byteOf w
 bit-byte w h = rw (le-ltb 1 w h)
 
 module _ {input : List ℕ} {cursor count : ℕ} {m₀ m : List ℕ} {i from : ℕ} (g : Telling input cursor count m₀ m i from) where
-  pub tell-more : i < count → count ≤ length m₀ → cursor + 2 * count < length input → 48 ≤ getD input (from + 1) 0 → getD input (from + 1) 0 ≤ 49 → getD input (from + 2) 0 ≡ space → Telling input cursor count m₀ (set m i (getD input (from + 1) 0 - 48)) (i + 1) (from + 2)
+  pub tell-more : i < count → count ≤ length m₀ → cursor + 2 * count < length input → 48 ≤ getD input (from + 1) 0 → getD input (from + 1) 0 ≤ 49 → parts (getD input (from + 2) 0) ≡ true → Telling input cursor count m₀ (set m i (getD input (from + 1) 0 - 48)) (i + 1) (from + 2)
   tell-more h room long low high q =
       let w = getD input (from + 1) 0 - 48 in
       let e = next-is-bit input from (omega (arith, g .place)) (g .parted) low high q in

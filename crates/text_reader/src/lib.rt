@@ -1,9 +1,10 @@
 // The book and the states of a text, read word by word into lent memory.
 ghost use mathlib.Core.Path.{_≡_};
+ghost use mathlib.Core.Bool.{true};
 ghost use Prim.Native.Nat.{_+_, _*_, _≤_, _<_};
 ghost use lib.ListN.{length, getD};
 ghost use Rattle.numbers.specs.Limits.{MOST-ATOMS};
-ghost use Rattle.text.specs.Words.{space};
+ghost use Rattle.text.specs.Words.{parts};
 ghost use Rattle.text_reader.specs.Reads.{numberOf, partNumber, byteOf, WordsRead, SectionRead, BookRead, BitsTook, BytesRead, StateRead};
 use numbers::ACCEPTED;
 use numbers::MOST_ASSUMES;
@@ -25,14 +26,12 @@ pub const BOOK_WORDS: usize = 1
     + 1
     + MOST_GUARANTEES;
 
-// The byte that parts most words, and those of the words 0 and 1.
-const SPACE: u8 = b' ';
-
+// The bytes of the words 0 and 1.
 const ZERO: u8 = b'0';
 
 const ONE: u8 = b'1';
 
-// Such a word, from the space before it to the one after it.
+// Such a word and the byte before it.
 const BIT_BYTES: usize = 2;
 
 // What was read: the words stand in the memory up to a place, and the next word is looked for from another in the text; or
@@ -132,10 +131,10 @@ fn byte_of(w: u64) -> u8
     w as u8
 }
 
-// Of `count` words from the space at `cursor` on, those before the first that is not 0 or 1 and then a space, as a state's
-// bytes: how many. Two bytes tell a word, since the space after it is the next one's, and the text is long enough for all.
+// Of `count` words from the parting byte at `cursor` on, those before the first that is not 0 or 1 between two such bytes,
+// as a state's bytes: how many. Each is told by two tests, since the byte after it is the one before the next.
 fn bits_into(input: &[u8], cursor: usize, count: usize, bytes: &mut [u8]) -> usize
-    requires { ⌜ (cursor + 2 * count < length (now input)) × (getD (now input) cursor 0 ≡ space) × (count ≤ length (now bytes)) ⌝ }
+    requires { ⌜ (cursor + 2 * count < length (now input)) × (parts (getD (now input) cursor 0) ≡ true) × (count ≤ length (now bytes)) ⌝ }
     ensures { λ r. ⌜ BitsTook (now (input .entry)) cursor count (now (bytes .exit)) r ⌝ }
 {
     let mut from = cursor;
@@ -148,24 +147,25 @@ fn bits_into(input: &[u8], cursor: usize, count: usize, bytes: &mut [u8]) -> usi
         if ONE < b {
             return i;
         }
-        if input[from + BIT_BYTES] != SPACE {
+        if text::parts(input[from + BIT_BYTES]) {
+            bytes[i] = b - ZERO;
+            from += BIT_BYTES;
+            i += 1;
+        } else {
             return i;
         }
-        bytes[i] = b - ZERO;
-        from += BIT_BYTES;
-        i += 1;
     }
     i
 }
 
-// The same from any place on: none where the text is not long enough or there is no space.
+// The same from any place on: none where the text may be too short for all, or no byte parts words there.
 fn bits(input: &[u8], cursor: usize, count: usize, bytes: &mut [u8]) -> usize
     requires { ⌜ count ≤ length (now bytes) ⌝ }
     ensures { λ r. ⌜ BitsTook (now (input .entry)) cursor count (now (bytes .exit)) r ⌝ }
 {
     if cursor < input.len() {
         if count < (input.len() - cursor) / BIT_BYTES {
-            if input[cursor] == SPACE {
+            if text::parts(input[cursor]) {
                 return bits_into(input, cursor, count, bytes);
             }
         }

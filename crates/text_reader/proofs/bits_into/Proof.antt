@@ -1,4 +1,6 @@
+-- `text_reader::bits_into` meets its contract. The loop's invariant stands first. Assumes nothing.
 use Prim.Native.Nat.{_-_}
+use mathlib.Core.Path.{_∙_, sym}
 use Rattle.text_reader.proofs.Taking.{Telling, tell-start, tell-more, tell-done}
 use borrow.Author.Needs.{needs}
 use Rattle.text_reader.proofs.bits_into.Statement.{statement}
@@ -11,7 +13,7 @@ abbrev μ-loop : tie.MeasureT-loop
 μ-loop input cursor count bytes₀ from₀ i₀ bytes from i = count - i
 
 loop-holds : tie.Need-loop-holds Inv-loop μ-loop
-loop-holds c = tell-start _ _ _ _ (c .pre .1)
+loop-holds c = tell-start _ _ _ _ (c .before .before .pre .1)
 
 add-b : tie.Need-add-b Inv-loop μ-loop
 add-b c = search needs
@@ -23,25 +25,22 @@ same-length : tie.Need-same-length Inv-loop μ-loop
 same-length c = search needs
 
 returns : tie.Need-returns Inv-loop μ-loop
-returns c = let l = c .before .before .before in tell-done (l .loop .inv) (l .before .pre .0)
+returns c = let l = c .before .before .before in tell-done (l .loop .inv) (l .before .before .before .pre .0)
 
 same-length-2 : tie.Need-same-length-2 Inv-loop μ-loop
 same-length-2 c = search needs
 
 returns-2 : tie.Need-returns-2 Inv-loop μ-loop
-returns-2 c = let l = c .before .before .before .before in tell-done (l .loop .inv) (l .before .pre .0)
+returns-2 c = let l = c .before .before .before .before in tell-done (l .loop .inv) (l .before .before .before .pre .0)
 
-add-if3 : tie.Need-add-if3 Inv-loop μ-loop
-add-if3 c = search needs
+add-parts : tie.Need-add-parts Inv-loop μ-loop
+add-parts c = search needs
 
-shared-slice-read-if3 : tie.Need-shared-slice-read-if3 Inv-loop μ-loop
-shared-slice-read-if3 c = search needs
+shared-slice-read-parts : tie.Need-shared-slice-read-parts Inv-loop μ-loop
+shared-slice-read-parts c = search needs
 
-same-length-3 : tie.Need-same-length-3 Inv-loop μ-loop
-same-length-3 c = search needs
-
-returns-3 : tie.Need-returns-3 Inv-loop μ-loop
-returns-3 c = let l = c .before .before .before .before .before .before in tell-done (l .loop .inv) (l .before .pre .0)
+parts-requires : tie.Need-parts-requires Inv-loop μ-loop
+parts-requires c κs = search needs
 
 slice-write-bytes : tie.Need-slice-write-bytes Inv-loop μ-loop
 slice-write-bytes c = search needs
@@ -57,15 +56,21 @@ loop-less c = search needs
 
 loop-again : tie.Need-loop-again Inv-loop μ-loop
 loop-again c =
-    let l = c .before .before .before .before .before .before in
-    let asked = l .before .pre in
-    tell-more (l .loop .inv) (c .before .before .before .before .before .loop-test .taken) (asked .2) (asked .0) (c .before .before .before .if1 .left) (c .before .before .if2 .left) (c .if3 .left)
+    let l = c .before .before .before .before .before .before .before in
+    let asked = l .before .before .before .pre in
+    tell-more (l .loop .inv) (c .before .before .before .before .before .before .loop-test .taken) (asked .2) (asked .0) (c .before .before .before .before .if1 .left) (c .before .before .before .if2 .left) (sym (c .before .parts .ensures) ∙ c .if3 .taken)
+
+same-length-3 : tie.Need-same-length-3 Inv-loop μ-loop
+same-length-3 c = search needs
+
+returns-3 : tie.Need-returns-3 Inv-loop μ-loop
+returns-3 c = let l = c .before .before .before .before .before .before .before in tell-done (l .loop .inv) (l .before .before .before .pre .0)
 
 same-length-4 : tie.Need-same-length-4 Inv-loop μ-loop
 same-length-4 c = search needs
 
 returns-4 : tie.Need-returns-4 Inv-loop μ-loop
-returns-4 c = let l = c .before in tell-done (l .loop .inv) (l .before .pre .0)
+returns-4 c = let l = c .before in tell-done (l .loop .inv) (l .before .before .before .pre .0)
 
 pub bits-into-spec : {M : Type 1} → statement M
 bits-into-spec =
@@ -80,14 +85,15 @@ bits-into-spec =
     returns
     same-length-2
     returns-2
-    add-if3
-    shared-slice-read-if3
-    same-length-3
-    returns-3
+    add-parts
+    shared-slice-read-parts
+    parts-requires
     slice-write-bytes
     add-from
     add-i
     loop-less
     loop-again
+    same-length-3
+    returns-3
     same-length-4
     returns-4)
