@@ -7,7 +7,8 @@ use native.Mathlib.Omega.{arith}
 use native.Mathlib.Numerals.{add-one}
 use native.Mathlib.Decide.{ℕ-discrete}
 use lib.Dec.{lit≤}
-use lib.ListN.{length}
+use lib.ListN.{length, take, drop, length-drop}
+use lib.Seq.{take-all}
 use borrow.Author.Tests.{eq-eqb, ne-eqb}
 use Rattle.text.specs.Words.{space, lineFeed, digit0, nextWord, supplyFrom}
 use Rattle.numbers.specs.Refusals.{BAD-WORD}
@@ -67,12 +68,15 @@ module _ {m : List ℕ} {count : ℕ} {out₀ : List ℕ} {at : ℕ} {out : List
   word-done h = let e : count ≡ i = omega (arith, g .low) in rw e (g .wrote)
 
 -- ---- a call's line
-module _ (i r : ℕ) (words : List ℕ) {m m₁ : List ℕ} {at at₁ : ℕ} (numbers : Wrote m at (decimal i ++ space ∷ decimal r) m₁ at₁) where
-  pub line-accepted : {m₂ m₃ : List ℕ} {at₂ at₃ : ℕ} → r ≡ 0 → Wrote m₁ at₁ words m₂ at₂ → Wrote m₂ at₂ (lineFeed ∷ []) m₃ at₃ → Wrote m at (digitLine i r words) m₃ at₃
+pub rest-whole : (m : List ℕ) (i : ℕ) → take (length m - i) (drop i m) ≡ drop i m
+rest-whole m i = take-all (length m - i) (drop i m) (omega (arith, length-drop i m))
+
+module _ (number : List ℕ) (r : ℕ) (words : List ℕ) {m m₁ : List ℕ} {at at₁ : ℕ} (numbers : Wrote m at (number ++ space ∷ decimal r) m₁ at₁) where
+  pub line-accepted : {m₂ m₃ : List ℕ} {at₂ at₃ : ℕ} → r ≡ 0 → Wrote m₁ at₁ words m₂ at₂ → Wrote m₂ at₂ (lineFeed ∷ []) m₃ at₃ → Wrote m at (digitLine number r words) m₃ at₃
   unfolding digitLine
   line-accepted e p q = rw (eq-eqb r 0 e) (and-then (and-then numbers p) q)
 
-  pub line-refused : {m₂ : List ℕ} {at₂ : ℕ} → (r ≡ 0 → ⊥) → Wrote m₁ at₁ (lineFeed ∷ []) m₂ at₂ → Wrote m at (digitLine i r words) m₂ at₂
+  pub line-refused : {m₂ : List ℕ} {at₂ : ℕ} → (r ≡ 0 → ⊥) → Wrote m₁ at₁ (lineFeed ∷ []) m₂ at₂ → Wrote m at (digitLine number r words) m₂ at₂
   unfolding digitLine
   line-refused e q = rw (ne-eqb r 0 e, append-nil) (and-then numbers q)
 
@@ -119,11 +123,11 @@ said-words {m} kept (suc i) h =
     ap₂ (λ (x y : List ℕ). x ++ y) (said-words kept i (omega arith)) (word-said kept i h)
     ∙ sym (one-more (listed (λ p. wordOf (verdictOf m p)) i) (wordOf (verdictOf m i)))
 
-pub line-said : {m : List ℕ} → Kept m → (i r : ℕ) → digitLine i r (digitWords m (propertyCount m)) ≡ callLine (lineOf (bookOf m) i (record { number = r; state = stateOf m }))
+pub line-said : {m : List ℕ} → Kept m → {number : List ℕ} (i r : ℕ) → number ≡ decimal i → digitLine number r (digitWords m (propertyCount m)) ≡ callLine (lineOf (bookOf m) i (record { number = r; state = stateOf m }))
 unfolding digitLine callLine lineOf propertyWords
-line-said {m} kept i r = go (ℕ-discrete r 0)
+line-said {m} kept i r e = rw e (go (ℕ-discrete r 0))
   where
-    go : Dec (r ≡ 0) → digitLine i r (digitWords m (propertyCount m)) ≡ callLine (lineOf (bookOf m) i (record { number = r; state = stateOf m }))
+    go : Dec (r ≡ 0) → digitLine (decimal i) r (digitWords m (propertyCount m)) ≡ callLine (lineOf (bookOf m) i (record { number = r; state = stateOf m }))
     go (yes z) = rw (eq-eqb r 0 z, properties-length m kept, said-words kept (propertyCount m) (omega arith))
     go (no z) = rw (ne-eqb r 0 z)
 

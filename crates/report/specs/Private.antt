@@ -44,6 +44,6 @@ unfoldable pub digitWords : List ℕ → ℕ → List ℕ
 digitWords m zero = []
 digitWords m (suc i) = digitWords m i ++ wordAt m i
 
--- a call's number and its refusal; if 0, the words
-unfoldable pub digitLine : ℕ → ℕ → List ℕ → List ℕ
-digitLine i refusal words = decimal i ++ space ∷ decimal refusal ++ cond (eqb refusal 0) words [] ++ ended
+-- the digits of a call's number and its refusal; if 0, the words
+unfoldable pub digitLine : List ℕ → ℕ → List ℕ → List ℕ
+digitLine number refusal words = number ++ space ∷ decimal refusal ++ cond (eqb refusal 0) words [] ++ ended

@@ -17,6 +17,7 @@ use numbers::ACCEPTED;
 use numbers::LONGEST_INPUT;
 use numbers::MOST_ATOMS;
 use numbers::PAST_LIMIT;
+use text::MOST_DIGITS;
 use text::Read;
 use text_calls::Turn;
 use text_reader::Part;
@@ -34,6 +35,8 @@ fn call_lines(
     ensures { λ r. ⌜ handed r (now (out .exit)) ≡ finish (now (out .entry)) start (written (linesFrom (bookOf (now (monitor .entry))) 0 (stateOf (now (monitor .entry))) (callsFrom (supplyFrom (now (input .entry)) from .ending) count (supplyFrom (now (input .entry)) from .words)))) ⌝ }
 {
     let mut bytes = [0u8; MOST_ATOMS];
+    let mut digits = [b'0'; MOST_DIGITS];
+    let mut first = MOST_DIGITS - 1;
     let mut at = start;
     let mut cursor = from;
     let mut done: u64 = 0;
@@ -42,7 +45,8 @@ fn call_lines(
         let Turn::Made(refusal, next) = t else {
             return lines::stopped(out, at, text_calls::turn_number(t));
         };
-        at = lines::put_call(out, at, done + 1, refusal, monitor);
+        first = text::count_up(done, &mut digits, first);
+        at = lines::put_call(out, at, &digits, first, refusal, monitor);
         cursor = next;
         done += 1;
     }

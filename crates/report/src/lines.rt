@@ -2,6 +2,7 @@
 ghost use mathlib.Core.Path.{_≡_};
 ghost use mathlib.Core.List.{_∷_, _++_};
 ghost use Prim.Native.Nat.{_+_, _≤_, _<_};
+ghost use lib.ListN.{length, drop};
 ghost use Rattle.text.specs.Words.{space, digit0, supplyFrom};
 ghost use Rattle.text.specs.Decimals.{decimal};
 ghost use Rattle.buffer_writer.specs.Buffer.{handed};
@@ -107,21 +108,29 @@ fn put_words(out: &mut [u8], at: usize, monitor: &[u64; SIZE]) -> usize
     p
 }
 
-// A call's number and its refusal.
-fn put_numbers(out: &mut [u8], at: usize, i: u64, refusal: u64) -> usize
-    ensures { λ r. ⌜ Wrote (now (out .entry)) at (decimal i ++ space ∷ decimal refusal) (now (out .exit)) r ⌝ }
+// A call's number, of the digits from `first` on, and its refusal.
+fn put_numbers(out: &mut [u8], at: usize, digits: &[u8], first: usize, refusal: u64) -> usize
+    requires { ⌜ first ≤ length (now digits) ⌝ }
+    ensures { λ r. ⌜ Wrote (now (out .entry)) at (drop first (now (digits .entry)) ++ space ∷ decimal refusal) (now (out .exit)) r ⌝ }
 {
-    let a = buffer_writer::put_number(out, at, i);
+    let a = buffer_writer::put_bytes(out, at, &digits[first..]);
     let b = buffer_writer::put_bytes(out, a, b" ");
     buffer_writer::put_number(out, b, refusal)
 }
 
-// A call's line. That of an accepted call has the words of the properties.
-pub fn put_call(out: &mut [u8], at: usize, i: u64, refusal: u64, monitor: &[u64; SIZE]) -> usize
-    requires { ⌜ Kept (now monitor) ⌝ }
-    ensures { λ r. ⌜ Wrote (now (out .entry)) at (digitLine i refusal (digitWords (now (monitor .entry)) (propertyCount (now (monitor .entry))))) (now (out .exit)) r ⌝ }
+// A call's line, its number's digits from `first` on. That of an accepted call has the words of the properties.
+pub fn put_call(
+    out: &mut [u8],
+    at: usize,
+    digits: &[u8],
+    first: usize,
+    refusal: u64,
+    monitor: &[u64; SIZE],
+) -> usize
+    requires { ⌜ Kept (now monitor) × (first ≤ length (now digits)) ⌝ }
+    ensures { λ r. ⌜ Wrote (now (out .entry)) at (digitLine (drop first (now (digits .entry))) refusal (digitWords (now (monitor .entry)) (propertyCount (now (monitor .entry))))) (now (out .exit)) r ⌝ }
 {
-    let a = put_numbers(out, at, i, refusal);
+    let a = put_numbers(out, at, digits, first, refusal);
     if refusal == ACCEPTED {
         let b = put_words(out, a, monitor);
         return buffer_writer::put_bytes(out, b, b"\n");

@@ -2,6 +2,8 @@
 mod decimals;
 mod words;
 
+pub use decimals::MOST_DIGITS;
+pub use decimals::count_up;
 pub use decimals::decimal;
 pub use decimals::write_last;
 pub use words::Read;

@@ -2,6 +2,8 @@
 use Prim.Native.Nat.{_-_, _^_, _<_}
 use native.Mathlib.Omega.{arith}
 use mathlib.Core.Path.{sym, _∙_}
+use Rattle.text.specs.Decimals.{Counted}
+use Rattle.text.proofs.Digits.{from-zero, inside}
 use Rattle.buffer_writer.proofs.Writes.{same-bytes}
 use Rattle.report.proofs.Turns.{turn-stopped}
 use Rattle.report.proofs.Lasting.{line-said}
@@ -11,13 +13,16 @@ use Rattle.report.proofs.call_lines.Statement.{statement}
 use Rattle.report.proofs.call_lines.Tie as tie
 
 abbrev Inv-loop : tie.InvT-loop
-Inv-loop input from count monitor₀ out₀ start bytes₀ at₀ cursor₀ done₀ monitor out bytes at cursor done = Going input from count monitor₀ out₀ start monitor out at cursor done × (count < 2 ^ 64)
+Inv-loop input from count monitor₀ out₀ start bytes₀ digits₀ first₀ at₀ cursor₀ done₀ monitor out bytes digits first at cursor done = Going input from count monitor₀ out₀ start monitor out at cursor done × (count < 2 ^ 64) × Counted done digits first
 
 abbrev μ-loop : tie.MeasureT-loop
-μ-loop input from count monitor₀ out₀ start bytes₀ at₀ cursor₀ done₀ monitor out bytes at cursor done = count - done
+μ-loop input from count monitor₀ out₀ start bytes₀ digits₀ first₀ at₀ cursor₀ done₀ monitor out bytes digits first at cursor done = count - done
+
+sub-first : tie.Need-sub-first Inv-loop μ-loop
+sub-first c = search needs
 
 loop-holds : tie.Need-loop-holds Inv-loop μ-loop
-loop-holds c = (go-start _ _ _ _ _ _ ((c .before .before) .pre), search needs)
+loop-holds c = (go-start _ _ _ _ _ _ ((c .before .before) .pre), search needs, from-zero)
 
 call-requires : tie.Need-call-requires Inv-loop μ-loop
 call-requires c κs = (c .before .before .before) .loop .inv .0 .kept
@@ -40,20 +45,31 @@ same-length c = search needs
 returns : tie.Need-returns Inv-loop μ-loop
 returns c = let e = (c .before .before .before .before .before) .enum-told .given .1 in go-stop ((c .before .before .before .before .before .before .before .before .before .before .before) .loop .inv .0) _ ((c .before .before .before .before .before .before .before) .call .ensures) e ((c .before .before .before .before .before .before .before .before .before .before) .loop-test .taken) ((c .before .before) .stopped .ensures) ((c .before .before .before) .turn-number .ensures ∙ sym (turn-stopped e))
 
-add-put-call : tie.Need-add-put-call Inv-loop μ-loop
-add-put-call c = let h = (c .before .before .before .before .before .before .before) .loop-test .taken in let few = (c .before .before .before .before .before .before .before .before) .loop .inv .1 in record { fits = omega (arith, h, few) }
+slice-aggregate-count-up : tie.Need-slice-aggregate-count-up Inv-loop μ-loop
+slice-aggregate-count-up c = search needs
+
+count-up-requires : tie.Need-count-up-requires Inv-loop μ-loop
+count-up-requires c κs = let l = c .before .before .before .before .before .before .before .before .loop .inv in (l .2, let h = c .before .before .before .before .before .before .before .loop-test .taken in omega (arith, h, l .1))
+
+slice-aggregate-put-call : tie.Need-slice-aggregate-put-call Inv-loop μ-loop
+slice-aggregate-put-call c = search needs
 
 put-call-requires : tie.Need-put-call-requires Inv-loop μ-loop
-put-call-requires c κs = go-called ((c .before .before .before .before .before .before .before .before .before) .loop .inv .0) _ ((c .before .before .before .before .before) .call .ensures) ((c .before .before .before) .t .given .1) .called .kept
+put-call-requires c κs = (go-called (c .before .before .before .before .before .before .before .before .before .before .before .before .before .loop .inv .0) _ (c .before .before .before .before .before .before .before .before .before .call .ensures) (c .before .before .before .before .before .before .before .t .given .1) .called .kept, inside (c .before .before .before .before .count-up .ensures))
 
 add-done : tie.Need-add-done Inv-loop μ-loop
-add-done c = let h = (c .before .before .before .before .before .before .before .before .before .before .before) .loop-test .taken in let few = (c .before .before .before .before .before .before .before .before .before .before .before .before) .loop .inv .1 in record { fits = omega (arith, h, few) }
+add-done c = let h = c .before .before .before .before .before .before .before .before .before .before .before .before .before .before .before .loop-test .taken in let few = c .before .before .before .before .before .before .before .before .before .before .before .before .before .before .before .before .loop .inv .1 in record { fits = omega (arith, h, few) }
 
 loop-less : tie.Need-loop-less Inv-loop μ-loop
 loop-less c = search needs
 
 loop-again : tie.Need-loop-again Inv-loop μ-loop
-loop-again c = let l = (c .before .before .before .before .before .before .before .before .before .before .before .before) .loop in let made = go-called (l .inv .0) _ ((c .before .before .before .before .before .before .before .before) .call .ensures) ((c .before .before .before .before .before .before) .t .given .1) in (go-more (l .inv .0) made ((c .before .before .before .before .before .before .before .before .before .before .before) .loop-test .taken) (same-bytes ((c .before .before) .put-call .ensures) (line-said (made .called .kept) _ _)) ((c .before .before) .put-call .kept .0), l .inv .1)
+loop-again c =
+    let l = c .before .before .before .before .before .before .before .before .before .before .before .before .before .before .before .before .loop in
+    let counted = c .before .before .before .before .before .before .before .count-up .ensures in
+    let made = go-called (l .inv .0) _ (c .before .before .before .before .before .before .before .before .before .before .before .before .call .ensures) (c .before .before .before .before .before .before .before .before .before .before .t .given .1) in
+    let line = same-bytes (c .before .before .put-call .ensures) (line-said (made .called .kept) _ _ (counted .digits)) in
+    (go-more (l .inv .0) made (c .before .before .before .before .before .before .before .before .before .before .before .before .before .before .before .loop-test .taken) line (c .before .before .put-call .kept .0), l .inv .1, counted)
 
 last-requires : tie.Need-last-requires Inv-loop μ-loop
 last-requires c κs = search needs
@@ -70,6 +86,7 @@ call-lines-spec =
     (tie.spec
     Inv-loop
     μ-loop
+    sub-first
     loop-holds
     call-requires
     enum-known-t
@@ -78,7 +95,9 @@ call-lines-spec =
     stopped-requires
     same-length
     returns
-    add-put-call
+    slice-aggregate-count-up
+    count-up-requires
+    slice-aggregate-put-call
     put-call-requires
     add-done
     loop-less

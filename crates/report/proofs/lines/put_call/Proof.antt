@@ -5,10 +5,10 @@ use Rattle.report.proofs.lines.put_call.Statement.{statement}
 use Rattle.report.proofs.lines.put_call.Tie as tie
 
 put-numbers-requires : tie.Need-put-numbers-requires
-put-numbers-requires c κs = search needs
+put-numbers-requires c κs = c .before .before .before .pre .1
 
 put-words-requires : tie.Need-put-words-requires
-put-words-requires c κs = (c .before .before .before .before .before .before .before) .pre
+put-words-requires c κs = c .before .before .before .before .before .before .before .before .pre .0
 
 slice-aggregate-put-bytes : tie.Need-slice-aggregate-put-bytes
 slice-aggregate-put-bytes c = search needs
