@@ -14,6 +14,7 @@ use Rattle.text.specs.Words.{space, lineFeed, digit0, nextWord, supplyFrom}
 use Rattle.numbers.specs.Refusals.{BAD-WORD}
 use Rattle.text.specs.declared.words.Read.the-variants.{Word, Refused}
 use Rattle.text.specs.Decimals.{decimal}
+use Rattle.text.proofs.Digits.{one-place}
 use Rattle.text.proofs.Supplies.{word, refused as ended}
 use Rattle.pmtl.specs.declared.Answer.{Answer}
 use Rattle.pmtl.specs.declared.Answer.the-variants.{False, True, Open}
@@ -70,6 +71,9 @@ module _ {m : List ℕ} {count : ℕ} {out₀ : List ℕ} {at : ℕ} {out : List
 -- ---- a call's line
 pub rest-whole : (m : List ℕ) (i : ℕ) → take (length m - i) (drop i m) ≡ drop i m
 rest-whole m i = take-all (length m - i) (drop i m) (omega (arith, length-drop i m))
+
+pub accepted-bytes : (r : ℕ) → r ≡ 0 → space ∷ digit0 ∷ [] ≡ space ∷ decimal r
+accepted-bytes r e = rw e (ap (λ (l : List ℕ). space ∷ l) (one-place 0 (omega arith)))
 
 module _ (number : List ℕ) (r : ℕ) (words : List ℕ) {m m₁ : List ℕ} {at at₁ : ℕ} (numbers : Wrote m at (number ++ space ∷ decimal r) m₁ at₁) where
   pub line-accepted : {m₂ m₃ : List ℕ} {at₂ at₃ : ℕ} → r ≡ 0 → Wrote m₁ at₁ words m₂ at₂ → Wrote m₂ at₂ (lineFeed ∷ []) m₃ at₃ → Wrote m at (digitLine number r words) m₃ at₃

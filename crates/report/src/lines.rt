@@ -108,12 +108,15 @@ fn put_words(out: &mut [u8], at: usize, monitor: &[u64; SIZE]) -> usize
     p
 }
 
-// A call's number, of the digits from `first` on, and its refusal.
+// A call's number, of the digits from `first` on, and its refusal: most often 0, which is put at once.
 fn put_numbers(out: &mut [u8], at: usize, digits: &[u8], first: usize, refusal: u64) -> usize
     requires { ⌜ first ≤ length (now digits) ⌝ }
     ensures { λ r. ⌜ Wrote (now (out .entry)) at (drop first (now (digits .entry)) ++ space ∷ decimal refusal) (now (out .exit)) r ⌝ }
 {
     let a = buffer_writer::put_bytes(out, at, &digits[first..]);
+    if refusal == ACCEPTED {
+        return buffer_writer::put_bytes(out, a, b" 0");
+    }
     let b = buffer_writer::put_bytes(out, a, b" ");
     buffer_writer::put_number(out, b, refusal)
 }
