@@ -1,5 +1,5 @@
 -- Laws of a word's letters, for the proofs of `words`. Assumes nothing.
-use Prim.Native.Nat.{ℕ, suc, _+_, _*_, _-_, _/_, _^_, _≤_, _<_}
+use Prim.Native.Nat.{ℕ, suc, _+_, _*_, _-_, _/_, _%_, _^_, _≤_, _<_}
 use mathlib.Core.Path.{_≡_, refl, sym, ap, _∙_}
 use mathlib.Core.Bool.{Bool, true, false, _&&_, and-false, false≢true}
 use mathlib.Core.Logic.{_⊎_, inl, inr, ⊎-elim}
@@ -10,7 +10,7 @@ use native.Mathlib.Nat.{pow-suc, pow-le-pow-right, add-zero, zero-add, add-suc, 
 use lib.Dec.{leb, ltb, eqb, lit<}
 use lib.ListN.{length, getD, drop, drop-of-length-le}
 use lib.Seq.{drop-cons}
-use borrow.Author.Tests.{le-leb, lt-leb, ne-eqb, leb-true, ltb-true, ltb-false}
+use borrow.Author.Tests.{le-leb, le-ltb, lt-leb, ne-eqb, leb-true, ltb-true, ltb-false}
 use Rattle.numbers.specs.Limits.{MAX}
 use Rattle.text.specs.Words.{mostDigits, pick, parts, digit, letters, allDigits, said, plain, good, wordHere, nextIn, nextWord}
 use Rattle.text.specs.Private.{kindOf, kindAt}
@@ -47,6 +47,13 @@ kind-above b h k = rw (no-part b h, le-leb 48 b h, lt-leb b 57 k)
 pub kind-digit : (b : ℕ) → 48 ≤ b → b ≤ 57 → b - 48 ≡ kindOf b
 unfolding kindOf pick digit
 kind-digit b h k = rw (no-part b h, le-leb 48 b h, le-leb b 57 k)
+
+-- the same, of the byte's distance from the digit 0 upwards, around 256
+pub kind-near : (b d : ℕ) → (d + 48) % 2 ^ 8 ≡ b → d < 10 → d ≡ kindOf b
+kind-near b d e h = let f : d ≡ b - 48 = omega arith in f ∙ kind-digit b (omega arith) (omega arith)
+
+pub kind-far : (b d : ℕ) → (d + 48) % 2 ^ 8 ≡ b → d < 2 ^ 8 → 10 ≤ d → parts b ≡ false → 11 ≡ kindOf b
+kind-far b d e r h p = ⊎-elim (λ k. kind-under b k p) (λ k. kind-above b k (omega arith)) (lt-or-ge b 48)
 
 pub kind-in : (s : List ℕ) (i : ℕ) → i < length s → kindOf (getD s i 0) ≡ kindAt (drop i s)
 unfolding kindAt
@@ -141,6 +148,10 @@ module _ (s : List ℕ) (at i n d : ℕ) (g : Going s at i n) (e : d ≡ kindAt 
 -- one more digit fits, or passes MAX
 pub fits : (n d : ℕ) → d < 10 → n ≤ (MAX - d) / 10 → n * 10 + d ≤ MAX
 fits n d h k = omega arith
+
+-- none does below a tenth of it
+pub fits-below : (n d : ℕ) → d < 10 → n < 1844674407370955161 → false ≡ ltb ((MAX - d) / 10) n
+fits-below n d h k = sym (le-ltb ((MAX - d) / 10) n (omega arith))
 
 pub passes : (n d : ℕ) → d < 10 → (MAX - d) / 10 < n → MAX < n * 10 + d
 passes n d h k = omega arith

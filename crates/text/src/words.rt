@@ -2,6 +2,7 @@
 ghost use mathlib.Core.Path.{_≡_};
 ghost use mathlib.Core.Bool.{false};
 ghost use Prim.Native.Nat.{_-_, _/_, _<_};
+ghost use lib.Dec.{ltb};
 ghost use lib.ListN.{length, getD, drop};
 ghost use Rattle.numbers.specs.Limits.{MAX as Words·MAX};
 ghost use Rattle.text.specs.Words.{digit0, parts as Words·parts, wordHere, nextWord};
@@ -15,10 +16,8 @@ const SPACE: u8 = b' ';
 
 const LINE_FEED: u8 = b'\n';
 
-// The digits of a word lie between these two bytes.
+// The byte of the digit 0.
 const ZERO: u8 = b'0';
-
-const NINE: u8 = b'9';
 
 // What `kind` says of a byte that is no digit.
 const OVER: u64 = 10;
@@ -56,20 +55,18 @@ fn wide(b: u8) -> u64
 }
 
 // What a byte is to a word: a digit's value, OVER where the word is over, BAD where it is spoilt.
-// Digits are the most frequent, so that they are told by the fewest tests.
+// Digits are the most frequent, so that they are told by one test.
 fn kind(b: u8) -> u64
     ensures { λ r. ⌜ r ≡ kindOf b ⌝ }
 {
-    if b < ZERO {
-        if parts(b) {
-            return OVER;
-        }
-        return BAD;
+    let d = wide(std::num::wrapping_sub_u8(b, ZERO));
+    if d < TEN {
+        return d;
     }
-    if NINE < b {
-        return BAD;
+    if parts(b) {
+        return OVER;
     }
-    wide(b) - wide(ZERO)
+    BAD
 }
 
 // The same of a place. A word is over at the end of the text, too.
@@ -82,7 +79,7 @@ fn kind_at(input: &[u8], i: usize) -> u64
     OVER
 }
 
-// The largest number that `d` can follow as one more digit: no division, since it is asked at each digit.
+// The largest number that `d` can follow as one more digit.
 fn most_before(d: u64) -> u64
     requires { ⌜ d < 10 ⌝ }
     ensures { λ r. ⌜ r ≡ (Words·MAX - d) / 10 ⌝ }
@@ -91,6 +88,17 @@ fn most_before(d: u64) -> u64
         return MAX_TENTH - 1;
     }
     MAX_TENTH
+}
+
+// Whether `d` as one more digit takes `n` past MAX: none does while `n` is less than a tenth of it.
+fn passes(n: u64, d: u64) -> bool
+    requires { ⌜ d < 10 ⌝ }
+    ensures { λ r. ⌜ r ≡ ltb ((Words·MAX - d) / 10) n ⌝ }
+{
+    if n < MAX_TENTH {
+        return false;
+    }
+    most_before(d) < n
 }
 
 // The word that begins at `at` with a zero, which is 0 itself or bad.
@@ -117,7 +125,7 @@ fn word_here(input: &[u8], at: usize) -> Read
     let mut i = at;
     let mut d = kind_at(input, at);
     while d < TEN {
-        if most_before(d) < n {
+        if passes(n, d) {
             return Read::Refused(BAD_WORD);
         }
         n = n * TEN + d;
