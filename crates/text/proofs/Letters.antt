@@ -10,7 +10,7 @@ use native.Mathlib.Nat.{pow-suc, pow-le-pow-right, add-zero, zero-add, add-suc, 
 use lib.Dec.{leb, ltb, eqb, lit<}
 use lib.ListN.{length, getD, drop, drop-of-length-le}
 use lib.Seq.{drop-cons}
-use borrow.Author.Tests.{le-leb, le-ltb, lt-leb, ne-eqb, leb-true, ltb-true, ltb-false}
+use borrow.Author.Tests.{le-leb, le-ltb, lt-ltb, lt-leb, ne-eqb, leb-true, ltb-true, ltb-false}
 use Rattle.numbers.specs.Limits.{MAX}
 use Rattle.text.specs.Words.{mostDigits, pick, parts, digit, letters, allDigits, said, plain, good, wordHere, nextIn, nextWord}
 use Rattle.text.specs.Private.{kindOf, kindAt}
@@ -149,9 +149,16 @@ module _ (s : List ℕ) (at i n d : ℕ) (g : Going s at i n) (e : d ≡ kindAt 
 pub fits : (n d : ℕ) → d < 10 → n ≤ (MAX - d) / 10 → n * 10 + d ≤ MAX
 fits n d h k = omega arith
 
--- none does below a tenth of it
-pub fits-below : (n d : ℕ) → d < 10 → n < 1844674407370955161 → false ≡ ltb ((MAX - d) / 10) n
-fits-below n d h k = sym (le-ltb ((MAX - d) / 10) n (omega arith))
+-- which of the two, by a tenth of MAX and its last digit
+module _ (n d : ℕ) (h : d < 10) where
+  pub fits-below : n < 1844674407370955161 → false ≡ ltb ((MAX - d) / 10) n
+  fits-below k = sym (le-ltb ((MAX - d) / 10) n (omega arith))
+
+  pub passes-above : 1844674407370955161 < n → true ≡ ltb ((MAX - d) / 10) n
+  passes-above k = sym (lt-ltb ((MAX - d) / 10) n (omega arith))
+
+  pub by-last : n ≡ 1844674407370955161 → ltb 5 d ≡ ltb ((MAX - d) / 10) n
+  by-last e = ⊎-elim (λ k. lt-ltb 5 d k ∙ sym (lt-ltb ((MAX - d) / 10) n (omega arith))) (λ k. le-ltb 5 d k ∙ sym (le-ltb ((MAX - d) / 10) n (omega arith))) (lt-or-ge 5 d)
 
 pub passes : (n d : ℕ) → d < 10 → (MAX - d) / 10 < n → MAX < n * 10 + d
 passes n d h k = omega arith

@@ -79,18 +79,7 @@ fn kind_at(input: &[u8], i: usize) -> u64
     OVER
 }
 
-// The largest number that `d` can follow as one more digit.
-fn most_before(d: u64) -> u64
-    requires { ⌜ d < 10 ⌝ }
-    ensures { λ r. ⌜ r ≡ (Words·MAX - d) / 10 ⌝ }
-{
-    if MAX_LAST < d {
-        return MAX_TENTH - 1;
-    }
-    MAX_TENTH
-}
-
-// Whether `d` as one more digit takes `n` past MAX: none does while `n` is less than a tenth of it.
+// Whether `d` as one more digit takes `n` past MAX. One test tells it of any number but those with as many digits as MAX.
 fn passes(n: u64, d: u64) -> bool
     requires { ⌜ d < 10 ⌝ }
     ensures { λ r. ⌜ r ≡ ltb ((Words·MAX - d) / 10) n ⌝ }
@@ -98,7 +87,10 @@ fn passes(n: u64, d: u64) -> bool
     if n < MAX_TENTH {
         return false;
     }
-    most_before(d) < n
+    if MAX_TENTH < n {
+        return true;
+    }
+    MAX_LAST < d
 }
 
 // The word that begins at `at` with a zero, which is 0 itself or bad.

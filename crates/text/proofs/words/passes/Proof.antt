@@ -1,5 +1,6 @@
 -- `text::words::passes` meets its contract. Assumes nothing.
-use Rattle.text.proofs.Letters.{fits-below}
+use native.Mathlib.Omega.{arith}
+use Rattle.text.proofs.Letters.{fits-below, passes-above, by-last}
 use borrow.Author.Needs.{needs}
 use Rattle.text.proofs.words.passes.Statement.{statement}
 use Rattle.text.proofs.words.passes.Tie as tie
@@ -7,11 +8,11 @@ use Rattle.text.proofs.words.passes.Tie as tie
 returns : tie.Need-returns
 returns c = fits-below _ _ (c .before .pre) (c .if1 .taken)
 
-most-before-requires : tie.Need-most-before-requires
-most-before-requires c κs = search needs
-
 returns-2 : tie.Need-returns-2
-returns-2 c = rw (c .most-before .ensures)
+returns-2 c = passes-above _ _ (c .before .before .pre) (c .if2 .taken)
+
+returns-3 : tie.Need-returns-3
+returns-3 c = let low = c .before .if1 .left in let high = c .if2 .left in by-last _ _ (c .before .before .pre) (omega arith)
 
 pub passes-spec : {M : Type 1} → statement M
-passes-spec = tie.close (tie.spec returns most-before-requires returns-2)
+passes-spec = tie.close (tie.spec returns returns-2 returns-3)
