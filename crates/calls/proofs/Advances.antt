@@ -34,8 +34,8 @@ use Rattle.memory.proofs.Alike.{alike-self, alike-on, alike-filled, alike-sound
 use Rattle.memory.proofs.Stepped.{Stepped, kept-step, step-book, rows-of-same, kind-same, slot-same, width-same, temporals-same, assumes-same, guarantees-same, property-same}
 use Rattle.row_answers.specs.Told.{earlyTold}
 use Rattle.row_answers.proofs.Told.{told-early, told-settled, early-same, settled-same}
-use Rattle.tables.specs.Puts.{valuesPut, toldPut, earlyPut, settledNow, settledPut}
-use Rattle.tables.proofs.Puts.{few-properties, answer-same, told-alike, told-sound, told-valued, told-told, told-moving, told-unused, asked-alike, asked-tables}
+use Rattle.tables.specs.Puts.{valuesPut, toldPut, toldAgain, earlyPut, settledNow, settledPut}
+use Rattle.tables.proofs.Puts.{few-properties, answer-same, told-alike, told-sound, told-valued, told-told, told-still, told-moving, told-unused, asked-alike, asked-tables}
 use Rattle.set_change.specs.Change.{changed}
 use Rattle.set_change.proofs.Changes.{changed-under}
 use Rattle.calls.specs.Private.{Bytes, snapOf, stepOf, setAfter, valueAfter, clocked, Planned, Written, Atoms, Moved, Tried, Fitting, Asked, Due, Advanced}
@@ -401,8 +401,9 @@ module _ {m : List ℕ} {first : Bool} (due : Due m first) where
       rw (e₂, e₁) (alike-on (told-alike sound) (asked-alike sound₁ valued₁ told₁ moving₁ unused₁), asked-tables sound₁ valued₁ told₁ moving₁ unused₁)
 
   -- nothing new: the digits are those that stand there
-  pub renewed-still : {m₁ : List ℕ} → m₁ ≡ toldPut m → m₁ ≡ m → first ≡ false → Alike m m₁ × Tables m₁
-  renewed-still e₁ e₂ not-first =
+  pub renewed-still : {m₁ : List ℕ} → m₁ ≡ toldPut m → toldAgain m (temporals m) ≡ true → first ≡ false → Alike m m₁ × Tables m₁
+  renewed-still e₁ again not-first =
+      let e₂ = e₁ ∙ told-still m (temporals m) again in
       let sound = due .sound in
       let told : Told m = subst Told (sym e₁ ∙ e₂) (told-told sound) in
       rw e₂ (

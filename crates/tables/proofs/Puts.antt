@@ -1,5 +1,6 @@
 -- What a table that is worked out anew says, and that the others say what they said. Assumes nothing.
-use Prim.Native.Nat.{ℕ, _+_, _≤_, _<_}
+use Prim.Native.Nat.{ℕ, zero, suc, _+_, _≤_, _<_}
+use native.Mathlib.Numerals.{add-one}
 use native.Mathlib.Omega.{arith}
 use mathlib.Core.Path.{_≡_, refl, sym, ap, ap₂, _∙_}
 use mathlib.Core.Bool.{Bool, true, false, cond, _&&_}
@@ -30,7 +31,7 @@ use Rattle.memory.proofs.Rows.{rows-length, row-at, kept-ordered}
 use Rattle.memory.proofs.Alike.{alike-on, alike-filled, alike-sound, alike-rows, alike-state, alike-set}
 use Rattle.row_answers.specs.Told.{earlyTold}
 use Rattle.row_answers.proofs.Told.{told-early, told-settled, early-same, settled-same, alike-told}
-use Rattle.tables.specs.Puts.{bitIn, movesPut, valuesPut, standingAt, toldPut, earlyDigit, earlyPut, settledNow, settledDigit, settledPut}
+use Rattle.tables.specs.Puts.{bitIn, movesPut, valuesPut, standingAt, toldPut, toldAgain, earlyDigit, earlyPut, settledNow, settledDigit, settledPut}
 
 abbrev pub move-word : List ℕ → ℕ → ℕ
 move-word m r = bitOf (moves (rowsOf m) r)
@@ -193,10 +194,19 @@ module _ {m : List ℕ} (sound : Sound m) where
 -- how far a loop has told them, and whether that is all as before
 pub record Telling (m : List ℕ) (n : ℕ) (m′ : List ℕ) (same : Bool) : Type 0 where
   pub put : m′ ≡ filledFrom TOLD (standingAt m) m n
-  pub still : same ≡ true → m′ ≡ m
+  pub again : same ≡ toldAgain m n
 
 pub telling-start : (m : List ℕ) → Telling m 0 m true
-telling-start m = record { put = refl; still = λ e. refl }
+unfolding toldAgain
+telling-start m = record { put = refl; again = refl }
+
+-- where all is told again, nothing is new
+pub told-still : (m : List ℕ) (n : ℕ) → toldAgain m n ≡ true → filledFrom TOLD (standingAt m) m n ≡ m
+unfolding toldAgain
+told-still m zero e = refl
+told-still m (suc j) e =
+    let is = eqb-true (toldAt m j) (standingAt m j) (and-right (toldAgain m j) _ e) in
+    rw (told-still m j (and-left (toldAgain m j) _ e)) (ap (set m (TOLD + j)) (sym is) ∙ set-getD m (TOLD + j) 0)
 
 module _ {m : List ℕ} (sound : Sound m) where
   module _ {n : ℕ} {m′ : List ℕ} {same : Bool} (t : Telling m n m′ same) where
@@ -208,15 +218,14 @@ module _ {m : List ℕ} (sound : Sound m) where
 
     pub telling-more : n < temporals m → {words : List ℕ} {clock old new : ℕ} {same′ : Bool} → clock ≡ clockOf m → words ≡ slotWords m′ n → new ≡ standing clock (runs words) → old ≡ toldAt m′ n
         → same′ ≡ (same && eqb old new) → Telling m (n + 1) (set m′ (TOLD + n) new) same′
+    unfolding toldAgain
     telling-more h {words} {clock} {old} {new} ec ew en eo es =
         let few = few-sets sound in
+        let before : old ≡ toldAt m n = eo ∙ ap (λ (x : List ℕ). toldAt x n) (t .put) ∙ filledFrom-after TOLD (standingAt m) m 0 n (TOLD + n) (omega arith) in
         let is : new ≡ standingAt m n = en ∙ ap₂ (λ (c : ℕ) (ws : List ℕ). standing c (runs ws)) ec (ew ∙ alike-set sound alike n (omega arith)) in
         record {
           put = filledFrom-more TOLD (standingAt m) m (t .put) is;
-          still = λ e.
-              let both = sym es ∙ e in
-              let same-word : new ≡ getD m′ (TOLD + n) 0 = sym (eqb-true old new (and-right same (eqb old new) both)) ∙ eo in
-              ap (set m′ (TOLD + n)) same-word ∙ set-getD m′ (TOLD + n) 0 ∙ t .still (and-left same (eqb old new) both);
+          again = es ∙ rw (t .again, before, is, add-one);
         }
 
   pub told-alike : Alike m (toldPut m)

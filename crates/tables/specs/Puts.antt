@@ -1,15 +1,16 @@
 -- A memory with one of its tables worked out anew from the words before the tables, and the digits by what was told. Definitions only.
-use Prim.Native.Nat.{ℕ, _+_}
-use mathlib.Core.Bool.{Bool, cond}
+use Prim.Native.Nat.{ℕ, zero, suc, _+_}
+use mathlib.Core.Bool.{Bool, true, cond, _&&_}
 use mathlib.Core.List.{List}
 use lib.ListN.{getD}
+use lib.Dec.{eqb}
 use Rattle.lists.specs.Lists.{filledFrom}
 use Rattle.numset.specs.Runs.{runs}
 use Rattle.pmtl.specs.declared.Answer.{Answer}
 use Rattle.pmtl.specs.declared.Answer.the-variants.{Open}
 use Rattle.pmtl.specs.Answer.{bitOf, digitOf}
 use Rattle.memory.specs.Layout.{VALUES, TOLD, EARLY, SETTLED, MOVES}
-use Rattle.memory.specs.Memory.{rowCount, begunWord, clockOf, temporals, slotWords, propertyRow, isOne, rowsOf}
+use Rattle.memory.specs.Memory.{rowCount, begunWord, clockOf, temporals, slotWords, propertyRow, toldAt, isOne, rowsOf}
 use Rattle.memory.specs.Tables.{standing, moves, valueOf, propertyCount}
 use Rattle.row_answers.specs.Told.{earlyTold, settledTold}
 
@@ -31,6 +32,11 @@ standingAt m j = standing (clockOf m) (runs (slotWords m j))
 
 abbrev pub toldPut : List ℕ → List ℕ
 toldPut m = filledFrom TOLD (standingAt m) m (temporals m)
+
+-- and whether that is what was told of the first n
+unfoldable pub toldAgain : List ℕ → ℕ → Bool
+toldAgain m zero = true
+toldAgain m (suc j) = toldAgain m j && eqb (toldAt m j) (standingAt m j)
 
 -- the digit of each property's early answer, of its settled answer
 abbrev pub earlyDigit : List ℕ → ℕ → ℕ

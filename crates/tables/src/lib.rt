@@ -9,13 +9,13 @@ ghost use Rattle.pmtl.specs.Sets.{gone};
 ghost use Rattle.numbers.specs.Limits.{MOST-ROWS};
 ghost use Rattle.pmtl.specs.Book.{mapRow};
 ghost use Rattle.memory.specs.Layout.{MOVES, SIZE};
-ghost use Rattle.memory.specs.Memory.{rowCount, begunWord, operandsFrom, rowOf, isOne};
+ghost use Rattle.memory.specs.Memory.{rowCount, begunWord, temporals, operandsFrom, rowOf, isOne};
 ghost use Rattle.memory.specs.Tables.{standing, moveRule, Unused, Tables};
 ghost use Rattle.memory.specs.Kept.{BookKept, Span, Sound};
 ghost use Rattle.memory.specs.Alike.{Alike};
 ghost use Rattle.row_answers.specs.Told.{settledTold};
 ghost use Rattle.row_answers.specs.Private.{joined};
-ghost use Rattle.tables.specs.Puts.{bitIn, movesPut, valuesPut, toldPut, earlyPut, settledPut};
+ghost use Rattle.tables.specs.Puts.{bitIn, movesPut, valuesPut, toldPut, earlyPut, settledPut, toldAgain};
 use book::HISTORICALLY;
 use memory::COVERS;
 use memory::EARLY;
@@ -124,7 +124,7 @@ fn still(same: bool, old: u64, new: u64) -> bool
 // Tells the rows anew what is so of their sets. Whether that is all as before.
 pub fn retell(monitor: &mut [u64; SIZE]) -> bool
     requires { ⌜ Sound (now monitor) ⌝ }
-    ensures { λ r. ⌜ (now (monitor .exit) ≡ toldPut (now (monitor .entry))) × (r ≡ true → now (monitor .exit) ≡ now (monitor .entry)) ⌝ }
+    ensures { λ r. ⌜ (now (monitor .exit) ≡ toldPut (now (monitor .entry))) × (r ≡ toldAgain (now (monitor .entry)) (temporals (now (monitor .entry)))) ⌝ }
 {
     let clock = memory::clock(monitor);
     let count = memory::temporal_count(monitor);

@@ -1,4 +1,5 @@
 -- `calls::renew` meets its contract. Assumes nothing.
+use mathlib.Core.Path.{sym, _∙_}
 use Rattle.tables.proofs.Puts.{told-sound}
 use Rattle.calls.proofs.Advances.{renewed-asked, renewed-still}
 use Rattle.calls.proofs.renew.Statement.{statement}
@@ -17,7 +18,7 @@ retell-requires-2 : tie.Need-retell-requires-2
 retell-requires-2 c κs = (c .before .before) .pre .sound
 
 returns-2 : tie.Need-returns-2
-returns-2 c = renewed-still ((c .before .before .before .before) .pre) ((c .before) .retell2 .ensures .0) ((c .before) .retell2 .ensures .1 (c .if2 .taken)) ((c .before .before .before) .if1 .left)
+returns-2 c = renewed-still ((c .before .before .before .before) .pre) ((c .before) .retell2 .ensures .0) (sym ((c .before) .retell2 .ensures .1) ∙ c .if2 .taken) ((c .before .before .before) .if1 .left)
 
 ask-requires-2 : tie.Need-ask-requires-2
 ask-requires-2 c κs = rw ((c .before .before) .retell2 .ensures .0) (told-sound ((c .before .before .before .before .before) .pre .sound))

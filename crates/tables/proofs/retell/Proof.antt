@@ -54,7 +54,7 @@ loop-again : tie.Need-loop-again Inv-loop μ-loop
 loop-again c = let s = (c .before .before .before .before .before .before .before .before .before .before .before .before) in let l = (c .before .before .before .before .before .before .before) .loop in let e = l .inv .2 in (omega arith, l .inv .1, e, telling-more (s .pre) (l .inv .3) (omega arith) (l .inv .1) ((c .before .before .before .before) .set-at .ensures) ((c .before .before .before) .standing .ensures) ((c .before) .told-at .ensures) (c .still .ensures))
 
 returns : tie.Need-returns Inv-loop μ-loop
-returns c = let s = (c .before .before .before .before .before .before) in let l = (c .before) .loop in let e : l .slot ≡ temporals (s .args .monitor .now) = let q = l .inv .2 in omega arith in (rw e at (l .inv .3 .put), l .inv .3 .still)
+returns c = let s = (c .before .before .before .before .before .before) in let l = (c .before) .loop in let e : l .slot ≡ temporals (s .args .monitor .now) = let q = l .inv .2 in omega arith in (rw e at (l .inv .3 .put), rw e at (l .inv .3 .again))
 
 pub retell-spec : {M : Type 1} → statement M
 retell-spec =
