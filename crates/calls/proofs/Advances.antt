@@ -1,8 +1,8 @@
--- A planned call carried out: the memory that it leaves holds the definitions' next state, and is kept. Assumes nothing.
-use Prim.Native.Nat.{ℕ, _+_, _^_, _≤_, _<_}
+-- A planned call carried out: the memory that it leaves holds the definitions' next state, and its tables what is due. Assumes nothing.
+use Prim.Native.Nat.{ℕ, _+_, _*_, _-_, _^_, _≤_, _<_}
 use mathlib.Core.Path.{_≡_, refl, sym, ap, ap₂, subst, _∙_}
 use mathlib.Core.Logic.{⊎-elim}
-use mathlib.Core.Bool.{Bool, true, false, true≢false}
+use mathlib.Core.Bool.{Bool, true, false, cond, true≢false}
 use mathlib.Core.List.{List, [], _∷_, map}
 use native.Mathlib.Omega.{arith}
 use lib.ListN.{length, getD, take, length-map, List·getD-map}
@@ -10,23 +10,35 @@ use lib.Seq.{ext-getD, getD-take, length-take-le}
 use lib.Dec.{eqb}
 use borrow.Author.Tests.{eqb-false}
 use Rattle.numbers.specs.Limits.{MAX, LAST-TIME}
-use Rattle.numset.specs.Runs.{Runs, runs, Good, fits, pack}
+use Rattle.lists.specs.Lists.{listed, filledFrom}
 use Rattle.lists.proofs.Tests.{either, lt-or-ge, fails-by}
+use Rattle.lists.proofs.Listed.{listed-length, listed-at}
+use Rattle.lists.proofs.Parts.{word-at, part-same}
+use Rattle.lists.proofs.Filled.{filledFrom-length, filledFrom-at, filledFrom-before, filledFrom-after}
+use Rattle.numset.specs.Runs.{Runs, runs, Good, fits, pack}
 use Rattle.numset.proofs.Packs.{runs-pack, good-pack}
-use Rattle.pmtl.specs.Book.{Range, start, stop}
-use Rattle.pmtl.specs.Monitor.{Snap, State, setAt}
+use Rattle.pmtl.specs.declared.Answer.{Answer}
+use Rattle.pmtl.specs.declared.Answer.the-variants.{Open}
+use Rattle.pmtl.specs.Answer.{bitOf, digitOf}
+use Rattle.pmtl.specs.Book.{Range, Rows, start, stop}
+use Rattle.pmtl.specs.Monitor.{Snap, State, setAt, value}
 use Rattle.pmtl.specs.Calls.{crowded, play}
 use Rattle.pmtl.proofs.Answers.{step-sets, step-now, step-begun}
-use Rattle.memory.specs.Layout.{ATOMS, OWNERS, SET}
-use Rattle.memory.specs.Memory.{begunWord, clockOf, widthWord, temporals, rowCount, kindAt, slotAt, ownerAt, setStart, slotWords, rowsOf, setOf, stateOf, isOne, rangeAt}
-use Rattle.lists.specs.Lists.{listed}
+use Rattle.memory.specs.Layout.{ROWS, ROW, ATOMS, OWNERS, SET, VALUES, TOLD, EARLY, SETTLED, MOVES}
+use Rattle.memory.specs.Memory.{begunWord, clockOf, widthWord, temporals, rowCount, kindAt, slotAt, ownerAt, setStart, slotWords, propertyRow, valueAt, toldAt, rowsOf, setOf, stateOf, isOne, rangeAt}
+use Rattle.memory.specs.Tables.{valueOf, propertyCount, Valued, Told, Moving, Unused, Tables}
+use Rattle.memory.specs.Kept.{Sound, Kept}
+use Rattle.memory.specs.Alike.{Alike}
 use Rattle.memory.proofs.Rows.{rows-length}
-use Rattle.lists.proofs.Listed.{listed-length, listed-at}
-use Rattle.row_answers.specs.Facts.{Here}
-use Rattle.lists.proofs.Parts.{part-same}
-use Rattle.memory.proofs.Stepped.{Stepped, kept-step, step-book, kind-same, slot-same, width-same}
+use Rattle.memory.proofs.Alike.{alike-self, alike-on, alike-filled, alike-sound, alike-set}
+use Rattle.memory.proofs.Stepped.{Stepped, kept-step, step-book, rows-of-same, kind-same, slot-same, width-same, temporals-same, assumes-same, guarantees-same, property-same}
+use Rattle.row_answers.specs.Told.{earlyTold}
+use Rattle.row_answers.proofs.Told.{told-early, told-settled, early-same, settled-same}
+use Rattle.tables.specs.Puts.{valuesPut, toldPut, toldAgain, earlyPut, settledNow, settledPut}
+use Rattle.tables.proofs.Puts.{few-properties, answer-same, told-alike, told-sound, told-valued, told-told, told-still, told-moving, told-unused, asked-alike, asked-tables}
+use Rattle.set_change.specs.Change.{changed}
 use Rattle.set_change.proofs.Changes.{changed-under}
-use Rattle.calls.specs.Private.{Bytes, snapOf, stepOf, setAfter, clocked, Planned, Written, Atoms, Moved, Tried, Timely, Fitting, Advanced}
+use Rattle.calls.specs.Private.{Bytes, snapOf, stepOf, setAfter, valueAfter, clocked, Planned, Written, Atoms, Moved, Tried, Fitting, Asked, Due, Advanced}
 use Rattle.calls.proofs.Rules.{set-of-slot, set-of-none}
 use Rattle.calls.proofs.Plans.{set-none, fits-each}
 use Rattle.calls.proofs.Commits.{room-is}
@@ -46,70 +58,146 @@ state-is : (st : State) {begun : Bool} {now : Snap} {sets : List Runs} → st .b
 state-is st e f g = λ i. record { begun = sym e i; now = sym f i; sets = sym g i }
 
 -- a plan, where it is known whether there is room
-pub planned-as : {m : List ℕ} {c : ℕ} {atoms here modes : List ℕ} {room room′ : Bool} → room ≡ room′ → Planned m c atoms here room modes → Planned m c atoms here room′ modes
-planned-as {m} {c} {atoms} {here} {modes} e p = subst (λ (b : Bool). Planned m c atoms here b modes) e p
+pub planned-as : {m : List ℕ} {c : ℕ} {atoms m′ modes : List ℕ} {room room′ : Bool} → room ≡ room′ → Planned m c atoms m′ room modes → Planned m c atoms m′ room′ modes
+planned-as {m} {c} {atoms} {m′} {modes} e p = subst (λ (b : Bool). Planned m c atoms m′ b modes) e p
 
-module _ {m : List ℕ} {c : ℕ} (timely : Timely m c) where
-  few : temporals m ≤ 32
-  few = timely .kept .book .temporal-few
+-- ---- the values worked out anew from what did not change are the old ones
+pub restored : {m m₁ : List ℕ} → Kept m → (f : ℕ → ℕ) (n : ℕ) → n ≤ rowCount m → m₁ ≡ filledFrom VALUES f m n → valuesPut m₁ ≡ m
+restored {m} {m₁} kept f n few e = rw e (ext-getD 0 (valuesPut mid) m same-length (λ i h. word i))
+  where
+    mid : List ℕ
+    mid = filledFrom VALUES f m n
 
-  narrow : widthWord m ≤ 256
-  narrow = timely .kept .book .narrow
+    alike : Alike m mid
+    alike = alike-filled m VALUES f n (omega arith)
 
-module _ {m : List ℕ} {c : ℕ} {atoms here modes : List ℕ} (timely : Timely m c) (planned : Planned m c atoms here true modes) where
+    count : rowCount mid ≡ rowCount m
+    count = alike .below 0 (omega arith)
+
+    new : ℕ → ℕ
+    new r = bitOf (valueOf mid r)
+
+    same-length : length (valuesPut mid) ≡ length m
+    same-length = filledFrom-length VALUES new mid (rowCount mid) ∙ alike .long
+
+    word : (i : ℕ) → getD (valuesPut mid) i 0 ≡ getD m i 0
+    word i =
+        ⊎-elim
+        (λ (p : i < VALUES). filledFrom-before VALUES new mid 0 (rowCount mid) i p ∙ alike .below i p)
+        (λ (p : VALUES ≤ i).
+        ⊎-elim
+        (λ (q : i - VALUES < rowCount m).
+        let r : ℕ = i - VALUES in
+        let long = kept .sound .book .long in
+        let rows = kept .sound .book .few in
+        let l = alike .long in
+        word-at (valuesPut mid) i (VALUES + r) (omega arith)
+        ∙ filledFrom-at VALUES new mid 0 (rowCount mid) r (rw count q) (omega (arith, count))
+        ∙ ap bitOf (answer-same (kept .sound) alike value r) ∙ sym (kept .tables .valued .right r q)
+        ∙ word-at m (VALUES + r) i (omega arith))
+        (λ (q : rowCount m ≤ i - VALUES).
+        filledFrom-after VALUES new mid 0 (rowCount mid) i (omega (arith, count)) ∙ filledFrom-after VALUES f m 0 n i (omega arith))
+        (lt-or-ge (i - VALUES) (rowCount m)))
+        (lt-or-ge i VALUES)
+
+pub tried-full : {m : List ℕ} {c : ℕ} {atoms m₁ m₂ modes : List ℕ} → Kept m → Planned m c atoms m₁ false modes → m₂ ≡ valuesPut m₁ → Tried m c atoms m₂ 11
+tried-full kept p e =
+    record { room = λ f. absurd (true≢false (sym (p .fits) ∙ f)); full = λ f. (refl, e ∙ restored kept _ (p .tried) (p .few) (p .values)) }
+
+-- the memory that the plan leaves is sound, whether there is room or not
+pub planned-sound : {m : List ℕ} {c : ℕ} {atoms m₁ modes : List ℕ} {room : Bool} → Sound m → Planned m c atoms m₁ room modes → Sound m₁
+planned-sound {m} {c} {atoms} sound p = rw (p .values) (alike-sound sound (alike-filled m VALUES (valueAfter m c atoms) (p .tried) (omega arith)))
+
+-- ---- a plan carried out
+module _ {m : List ℕ} {c : ℕ} {atoms m₁ modes : List ℕ} (sound : Sound m) (small : c ≤ LAST-TIME) (planned : Planned m c atoms m₁ true modes) where
   roomy : crowded (stepOf m c atoms) ≡ false
   roomy = planned .fits
 
-  pub fitting : Fitting m c modes
+  values-all : m₁ ≡ filledFrom VALUES (valueAfter m c atoms) m (rowCount m)
+  values-all = planned .values ∙ ap (filledFrom VALUES (valueAfter m c atoms) m) (planned .all refl)
+
+  alike : Alike m m₁
+  alike = rw values-all (alike-filled m VALUES (valueAfter m c atoms) (rowCount m) (omega arith))
+
+  sound₁ : Sound m₁
+  sound₁ = alike-sound sound alike
+
+  slots-same : temporals m₁ ≡ temporals m
+  slots-same = alike .below 4 (omega arith)
+
+  after-same : (mode j : ℕ) → j < temporals m → setAfter m₁ c mode j ≡ setAfter m c mode j
+  after-same mode j h =
+      let few = sound .book .temporal-few in
+      let rows = sound .book .few in
+      let owned = sound .book .owned j h in
+      let o : ownerAt m₁ j ≡ ownerAt m j = alike .below (OWNERS + j) (omega arith) in
+      let range : rangeAt m₁ (ownerAt m j) ≡ rangeAt m (ownerAt m j) =
+      ap₂ (λ (l u : ℕ). record { lower = l; upper = u }) (alike .below (ROWS + ROW * ownerAt m j + 2) (omega arith)) (alike .below (ROWS + ROW * ownerAt m j + 3) (omega arith)) in
+      ap₂ (λ (g : Range) (ws : List ℕ). changed mode (start g c) (stop g c) (runs ws)) (ap (rangeAt m₁) o ∙ range) (alike-set sound alike j (omega arith))
+
+  set-planned : (j : ℕ) → j < temporals m → setAfter m₁ c (getD modes j 0) j ≡ setAt (stepOf m c atoms) (ownerAt m j)
+  set-planned j h = after-same (getD modes j 0) j h ∙ planned .sets refl j h
+
+  pub fitting : Fitting m₁ c modes
   fitting =
-      let kept = timely .kept .book in
-      record { timely = timely; room = λ j h. ap (fits SET) (planned .sets refl j h) ∙ fits-each m kept c atoms roomy j h }
+      record {
+        timely = record { sound = sound₁; clock = small };
+        room = rw slots-same (λ j h. ap (fits SET) (set-planned j h) ∙ fits-each m (sound .book) c atoms roomy j h);
+      }
 
   abbrev after : ℕ → Runs
-  after j = setAfter m c (getD modes j 0) j
+  after j = setAfter m₁ c (getD modes j 0) j
 
-  module _ {m₁ : List ℕ} (w : Written m (λ j. setAfter m c (getD modes j 0) j) (temporals m) m₁) where
-    clocked-set : (j : ℕ) → j < 32 → slotWords (clocked m₁ c) j ≡ slotWords m₁ j
+  module _ {m₂ : List ℕ} (w : Written m₁ (λ j. setAfter m₁ c (getD modes j 0) j) (temporals m₁) m₂) where
+    clocked-set : (j : ℕ) → j < 32 → slotWords (clocked m₂ c) j ≡ slotWords m₂ j
     clocked-set j lt =
-        part-same (setStart j) SET m₁ (clocked m₁ c) (let l = w .long in omega arith) (clocked-length m₁ c) (λ i p. clocked-other m₁ c (setStart j + i) (omega arith) (omega arith))
+        part-same (setStart j) SET m₂ (clocked m₂ c) (let l = w .long in omega arith) (clocked-length m₂ c) (λ i p. clocked-other m₂ c (setStart j + i) (omega arith) (omega arith))
 
-    set-new : (j : ℕ) → j < temporals m → slotWords (clocked m₁ c) j ≡ pack SET (after j)
-    set-new j lt = let f = few timely in clocked-set j (omega arith) ∙ w .new j lt
+    set-new : (j : ℕ) → j < temporals m → slotWords (clocked m₂ c) j ≡ pack SET (after j)
+    set-new j lt = let f = sound .book .temporal-few in clocked-set j (omega arith) ∙ w .new j (rw slots-same lt)
 
     after-good : (j : ℕ) → j < temporals m → Good (pack SET (after j))
     after-good j lt =
-        let f = few timely in
-        let b = timely .kept .book in
-        let g : Range = rangeAt m (ownerAt m j) in
-        good-pack SET (after j) (room-is (after j) (fitting .room j lt))
-        (changed-under (2 ^ 64 + 1) (getD modes j 0) (start g c) (stop g c) (runs (slotWords m j)) (timely .kept .sets j (omega arith) .apart)
-        (stop-fits g c (timely .clock) (b .rows (ownerAt m j) (b .owned j lt) .upper)))
+        let f = sound .book .temporal-few in
+        let b = sound₁ .book in
+        let l : j < temporals m₁ = rw slots-same lt in
+        let g : Range = rangeAt m₁ (ownerAt m₁ j) in
+        good-pack SET (after j) (room-is (after j) (fitting .room j l))
+        (changed-under (2 ^ 64 + 1) (getD modes j 0) (start g c) (stop g c) (runs (slotWords m₁ j)) (sound₁ .sets j (omega arith) .apart)
+        (stop-fits g c small (b .rows (ownerAt m₁ j) (b .owned j l) .upper)))
 
-    moved : Moved m c atoms here (clocked m₁ c)
+    value-word : (r : ℕ) → r < rowCount m → valueAt (clocked m₂ c) r ≡ valueAfter m c atoms r
+    value-word r h =
+        let long = sound .book .long in
+        let few = sound .book .few in
+        clocked-other m₂ c (VALUES + r) (omega arith) (omega arith) ∙ w .beyond (VALUES + r) (omega arith)
+        ∙ ap (λ (x : List ℕ). valueAt x r) values-all ∙ filledFrom-at VALUES (valueAfter m c atoms) m 0 (rowCount m) r h (omega arith)
+
+    moved : Moved m c atoms (clocked m₂ c)
     moved =
         record {
-          long = clocked-length m₁ c ∙ w .long;
-          begun = clocked-begun m₁ c (w .long);
-          clock = clocked-clock m₁ c (w .long);
-          below = λ i p q lt. clocked-other m₁ c i p q ∙ w .below i lt;
-          new = λ j lt. set-new j lt ∙ ap (pack SET) (planned .sets refl j lt);
+          long = clocked-length m₂ c ∙ w .long;
+          begun = clocked-begun m₂ c (w .long);
+          clock = clocked-clock m₂ c (w .long);
+          below = λ i p q lt. clocked-other m₂ c i p q ∙ w .below i lt ∙ alike .below i (omega arith);
+          new = λ j lt. set-new j lt ∙ ap (pack SET) (set-planned j lt);
           good = λ j lt. rw (set-new j lt) (after-good j lt);
-          old = λ j p q. clocked-set j q ∙ w .old j p q;
-          here-right = planned .here-right refl;
+          old = λ j p q. clocked-set j q ∙ w .old j (rw slots-same p) q ∙ alike-set sound alike j q;
+          values = value-word;
+          beyond = λ i p.
+              clocked-other m₂ c i (omega arith) (omega arith) ∙ w .beyond i (omega arith)
+              ∙ ap (λ (x : List ℕ). getD x i 0) values-all ∙ filledFrom-after VALUES (valueAfter m c atoms) m 0 (rowCount m) i p;
         }
 
-    pub tried-room : {m₂ : List ℕ} → m₂ ≡ clocked m₁ c → Tried m c atoms here m₂ 0
+    pub tried-room : {m₃ : List ℕ} → m₃ ≡ clocked m₂ c → Tried m c atoms m₃ 0
     tried-room e = record { room = λ f. (refl, rw e moved); full = λ f. absurd (true≢false (sym f ∙ roomy)) }
 
-pub tried-full : {m : List ℕ} {c : ℕ} {atoms here modes : List ℕ} → Planned m c atoms here false modes → Tried m c atoms here m 11
-tried-full planned = record { room = λ f. absurd (true≢false (sym (planned .fits) ∙ f)); full = λ f. (refl, refl) }
-
-pub moved-width : {m : List ℕ} {c : ℕ} {atoms here m′ : List ℕ} → Moved m c atoms here m′ → widthWord m′ ≡ widthWord m
+pub moved-width : {m : List ℕ} {c : ℕ} {atoms m′ : List ℕ} → Moved m c atoms m′ → widthWord m′ ≡ widthWord m
 moved-width v = v .below 3 (omega arith) (omega arith) (omega arith)
 
 -- ---- once the atoms are set, too
 module _
-    {m : List ℕ} {c : ℕ} {atoms here m₁ m₂ : List ℕ} (timely : Timely m c) (bytes : Bytes atoms (widthWord m)) (roomy : crowded (stepOf m c atoms) ≡ false) (v : Moved m c atoms here m₁)
+    {m : List ℕ} {c : ℕ} {atoms m₁ m₂ : List ℕ} (kept : Kept m) (small : c ≤ LAST-TIME) (bytes : Bytes atoms (widthWord m)) (roomy : crowded (stepOf m c atoms) ≡ false) (v : Moved m c atoms m₁)
     (a : Atoms m₁ atoms (widthWord m₁) m₂)
   where
     begun-now : begunWord m₂ ≡ 1
@@ -120,33 +208,33 @@ module _
 
     atoms-set : (j : ℕ) → j < 32 → slotWords m₂ j ≡ slotWords m₁ j
     atoms-set j lt =
-        let n = narrow timely in
+        let n = kept .sound .book .narrow in
         let e = moved-width v in
         part-same (setStart j) SET m₁ m₂ (let l = v .long in omega arith) (a .long ∙ sym (v .long)) (λ i p. a .above (setStart j + i) (omega arith))
 
     stepped : Stepped m m₂
     stepped =
-        let n = narrow timely in
+        let n = kept .sound .book .narrow in
         let e = moved-width v in
-        let f = few timely in
+        let f = kept .sound .book .temporal-few in
         record {
-          long = a .long ∙ sym (timely .kept .book .long);
+          long = a .long ∙ sym (kept .sound .book .long);
           rows-same = a .below 0 (omega arith) ∙ v .below 0 (omega arith) (omega arith) (omega arith);
           book-same = λ i p q. a .below i q ∙ v .below i (omega arith) (omega arith) (omega arith);
           atoms-same = λ i p q. a .above (ATOMS + i) (omega arith) ∙ v .below (ATOMS + i) (omega arith) (omega arith) (omega arith);
           owners-same = λ j p. a .above (OWNERS + j) (omega arith) ∙ v .below (OWNERS + j) (omega arith) (omega arith) (omega arith);
           sets-same = λ j p q. atoms-set j q ∙ v .old j p q;
           begun = rw begun-now (omega arith);
-          clock = rw clock-now (timely .clock);
+          clock = rw clock-now small;
           atoms = λ i p. rw (a .new i (omega arith)) (bytes .bits i p);
           sets = λ j p. rw (atoms-set j (omega arith)) (v .good j p);
         }
 
     atoms-are : listed (λ i. isOne (getD m₂ (ATOMS + i) 0)) (widthWord m₂) ≡ map isOne (take (widthWord m) atoms)
     atoms-are =
-        let wd = width-same m m₂ (timely .kept) stepped in
+        let wd = width-same m m₂ (kept .sound) stepped in
         let f : ℕ → Bool = λ i. isOne (getD m₂ (ATOMS + i) 0) in
-        let long : length (take (widthWord m) atoms) ≡ widthWord m = length-take-le (widthWord m) atoms (let l = bytes .long in let n = narrow timely in omega arith) in
+        let long : length (take (widthWord m) atoms) ≡ widthWord m = length-take-le (widthWord m) atoms (bytes .long) in
         ap (listed f) wd
         ∙ ext-getD false (listed f (widthWord m)) (map isOne (take (widthWord m) atoms)) (listed-length f (widthWord m) ∙ sym (length-map (take (widthWord m) atoms) isOne ∙ long))
         (λ i lt.
@@ -157,19 +245,19 @@ module _
 
     set-is : (r : ℕ) → r < rowCount m → setOf m₂ r ≡ setAt (stepOf m c atoms) r
     set-is r p =
-        let kept = timely .kept .book in
-        let small : r < 128 = let f = kept .few in omega arith in
-        let ek = kind-same m m₂ (timely .kept) stepped r small in
-        let es = slot-same m m₂ (timely .kept) stepped r small in
+        let book = kept .sound .book in
+        let small : r < 128 = let f = book .few in omega arith in
+        let ek = kind-same m m₂ (kept .sound) stepped r small in
+        let es = slot-same m m₂ (kept .sound) stepped r small in
         ⊎-elim
-        (λ (k : kindAt m r < 7). set-of-none m₂ r (rw ek k) ∙ sym (set-none m kept c atoms r p k))
+        (λ (k : kindAt m r < 7). set-of-none m₂ r (rw ek k) ∙ sym (set-none m book c atoms r p k))
         (λ (k : 7 ≤ kindAt m r).
-        let row = kept .rows r p in
+        let row = book .rows r p in
         let j : ℕ = slotAt m r in
         let lt : slotAt m r < temporals m = row .slot k in
         set-of-slot m₂ r (rw ek k)
         ∙ ap (λ (i : ℕ). runs (slotWords m₂ i)) es
-        ∙ ap runs (atoms-set j (let f = few timely in omega arith) ∙ v .new j lt) ∙ runs-pack SET (setAt (stepOf m c atoms) (ownerAt m j))
+        ∙ ap runs (atoms-set j (let f = kept .sound .book .temporal-few in omega arith) ∙ v .new j lt) ∙ runs-pack SET (setAt (stepOf m c atoms) (ownerAt m j))
         ∙ ap (setAt (stepOf m c atoms)) (row .owner k))
         (lt-or-ge (kindAt m r) 7)
 
@@ -191,66 +279,143 @@ module _
         (step-now (rowsOf m) (stateOf m) (snapOf c atoms (widthWord m)) ∙ sym (ap₂ (λ (t : ℕ) (bs : List Bool). record { clock = t; atoms = bs }) clock-now atoms-are))
         (sym sets-are)
 
-    advanced : Advanced m (snapOf c atoms (widthWord m) ∷ []) m₂ 0
+    pub played : Advanced m (snapOf c atoms (widthWord m) ∷ []) m₂ 0
     unfolding play
-    advanced =
+    played =
         record {
           number = sym (rw roomy);
           state = state-after ∙ sym (rw roomy);
-          book = step-book m m₂ (timely .kept) stepped;
+          book = step-book m m₂ (kept .sound) stepped;
           refused = λ ne. absurd (ne refl);
-          kept = kept-step m m₂ (timely .kept) stepped;
         }
 
-    -- and what was planned of the sets is so of those that it holds
-    here-after : Here m₂ here
-    here-after =
-        let same-count : temporals m₂ ≡ temporals m = stepped .book-same 4 (omega arith) (omega arith) in
+    -- and what stands in its tables
+    sound-now : Sound m₂
+    sound-now = kept-step m m₂ (kept .sound) stepped
+
+    rows-now : rowCount m₂ ≡ rowCount m
+    rows-now = stepped .rows-same
+
+    beyond-now : (i : ℕ) → VALUES + rowCount m ≤ i → getD m₂ i 0 ≡ getD m i 0
+    beyond-now i h =
+        let n = kept .sound .book .narrow in
+        let e = moved-width v in
+        a .above i (omega arith) ∙ v .beyond i h
+
+    valued-now : Valued m₂
+    valued-now =
+        let n = kept .sound .book .narrow in
+        let e = moved-width v in
         record {
-          right = λ j lt.
-              let l : j < temporals m = omega arith in
-              let o : ownerAt m₂ j ≡ ownerAt m j = stepped .owners-same j (let f = few timely in omega arith) in
-              rw (o, state-after, clock-now) (v .here-right j l);
+          right = rw rows-now (λ r h.
+              a .above (VALUES + r) (omega arith) ∙ v .values r h
+              ∙ ap₂ (λ (b : Rows) (st : State). bitOf (value b st r)) (sym (rows-of-same m m₂ (kept .sound) stepped)) (sym state-after));
         }
 
-unmoved : {m : List ℕ} {c : ℕ} (atoms : List ℕ) → Timely m c → crowded (stepOf m c atoms) ≡ true → Advanced m (snapOf c atoms (widthWord m) ∷ []) m 11
+    count-now : propertyCount m₂ ≡ propertyCount m
+    count-now = ap₂ (λ (x y : ℕ). x + y) (assumes-same m m₂ (kept .sound) stepped) (guarantees-same m m₂ (kept .sound) stepped)
+
+    unused-now : Unused m₂
+    unused-now =
+        let rows = kept .sound .book .few in
+        let u = kept .tables .unused in
+        record {
+          values = rw rows-now (λ r p q. beyond-now (VALUES + r) (omega arith) ∙ u .values r p q);
+          told = rw (temporals-same m m₂ (kept .sound) stepped) (λ j p q. beyond-now (TOLD + j) (omega arith) ∙ u .told j p q);
+          early = rw count-now (λ i p q. beyond-now (EARLY + i) (omega arith) ∙ u .early i p q);
+          settled = rw count-now (λ i p q. beyond-now (SETTLED + i) (omega arith) ∙ u .settled i p q);
+          moves = rw rows-now (λ r p q. beyond-now (MOVES + r) (omega arith) ∙ u .moves r p q);
+        }
+
+    told-now : (o : ℕ) → o < rowCount m → 7 ≤ kindAt m o → toldAt m₂ (slotAt m₂ o) ≡ toldAt m (slotAt m o)
+    told-now o h k =
+        let rows = kept .sound .book .few in
+        ap (toldAt m₂) (slot-same m m₂ (kept .sound) stepped o (omega arith)) ∙ beyond-now (TOLD + slotAt m o) (omega arith)
+
+    property-now : (i : ℕ) → i < propertyCount m → propertyRow m₂ i ≡ propertyRow m i
+    property-now i h = let f = few-properties (kept .sound) in property-same m m₂ (kept .sound) stepped i (omega arith)
+
+    asked-now : {first : Bool} → first ≡ eqb (begunWord m) 0 → Asked m₂ first
+    asked-now ef =
+        let rows = kept .sound .book .few in
+        let same-rows = rows-of-same m m₂ (kept .sound) stepped in
+        record {
+          early = rw count-now (λ i h.
+              beyond-now (EARLY + i) (omega arith) ∙ kept .tables .answered .early i h
+              ∙ ap digitOf (sym (told-early m (kept .sound) (kept .tables .told .right) (propertyRow m i)) ∙ sym (early-same m m₂ same-rows told-now (propertyRow m i)) ∙ ap (earlyTold m₂) (sym (property-now i h))));
+          settled = λ e.
+              let one : begunWord m ≡ 1 = let not-0 = eqb-false (begunWord m) 0 (sym ef ∙ e) in let most = kept .sound .begun in omega arith in
+              rw count-now (λ i h.
+              beyond-now (SETTLED + i) (omega arith) ∙ kept .tables .answered .settled i h
+              ∙ ap digitOf (sym (told-settled m (kept .sound) (kept .tables .told .right) (propertyRow m i))
+              ∙ ap₂ (λ (w : ℕ) (x : Answer). cond (isOne w) x Open) (one ∙ sym begun-now) (sym (settled-same m m₂ same-rows told-now (propertyRow m i)))
+              ∙ ap (settledNow m₂) (sym (property-now i h))));
+        }
+
+    moving-now : Moving m₂
+    moving-now =
+        let rows = kept .sound .book .few in
+        record { right = rw (rows-now, rows-of-same m m₂ (kept .sound) stepped) (λ r h. beyond-now (MOVES + r) (omega arith) ∙ kept .tables .moving .right r h) }
+
+    pub due : {first : Bool} → first ≡ eqb (begunWord m) 0 → Due m₂ first
+    due ef = record { sound = sound-now; valued = valued-now; moving = moving-now; unused = unused-now; asked = asked-now ef }
+
+unmoved : {m : List ℕ} {c : ℕ} (atoms : List ℕ) → crowded (stepOf m c atoms) ≡ true → Advanced m (snapOf c atoms (widthWord m) ∷ []) m 11
 unfolding play
-unmoved atoms timely e = record { number = sym (rw e); state = sym (rw e); book = refl; refused = λ ne. refl; kept = timely .kept }
+unmoved atoms e = record { number = sym (rw e); state = sym (rw e); book = refl; refused = λ ne. refl }
 
 -- ---- a call that was tried
-module _ {m : List ℕ} {c : ℕ} {atoms here m₁ : List ℕ} {r : ℕ} (timely : Timely m c) (tried : Tried m c atoms here m₁ r) where
-  has-room : r ≡ 0 → crowded (stepOf m c atoms) ≡ false
+module _ {m : List ℕ} {c : ℕ} {atoms m₁ : List ℕ} {r : ℕ} (tried : Tried m c atoms m₁ r) where
+  pub has-room : r ≡ 0 → crowded (stepOf m c atoms) ≡ false
   has-room z = fails-by (crowded (stepOf m c atoms)) (λ f. let e = tried .full f .0 in absurd (omega arith))
 
-  pub tried-moved : r ≡ 0 → Moved m c atoms here m₁
+  pub tried-moved : r ≡ 0 → Moved m c atoms m₁
   tried-moved z = tried .room (has-room z) .1
 
-  pub tried-refused : (r ≡ 0 → ⊥) → Advanced m (snapOf c atoms (widthWord m) ∷ []) m₁ r
+  pub tried-refused : (r ≡ 0 → ⊥) → Advanced m (snapOf c atoms (widthWord m) ∷ []) m₁ r × (m₁ ≡ m)
   tried-refused ne =
       ⊎-elim
-      (λ (f : crowded (stepOf m c atoms) ≡ true). let q = tried .full f in rw (q .0, q .1) (unmoved atoms timely f))
+      (λ (f : crowded (stepOf m c atoms) ≡ true). let q = tried .full f in (rw (q .0, q .1) (unmoved atoms f), q .1))
       (λ (f : crowded (stepOf m c atoms) ≡ false). absurd (ne (tried .room f .0)))
       (either (crowded (stepOf m c atoms)))
 
-  module _ (bytes : Bytes atoms (widthWord m)) where
-    pub tried-done : {m₂ : List ℕ} → r ≡ 0 → Atoms m₁ atoms (widthWord m₁) m₂ → Advanced m (snapOf c atoms (widthWord m) ∷ []) m₂ 0 × Here m₂ here
-    tried-done z a =
-        let f = has-room z in
-        let v = tried-moved z in
-        (advanced timely bytes f v a, here-after timely bytes f v a)
+  -- its atoms stand there already
+  pub tried-stands : Sound m → ((i : ℕ) → i < widthWord m → getD m (ATOMS + i) 0 ≡ getD atoms i 0) → r ≡ 0 → Atoms m₁ atoms (widthWord m₁) m₁
+  tried-stands sound same z =
+      let v = tried-moved z in
+      let e = moved-width v in
+      let n = sound .book .narrow in
+      atoms-stand (v .long) (λ i lt. v .below (ATOMS + i) (omega arith) (omega arith) (omega arith) ∙ same i (omega arith))
 
-    -- its atoms stand there already
-    pub tried-stands : ((i : ℕ) → i < widthWord m → getD m (ATOMS + i) 0 ≡ getD atoms i 0) → Advanced m (snapOf c atoms (widthWord m) ∷ []) m₁ r × (r ≡ 0 → Here m₁ here)
-    tried-stands same =
-        let stand : r ≡ 0 → Atoms m₁ atoms (widthWord m₁) m₁ =
-        λ z.
-        let v = tried-moved z in
-        let e = moved-width v in
-        let n = narrow timely in
-        atoms-stand (v .long) (λ i lt. v .below (ATOMS + i) (omega arith) (omega arith) (omega arith) ∙ same i (omega arith)) in (
-          ⊎-elim
-              (λ (f : crowded (stepOf m c atoms) ≡ true). tried-refused (let q = tried .full f .0 in omega arith))
-              (λ (f : crowded (stepOf m c atoms) ≡ false). let z = tried .room f .0 in rw z (tried-done z (stand z) .0))
-              (either (crowded (stepOf m c atoms))),
-          λ z. tried-done z (stand z) .1,
-        )
+-- ---- what is due, once it was told and asked
+module _ {m : List ℕ} {first : Bool} (due : Due m first) where
+  -- something new was told, or it is the first accepted call
+  pub renewed-asked : {m₁ m₂ : List ℕ} → m₁ ≡ toldPut m → m₂ ≡ settledPut (earlyPut m₁) → Alike m m₂ × Tables m₂
+  renewed-asked e₁ e₂ =
+      let sound = due .sound in
+      let sound₁ = told-sound sound in
+      let valued₁ = told-valued sound (due .valued) in
+      let told₁ = told-told sound in
+      let moving₁ = told-moving sound (due .moving) in
+      let unused₁ = told-unused sound (due .unused) in
+      rw (e₂, e₁) (alike-on (told-alike sound) (asked-alike sound₁ valued₁ told₁ moving₁ unused₁), asked-tables sound₁ valued₁ told₁ moving₁ unused₁)
+
+  -- nothing new: the digits are those that stand there
+  pub renewed-still : {m₁ : List ℕ} → m₁ ≡ toldPut m → toldAgain m (temporals m) ≡ true → first ≡ false → Alike m m₁ × Tables m₁
+  renewed-still e₁ again not-first =
+      let e₂ = e₁ ∙ told-still m (temporals m) again in
+      let sound = due .sound in
+      let told : Told m = subst Told (sym e₁ ∙ e₂) (told-told sound) in
+      rw e₂ (
+        alike-self m,
+        record {
+          valued = due .valued;
+          told = told;
+          answered = record {
+            early = λ i h. due .asked .early i h ∙ ap digitOf (told-early m sound (told .right) (propertyRow m i));
+            settled = λ i h. due .asked .settled not-first i h ∙ ap digitOf (told-settled m sound (told .right) (propertyRow m i));
+          };
+          moving = due .moving;
+          unused = due .unused;
+        },
+      )

@@ -94,7 +94,7 @@ module _ {m : List ℕ} {c mode j : ℕ} (f : Fit m c mode j) where
 
 -- ---- one after the other
 pub written-start : (m : List ℕ) (f : ℕ → Runs) → length m ≡ SIZE → Written m f 0 m
-written-start m f e = record { long = e; below = λ i h. refl; new = λ j h. absurd (omega arith); old = λ j h l. refl }
+written-start m f e = record { long = e; below = λ i h. refl; new = λ j h. absurd (omega arith); old = λ j h l. refl; beyond = λ i h. refl }
 
 written-more : {m m₁ m₂ : List ℕ} {f : ℕ → Runs} {n : ℕ} → Written m f n m₁ → n < 32 → 2 * length (f n) < SET → m₂ ≡ putMid (setStart n) SET m₁ (pack SET (f n)) → Written m f (n + 1) m₂
 written-more {m} {m₁} {m₂} {f} {n} w h fit e =
@@ -110,17 +110,18 @@ written-more {m} {m₁} {m₂} {f} {n} w h fit e =
           (λ (p : j < n). put-under (setStart n) SET m₁ (pack SET (f n)) hb hk (setStart j) SET (omega arith) ∙ w .new j p)
           (λ (p : n ≤ j). let d : j ≡ n = omega arith in rw d (put-here (setStart n) SET m₁ (pack SET (f n)) hb hk)) (lt-or-ge j n);
       old = λ j le lt. put-over (setStart n) SET m₁ (pack SET (f n)) hb hk (setStart j) SET (omega arith) (omega arith) ∙ w .old j (omega arith) lt;
+      beyond = λ i le. put-above (setStart n) SET m₁ (pack SET (f n)) hb hk i (omega arith) ∙ w .beyond i le;
     })
 
 module _ {m : List ℕ} {c : ℕ} {modes : List ℕ} (fitting : Fitting m c modes) {n : ℕ} (h : n < temporals m) {m₁ : List ℕ} (w : Written m (λ j. setAfter m c (getD modes j 0) j) n m₁) where
   under : n < 32
-  under = omega (arith, fitting .timely .kept .book .temporal-few)
+  under = omega (arith, fitting .timely .sound .book .temporal-few)
 
   owner-same : ownerAt m₁ n ≡ ownerAt m n
   owner-same = let u = under in w .below (OWNERS + n) (omega arith)
 
   owner-small : ownerAt m n < 128
-  owner-small = let b = fitting .timely .kept .book in omega (arith, b .few, b .owned n h)
+  owner-small = let b = fitting .timely .sound .book in omega (arith, b .few, b .owned n h)
 
   lower-same : lowerAt m₁ (ownerAt m n) ≡ lowerAt m (ownerAt m n)
   lower-same = let u = owner-small in w .below (ROWS + ROW * ownerAt m n + 2) (omega arith)
@@ -140,11 +141,11 @@ module _ {m : List ℕ} {c : ℕ} {modes : List ℕ} (fitting : Fitting m c mode
   pub commit-fit : Fit m₁ c (getD modes n 0) n
   commit-fit =
       let t = fitting .timely in
-      let row = t .kept .book .rows (ownerAt m n) (t .kept .book .owned n h) in
+      let row = t .sound .book .rows (ownerAt m n) (t .sound .book .owned n h) in
       record {
         inside = under;
         bounded = rw owner-same (record { long = w .long; inside = owner-small; clock = t .clock; lower = rw lower-same (row .lower); upper = rw upper-same (row .upper) });
-        good = rw set-same (t .kept .sets n under);
+        good = rw set-same (t .sound .sets n under);
         room = ap (fits SET) (after-same (getD modes n 0)) ∙ fitting .room n h;
       }
 

@@ -1,17 +1,19 @@
--- Begun, the clock and the atoms set in place, and the bytes that the atoms come from. Assumes nothing.
+-- Begun, the clock and the atoms set in place, and the atoms that stand there. Assumes nothing.
 use Prim.Native.Nat.{ℕ, _+_, _≤_, _<_}
 use mathlib.Core.Path.{_≡_, refl, sym, ap, _∙_}
 use mathlib.Core.Logic.{⊎-elim}
-use mathlib.Core.List.{List}
+use mathlib.Core.Bool.{Bool, false}
+use mathlib.Core.List.{List, map}
 use native.Mathlib.Omega.{arith}
-use native.Mathlib.Numerals.{add-one}
-use native.Mathlib.Nat.{zero-add}
-use lib.ListN.{length, getD, set, take, drop, replicate, length-set, length-replicate}
-use lib.Seq.{paste-suc, length-paste, take-at, getD-take, getD-set-same, getD-set-other, length-take-le}
+use lib.ListN.{length, getD, set, take, length-set, length-map, List·getD-map}
+use lib.Seq.{ext-getD, getD-take, getD-set-same, getD-set-other, length-take-le}
+use Rattle.lists.specs.Lists.{listed}
 use Rattle.lists.proofs.Tests.{lt-or-ge}
+use Rattle.lists.proofs.Listed.{listed-length, listed-at}
 use Rattle.memory.specs.Layout.{ATOMS, SIZE}
-use Rattle.memory.specs.Memory.{begunWord, clockOf}
-use Rattle.calls.specs.Private.{firstBytes, Bytes, clocked, Atoms}
+use Rattle.memory.specs.Memory.{begunWord, clockOf, widthWord, atomAt, atomsOf, isOne}
+use Rattle.memory.specs.Kept.{Sound}
+use Rattle.calls.specs.Private.{Bytes, clocked, Atoms}
 
 -- atoms that stand there are written
 pub atoms-stand : {m atoms : List ℕ} {n : ℕ} → length m ≡ SIZE → ((i : ℕ) → i < n → getD m (ATOMS + i) 0 ≡ getD atoms i 0) → Atoms m atoms n m
@@ -46,26 +48,26 @@ module _ (m : List ℕ) (c : ℕ) where
   pub clocked-other : (i : ℕ) → (i ≡ 1 → ⊥) → (i ≡ 2 → ⊥) → getD (clocked m c) i 0 ≡ getD m i 0
   clocked-other i p q = getD-set-other (set m 1 1) 2 i c 0 q ∙ getD-set-other m 1 i 1 0 p
 
--- ---- bytes copied from the front of a list, zeros after them
-pub copy-more : (s : List ℕ) (atoms : List ℕ) (i x : ℕ) → atoms ≡ firstBytes s i → x ≡ getD s i 0 → i < 256 → i < length s → set atoms i x ≡ firstBytes s (i + 1)
-copy-more s atoms i x e ex h l =
-    rw (e, ex, add-one)
-    (ap (λ (j : ℕ). set (firstBytes s i) j (getD s i 0)) (sym (zero-add i)) ∙ paste-suc (replicate 256 0) 0 s i 0 (omega (arith, zero-add i, length-replicate {A = ℕ} 256 0)) l)
+-- ---- the atoms that stand there, as bytes
+module _ {m : List ℕ} (sound : Sound m) where
+  pub old-same : (i : ℕ) → i < widthWord m → getD m (ATOMS + i) 0 ≡ getD (atomsOf m) i 0
+  old-same i h = sym (listed-at (atomAt m) 0 256 i (omega (arith, sound .book .narrow)))
 
-module _ (w : ℕ) (s : List ℕ) (hs : w ≤ length s) (h : w ≤ 256) where
-  first-long : length (firstBytes s w) ≡ 256
-  first-long = length-paste (replicate 256 0) 0 s w (omega (arith, zero-add w, length-replicate {A = ℕ} 256 0)) hs ∙ length-replicate {A = ℕ} 256 0
+  pub old-bytes : Bytes (atomsOf m) (widthWord m)
+  old-bytes = record {
+    long = omega (arith, listed-length (atomAt m) 256, sound .book .narrow);
+    bits = λ i h. rw (sym (old-same i h)) (sound .atoms i h);
+  }
 
-  -- they are the list's
-  pub first-take : take w (firstBytes s w) ≡ take w s
-  first-take = take-at (take w s) (drop (0 + w) (replicate 256 0)) w (length-take-le w s hs)
-
-  pub first-bytes : ((i : ℕ) → i < w → getD s i 0 ≤ 1) → Bytes (firstBytes s w) w
-  first-bytes bits =
-      record {
-        long = first-long;
-        bits = λ i l.
-            let e : getD (firstBytes s w) i 0 ≡ getD s i 0 =
-            sym (getD-take w (firstBytes s w) i 0 l) ∙ ap (λ (xs : List ℕ). getD xs i 0) first-take ∙ getD-take w s i 0 l in
-            rw e (bits i l);
-      }
+  pub old-atoms : map isOne (take (widthWord m) (atomsOf m)) ≡ listed (λ i. isOne (atomAt m i)) (widthWord m)
+  old-atoms =
+      let w : ℕ = widthWord m in
+      let f : ℕ → Bool = λ i. isOne (atomAt m i) in
+      let bytes : List ℕ = take w (atomsOf m) in
+      let long : length (map isOne bytes) ≡ w = length-map bytes isOne ∙ length-take-le w (atomsOf m) (old-bytes .long) in
+      ext-getD false (map isOne bytes) (listed f w) (long ∙ sym (listed-length f w))
+      (λ i lt.
+      let h : i < w = omega arith in
+      List·getD-map isOne bytes i 0
+      ∙ ap isOne (getD-take w (atomsOf m) i 0 h ∙ sym (old-same i h))
+      ∙ sym (listed-at f false w i h))

@@ -1,7 +1,11 @@
 pub mod Rules
 pub mod Modes
 pub mod Commits
-pub mod Plans
 pub mod Heads
+pub mod Plans
 pub mod Advances
 pub mod Public
+pub mod Joins
+pub mod Tries
+pub mod Still
+pub mod Looks

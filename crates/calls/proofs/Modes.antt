@@ -44,8 +44,8 @@ module _ {m : List ℕ} {r kind start : ℕ} (kept : BookKept m) (inside : r < r
   pub first-place : start < 128
   first-place = first-inside read refl one
 
-  pub first-row : {x : ℕ} → x ≡ getD m (OPERANDS + start) 0 → x < rowCount m
-  first-row e = omega (arith, first-below (span-read read) one e)
+  pub first-row : {x : ℕ} → x ≡ getD m (OPERANDS + start) 0 → x < 128
+  first-row e = omega (arith, first-below (span-read read) one e, kept .few)
 
   -- neither Historically nor Once
   past : (kind ≡ 7 → ⊥) → (kind ≡ 8 → ⊥) → kind ≡ 9
@@ -59,8 +59,8 @@ module _ {m : List ℕ} {r kind start : ℕ} (kept : BookKept m) (inside : r < r
   unfolding countOf
   second-place p q = second-inside read (past p q) (lit< tt)
 
-  pub second-row : (kind ≡ 7 → ⊥) → (kind ≡ 8 → ⊥) → {x : ℕ} → x ≡ getD m (OPERANDS + (start + 1)) 0 → x < rowCount m
-  second-row p q e = omega (arith, second-below (two p q) (lit< tt) e)
+  pub second-row : (kind ≡ 7 → ⊥) → (kind ≡ 8 → ⊥) → {x : ℕ} → x ≡ getD m (OPERANDS + (start + 1)) 0 → x < 128
+  second-row p q e = omega (arith, second-below (two p q) (lit< tt) e, kept .few)
 
   module _ (f : ℕ → Bool) where
     row-as : {k : ℕ} → kind ≡ k → rowOf m r ≡ rowFrom k (argAt m r) (lowerAt m r) (upperAt m r) (drop start (operandsOf m))

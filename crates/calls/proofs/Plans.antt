@@ -1,33 +1,37 @@
--- The plan of a call: where the facts are right for the rows below, a row's plan is what the definitions make of it. Assumes nothing.
-use Prim.Native.Nat.{ℕ, zero, suc, _+_, _*_, _%_, _≤_, _<_}
-use mathlib.Core.Path.{_≡_, refl, sym, ap, ap₂, _∙_, subst}
+-- The plan of a call: where the values of the rows below are new, a row's plan is what the definitions make of it. Assumes nothing.
+use Prim.Native.Nat.{ℕ, zero, suc, _+_, _*_, _≤_, _<_}
+use mathlib.Core.Path.{_≡_, refl, sym, ap, ap₂, _∙_}
 use mathlib.Core.Logic.{⊎-elim}
 use mathlib.Core.Bool.{Bool, true, false, not, true≢false}
-use mathlib.Core.List.{List, [], _∷_}
+use mathlib.Core.List.{List, [], _∷_, map}
 use native.Mathlib.Omega.{arith}
-use lib.ListN.{length, getD, set, replicate, length-set, length-replicate}
+use lib.ListN.{length, getD, set, take, length-set}
 use lib.Seq.{getD-set-same, getD-set-other}
 use lib.Dec.{ltb}
-use borrow.Author.Tests.{lt-ltb, le-ltb}
-use Rattle.numset.specs.Runs.{Runs, runs, Good, has, fits}
+use borrow.Author.Tests.{lt-ltb, le-ltb, lt-leb, le-leb}
+use Rattle.lists.specs.Lists.{filledFrom}
 use Rattle.lists.proofs.Tests.{lt-or-ge, or-left, or-right, or-no}
-use Rattle.pmtl.specs.Book.{Row, mapRow, Below, start, stop, some}
+use Rattle.lists.proofs.Filled.{filledFrom-at, filledFrom-more}
+use Rattle.numset.specs.Runs.{Runs, runs, Good, has, fits}
 use Rattle.pmtl.specs.Answer.{bitOf}
+use Rattle.pmtl.specs.Book.{Row, Rows, rowAt, mapRow, Below, start, stop, some}
 use Rattle.pmtl.specs.Sets.{setRule}
-use Rattle.pmtl.specs.Monitor.{setAt, value}
+use Rattle.pmtl.specs.Monitor.{Snap, State, setAt, valueRule, value}
 use Rattle.numbers.specs.Limits.{MOST-RUNS}
 use Rattle.pmtl.specs.Calls.{crowded}
 use Rattle.pmtl.proofs.Table.{mapRow-local}
-use Rattle.pmtl.proofs.Answers.{set-fix, step-sets, step-now}
-use Rattle.memory.specs.Layout.{SET}
+use Rattle.pmtl.proofs.Answers.{value-fix, set-fix, step-sets, step-now}
+use Rattle.memory.specs.Layout.{ROWS, ROW, SET, VALUES}
 use Rattle.memory.specs.Memory.{rowCount, widthWord, temporals, kindAt, slotAt, ownerAt, slotWords, rowOf, rowsOf, setOf, stateOf, isOne, rangeAt}
-use Rattle.memory.specs.Kept.{BookKept}
-use Rattle.row_answers.specs.Facts.{hereIn, outputOf}
+use Rattle.memory.specs.Kept.{BookKept, Sound}
+use Rattle.memory.specs.Alike.{Alike}
 use Rattle.memory.proofs.Rows.{rows-length, row-at, kept-ordered}
+use Rattle.memory.proofs.Alike.{alike-filled, alike-sound, alike-rows, alike-state}
 use Rattle.set_change.specs.Change.{changed, modeIn}
-use Rattle.calls.specs.declared.RowPlan.{RowPlan}
-use Rattle.calls.specs.Private.{snapOf, stepOf, modeAt, setAfter, rowPlan, Planned, Bounded, Slot}
-use Rattle.calls.proofs.Rules.{value-right, no-set, changed-set, set-at, set-of-slot}
+use Rattle.set_change.proofs.Changes.{changed-0, room-else}
+use Rattle.calls.specs.Private.{snapOf, stepOf, heldIn, atomsIn, setNext, valueNext, modeAt, setAfter, rowPlan, modePut, RowTried, valueAfter, Planned, Bounded, Slot}
+use Rattle.calls.proofs.Rules.{no-set, changed-set, set-at, set-of-slot}
+use Rattle.memory.proofs.Bits.{bit-back}
 use Rattle.calls.proofs.Commits.{set-long}
 
 -- ---- a test of every element
@@ -48,17 +52,6 @@ pub crowds : (s : Runs) → ltb MOST-RUNS (length s) ≡ not (fits SET s)
 crowds s =
     ⊎-elim (λ (p : MOST-RUNS < length s). lt-ltb MOST-RUNS (length s) p ∙ sym (ap not (le-ltb (2 * length s) SET (omega arith))))
     (λ (p : length s ≤ MOST-RUNS). le-ltb MOST-RUNS (length s) p ∙ sym (ap not (lt-ltb (2 * length s) SET (omega arith)))) (lt-or-ge MOST-RUNS (length s))
-
-here-bit : (b : Bool) → isOne (bitOf b % 2) ≡ b
-here-bit true = refl
-here-bit false = refl
-
--- how far planning has gone: the slots below n have their modes and room, and the facts are right for their owners
-pub record Going (m : List ℕ) (c : ℕ) (atoms facts modes : List ℕ) (n : ℕ) : Type 0 where
-  pub modes-long : length modes ≡ 32
-  pub right : (j : ℕ) → j < n → hereIn facts (ownerAt m j) ≡ has (setAt (stepOf m c atoms) (ownerAt m j)) c
-  pub sets : (j : ℕ) → j < n → setAfter m c (getD modes j 0) j ≡ setAt (stepOf m c atoms) (ownerAt m j)
-  pub room : (j : ℕ) → j < n → fits SET (setAt (stepOf m c atoms) (ownerAt m j)) ≡ true
 
 module _ (m : List ℕ) (kept : BookKept m) (c : ℕ) (atoms : List ℕ) where
   sets-length : length (stepOf m c atoms .sets) ≡ rowCount m
@@ -114,81 +107,193 @@ module _ (m : List ℕ) (kept : BookKept m) (c : ℕ) (atoms : List ℕ) where
       fits-or true f = refl
       fits-or false f = absurd (true≢false (sym (f refl) ∙ e))
 
-  module _ {facts modes : List ℕ} {n : ℕ} (g : Going m c atoms facts modes n) (h : n < temporals m) where
-    -- a temporal row below the owner of slot n is the owner of a slot below n
-    facts-right : (q : ℕ) → q < ownerAt m n → q < rowCount m → 7 ≤ kindAt m q → hereIn facts q ≡ has (setAt (stepOf m c atoms) q) c
-    facts-right q lt l k =
-        let row = kept .rows q l in
-        let j : ℕ = slotAt m q in
-        let e : ownerAt m j ≡ q = row .owner k in
-        ⊎-elim
-        (λ (p : j < n). subst (λ (r : ℕ). hereIn facts r ≡ has (setAt (stepOf m c atoms) r) c) e (g .right j p))
-        (λ (p : n ≤ j).
-        ⊎-elim (λ (u : n < j). let a = kept .ascends n j u (row .slot k) in absurd (omega arith))
-        (λ (u : j ≤ n). let d : j ≡ n = omega arith in let f = ap (ownerAt m) d in absurd (omega arith)) (lt-or-ge n j))
-        (lt-or-ge j n)
+  -- a row's new value, by its new set and its operands' new values
+  value-now : (r : ℕ) → r < rowCount m → value (rowsOf m) (stepOf m c atoms) r ≡ valueRule (atomsIn m atoms) (has (setAt (stepOf m c atoms) r) c) (mapRow (value (rowsOf m) (stepOf m c atoms)) (rowOf m r))
+  value-now r h =
+      value-fix (rowsOf m) (kept-ordered kept) (stepOf m c atoms) r
+      ∙ ap₂ (λ (s : Snap) (row : Row ℕ). valueRule (s .atoms) (has (setAt (stepOf m c atoms) r) (s .clock)) (mapRow (value (rowsOf m) (stepOf m c atoms)) row))
+      (step-now (rowsOf m) (stateOf m) (snapOf c atoms (widthWord m))) (row-at m r h)
 
-    mode-right : modeAt m atoms facts (ownerAt m n) ≡ modeIn (mapRow (value (rowsOf m) (stepOf m c atoms)) (rowOf m (ownerAt m n)))
-    mode-right =
-        let r : ℕ = ownerAt m n in
-        let low : Below r (rowOf m r) = rw (row-at m r (kept .owned n h)) at (kept-ordered kept r) in
-        ap modeIn
-        (mapRow-local r (outputOf m atoms facts) (value (rowsOf m) (stepOf m c atoms))
-        (λ o lt. value-right m kept (stepOf m c atoms) atoms (step-now (rowsOf m) (stateOf m) (snapOf c atoms (widthWord m))) facts o (λ q le l k. facts-right q (omega arith) l k))
-        (rowOf m r) low)
+-- how far planning has gone: the rows below n have their new values, and the sets of those that are temporal their modes and room
+pub record Going (m : List ℕ) (c : ℕ) (atoms m′ modes : List ℕ) (n : ℕ) : Type 0 where
+  pub few : n ≤ rowCount m
+  pub values : m′ ≡ filledFrom VALUES (valueAfter m c atoms) m n
+  pub modes-long : length modes ≡ 32
+  pub sets : (j : ℕ) → j < temporals m → ownerAt m j < n → setAfter m c (getD modes j 0) j ≡ setAt (stepOf m c atoms) (ownerAt m j)
+  pub room : (j : ℕ) → j < temporals m → ownerAt m j < n → fits SET (setAt (stepOf m c atoms) (ownerAt m j)) ≡ true
 
-    set-right : setAfter m c (modeAt m atoms facts (ownerAt m n)) n ≡ setAt (stepOf m c atoms) (ownerAt m n)
-    set-right = ap (λ (k : ℕ). setAfter m c k n) mode-right ∙ sym (set-owner n h)
+pub going-start : (m : List ℕ) (c : ℕ) (atoms : List ℕ) {modes : List ℕ} → length modes ≡ 32 → Going m c atoms m modes 0
+going-start m c atoms long = record { few = omega arith; values = refl; modes-long = long; sets = λ j h l. absurd (omega arith); room = λ j h l. absurd (omega arith) }
 
-    module _ {row : ℕ} (er : row ≡ ownerAt m n) {p : RowPlan} (ep : p ≡ rowPlan m c (modeAt m atoms facts row) n) where
-      plan-is : p ≡ rowPlan m c (modeAt m atoms facts (ownerAt m n)) n
-      plan-is = ep ∙ ap (λ (r : ℕ). rowPlan m c (modeAt m atoms facts r) n) er
+-- which row a slot belongs to, and which slot a row has
+module _ {m : List ℕ} (kept : BookKept m) where
+  own-slot : (r j : ℕ) → r < rowCount m → 7 ≤ kindAt m r → j < temporals m → ownerAt m j ≡ r → j ≡ slotAt m r
+  own-slot r j h k l e = sym (kept .slots j l) ∙ ap (slotAt m) e
 
-      room-is : {b : Bool} → p .room ≡ b → fits SET (setAt (stepOf m c atoms) (ownerAt m n)) ≡ b
-      room-is e = sym (ap (fits SET) set-right) ∙ sym (ap (λ (x : RowPlan). x .room) plan-is) ∙ e
+module _ {m : List ℕ} {c : ℕ} {atoms : List ℕ} (sound : Sound m) where
+  module _ {m′ modes : List ℕ} {n : ℕ} (g : Going m c atoms m′ modes n) where
+    going-alike : Alike m m′
+    going-alike = rw (g .values) (alike-filled m VALUES (valueAfter m c atoms) n (omega arith))
 
-      pub going-more : length facts ≡ 128 → p .room ≡ true → {facts′ : List ℕ} → facts′ ≡ set facts row (p .here) → Going m c atoms facts′ (set modes n (p .mode)) (n + 1)
-      going-more long e told =
-          let r : ℕ = ownerAt m n in
-          let ml = g .modes-long in
-          let few = kept .temporal-few in
-          let lr : r < 128 = omega (arith, kept .owned n h, kept .few) in
-          let em : setAfter m c (p .mode) n ≡ setAt (stepOf m c atoms) r = ap (λ (x : RowPlan). setAfter m c (x .mode) n) plan-is ∙ set-right in
-          let eh : isOne (p .here % 2) ≡ has (setAt (stepOf m c atoms) r) c =
-          ap (λ (x : RowPlan). isOne (x .here % 2)) plan-is ∙ here-bit _ ∙ ap (λ (s : Runs). has s c) set-right in
-          rw (told, er)
-          (record {
-            modes-long = length-set modes n (p .mode) ∙ ml;
-            right = λ j lt.
-                ⊎-elim
-                (λ (z : j < n). let u = kept .ascends j n z h in ap (λ (x : ℕ). isOne (x % 2)) (getD-set-other facts r (ownerAt m j) (p .here) 0 (omega arith)) ∙ g .right j z)
-                (λ (z : n ≤ j). let d : j ≡ n = omega arith in rw (d, getD-set-same facts r (p .here) 0 (omega arith)) eh) (lt-or-ge j n);
-            sets = λ j lt.
-                ⊎-elim (λ (z : j < n). ap (λ (k : ℕ). setAfter m c k j) (getD-set-other modes n j (p .mode) 0 (omega arith)) ∙ g .sets j z)
-                (λ (z : n ≤ j). let d : j ≡ n = omega arith in rw (d, getD-set-same modes n (p .mode) 0 (omega arith)) em) (lt-or-ge j n);
-            room = λ j lt. ⊎-elim (λ (z : j < n). g .room j z) (λ (z : n ≤ j). let d : j ≡ n = omega arith in rw d (room-is e)) (lt-or-ge j n);
-          })
+    pub going-sound : Sound m′
+    going-sound = alike-sound sound going-alike
 
-      pub going-full : {here ms : List ℕ} → p .room ≡ false → Planned m c atoms here false ms
-      going-full e = record { fits = no-room n h (room-is e); sets = λ z. absurd (true≢false (sym z)); here-right = λ z. absurd (true≢false (sym z)) }
+    pub going-count : rowCount m′ ≡ rowCount m
+    going-count = going-alike .below 0 (omega arith)
 
-  pub going-done : {facts modes : List ℕ} {n : ℕ} → Going m c atoms facts modes n → temporals m ≤ n → Planned m c atoms facts true modes
-  going-done g l = record { fits = all-room (λ j lt. g .room j (omega arith)); sets = λ z j lt. g .sets j (omega arith); here-right = λ z j lt. g .right j (omega arith) }
+    -- the rows below have their new values
+    held-right : (o : ℕ) → o < n → heldIn m′ o ≡ value (rowsOf m) (stepOf m c atoms) o
+    held-right o h =
+        let few = sound .book .few in
+        let long = sound .book .long in
+        let small = g .few in
+        ap (λ (x : List ℕ). heldIn x o) (g .values)
+        ∙ ap isOne (filledFrom-at VALUES (valueAfter m c atoms) m 0 n o h (omega arith)) ∙ bit-back (value (rowsOf m) (stepOf m c atoms) o)
 
-  -- whatever stood in the facts
-  pub going-start : {facts : List ℕ} → Going m c atoms facts (replicate 32 0) 0
-  going-start =
-      record {
-        modes-long = length-replicate {A = ℕ} 32 0;
-        right = λ j lt. absurd (omega arith);
-        sets = λ j lt. absurd (omega arith);
-        room = λ j lt. absurd (omega arith);
-      }
+    module _ (h : n < rowCount m) where
+      small : n < 128
+      small = omega (arith, sound .book .few)
+
+      kind-now : kindAt m′ n ≡ kindAt m n
+      kind-now = let s = small in going-alike .below (ROWS + ROW * n) (omega arith)
+
+      slot-now : slotAt m′ n ≡ slotAt m n
+      slot-now = let s = small in going-alike .below (ROWS + ROW * n + 5) (omega arith)
+
+      row-now : rowOf m′ n ≡ rowOf m n
+      row-now = sym (row-at m′ n (rw going-count h)) ∙ ap (λ (b : Rows). rowAt b n) (alike-rows sound going-alike) ∙ row-at m n h
+
+      set-old : setOf m′ n ≡ setOf m n
+      set-old = sym (set-at m′ n (rw going-count h)) ∙ ap (λ (st : State). setAt st n) (alike-state sound going-alike) ∙ set-at m n h
+
+      width-now : widthWord m′ ≡ widthWord m
+      width-now = going-alike .below 3 (omega arith)
+
+      operands-right : mapRow (heldIn m′) (rowOf m n) ≡ mapRow (value (rowsOf m) (stepOf m c atoms)) (rowOf m n)
+      operands-right =
+          let low : Below n (rowOf m n) = rw (row-at m n h) at (kept-ordered (sound .book) n) in
+          mapRow-local n (heldIn m′) (value (rowsOf m) (stepOf m c atoms)) held-right (rowOf m n) low
+
+      -- so its own set and value are as the definitions have them
+      set-right : setNext m′ c n ≡ setAt (stepOf m c atoms) n
+      set-right =
+          ap₂ (λ (s : Runs) (row : Row ℕ). setRule c s (mapRow (heldIn m′) row)) set-old row-now
+          ∙ ap (setRule c (setOf m n)) operands-right ∙ sym (set-now m (sound .book) c atoms n h)
+
+      value-right : valueNext m′ c atoms n ≡ value (rowsOf m) (stepOf m c atoms) n
+      value-right =
+          ap₂ (λ (s : Runs) (row : Row ℕ). valueRule (atomsIn m′ atoms) (has s c) (mapRow (heldIn m′) row)) set-right row-now
+          ∙ ap₂ (λ (w : ℕ) (row : Row Bool). valueRule (map isOne (take w atoms)) (has (setAt (stepOf m c atoms) n) c) row) width-now operands-right
+          ∙ sym (value-now m (sound .book) c atoms n h)
+
+      range-now : rangeAt m′ n ≡ rangeAt m n
+      range-now =
+          let s = small in
+          ap₂ (λ (l u : ℕ). record { lower = l; upper = u }) (going-alike .below (ROWS + ROW * n + 2) (omega arith)) (going-alike .below (ROWS + ROW * n + 3) (omega arith))
+
+      -- the mode that the code finds makes that of the set
+      mode-right : (j : ℕ) → j < temporals m → ownerAt m j ≡ n → setAfter m c (modeAt m′ n) j ≡ setAt (stepOf m c atoms) n
+      mode-right j l e =
+          let k : 7 ≤ kindAt m n = rw (← e) (sound .book .temporals-are j l) in
+          let row = sound .book .rows n h in
+          let s = own-slot (sound .book) n j h k l e in
+          ap₂ (λ (r : ℕ) (x : List ℕ). changed (modeAt m′ n) (start (rangeAt m r) c) (stop (rangeAt m r) c) (runs x)) e (ap (slotWords m) s)
+          ∙ ap (changed (modeAt m′ n) (start (rangeAt m n) c) (stop (rangeAt m n) c)) (sym (set-of-slot m n k))
+          ∙ ap₂ (λ (row : Row ℕ) (s : Runs). changed (modeIn (mapRow (heldIn m′) row)) (start (rangeAt m n) c) (stop (rangeAt m n) c) s) row-now refl
+          ∙ sym (changed-set c (setOf m n) (heldIn m′) m n k (row .kind))
+          ∙ ap (setRule c (setOf m n)) operands-right
+          ∙ sym (set-now m (sound .book) c atoms n h)
+
+      module _ {bytes m″ modes′ : List ℕ} {room : Bool} (same : valueNext m′ c bytes n ≡ valueNext m′ c atoms n) (t : RowTried m′ c bytes modes n m″ modes′ room) where
+        fits-right : fits SET (setAt (stepOf m c atoms) n) ≡ room
+        fits-right = sym (ap (fits SET) set-right) ∙ sym (t .room-is)
+
+        -- the mode of a slot whose row is below stays; that of this row is noted
+        mode-other : (j : ℕ) → j < temporals m → (ownerAt m j ≡ n → ⊥) → getD (modePut m′ modes n) j 0 ≡ getD modes j 0
+        unfolding modePut
+        mode-other j l ne =
+            ⊎-elim
+            (λ (k : kindAt m′ n < 7). rw (lt-leb 7 (kindAt m′ n) k))
+            (λ (k : 7 ≤ kindAt m′ n).
+            let k₀ : 7 ≤ kindAt m n = rw (← kind-now) k in
+            rw (le-leb 7 (kindAt m′ n) k)
+            (getD-set-other modes (slotAt m′ n) j (modeAt m′ n) 0 (λ e. ne (ap (ownerAt m) (e ∙ slot-now) ∙ sound .book .rows n h .owner k₀))))
+            (lt-or-ge (kindAt m′ n) 7)
+
+        mode-own : (j : ℕ) → j < temporals m → ownerAt m j ≡ n → getD (modePut m′ modes n) j 0 ≡ modeAt m′ n
+        unfolding modePut
+        mode-own j l e =
+            let k₀ : 7 ≤ kindAt m n = rw (← e) (sound .book .temporals-are j l) in
+            let k : 7 ≤ kindAt m′ n = rw kind-now k₀ in
+            let s : j ≡ slotAt m′ n = own-slot (sound .book) n j h k₀ l e ∙ sym slot-now in
+            let few = sound .book .temporal-few in
+            let long = g .modes-long in
+            rw (le-leb 7 (kindAt m′ n) k, s) (getD-set-same modes (slotAt m′ n) (modeAt m′ n) 0 (omega (arith, s)))
+
+        put-long : length (modePut m′ modes n) ≡ 32
+        unfolding modePut
+        put-long =
+            ⊎-elim
+            (λ (k : kindAt m′ n < 7). rw (lt-leb 7 (kindAt m′ n) k) (g .modes-long))
+            (λ (k : 7 ≤ kindAt m′ n). rw (le-leb 7 (kindAt m′ n) k) (length-set modes (slotAt m′ n) (modeAt m′ n) ∙ g .modes-long))
+            (lt-or-ge (kindAt m′ n) 7)
+
+        pub going-more : room ≡ true → Going m c atoms m″ modes′ (n + 1)
+        going-more e =
+            rw (t .mode-put e)
+            (record {
+              few = omega arith;
+              values = t .value-put e ∙ filledFrom-more VALUES (valueAfter m c atoms) m (g .values) (ap bitOf (same ∙ value-right));
+              modes-long = put-long;
+              sets = λ j l p.
+                  ⊎-elim
+                  (λ (q : ownerAt m j < n). ap (λ (k : ℕ). setAfter m c k j) (mode-other j l (λ z. omega arith)) ∙ g .sets j l q)
+                  (λ (q : n ≤ ownerAt m j).
+                  let z : ownerAt m j ≡ n = omega arith in
+                  ap (λ (k : ℕ). setAfter m c k j) (mode-own j l z) ∙ mode-right j l z ∙ ap (setAt (stepOf m c atoms)) (sym z))
+                  (lt-or-ge (ownerAt m j) n);
+              room = λ j l p.
+                  ⊎-elim
+                  (λ (q : ownerAt m j < n). g .room j l q)
+                  (λ (q : n ≤ ownerAt m j). let z : ownerAt m j ≡ n = omega arith in rw z (fits-right ∙ e))
+                  (lt-or-ge (ownerAt m j) n);
+            })
+
+        temporal-full : room ≡ false → 7 ≤ kindAt m n
+        temporal-full e =
+            ⊎-elim
+            (λ (k : kindAt m n < 7). absurd (true≢false (sym (ap (fits SET) (set-none m (sound .book) c atoms n h k)) ∙ fits-right ∙ e)))
+            (λ (k : 7 ≤ kindAt m n). k)
+            (lt-or-ge (kindAt m n) 7)
+
+        pub going-full : room ≡ false → {ms : List ℕ} → Planned m c atoms m″ false ms
+        going-full e =
+            let k = temporal-full e in
+            let row = sound .book .rows n h in
+            record {
+              fits = no-room m (sound .book) c atoms (slotAt m n) (row .slot k) (ap (λ (q : ℕ). fits SET (setAt (stepOf m c atoms) q)) (row .owner k) ∙ fits-right ∙ e);
+              sets = λ z. absurd (true≢false (sym z));
+              tried = n;
+              few = omega arith;
+              all = λ z. absurd (true≢false (sym z));
+              values = t .none e ∙ g .values;
+            }
+
+    pub going-done : n ≡ rowCount m → Planned m c atoms m′ true modes
+    going-done e =
+        record {
+          fits = all-room m (sound .book) c atoms (λ j l. g .room j l (omega (arith, sound .book .owned j l)));
+          sets = λ z j l. g .sets j l (omega (arith, sound .book .owned j l));
+          tried = n;
+          few = g .few;
+          all = λ z. e;
+          values = g .values;
+        }
 
 -- ---- one row, as its plan is made
 module _ {m : List ℕ} {c j r : ℕ} (slot : Slot m c j r) where
   abbrev book : BookKept m
-  book = slot .timely .kept .book
+  book = slot .timely .sound .book
 
   pub slot-small : j < 32
   slot-small = omega (arith, slot .inside, book .temporal-few)
@@ -206,7 +311,7 @@ module _ {m : List ℕ} {c j r : ℕ} (slot : Slot m c j r) where
 
   module _ {p : List ℕ} (e : p ≡ slotWords m j) where
     pub slot-good : Good p
-    slot-good = rw e (slot .timely .kept .sets j slot-small)
+    slot-good = rw e (slot .timely .sound .sets j slot-small)
 
     long : length p ≡ SET
     long = ap length e ∙ set-long m j (book .long) slot-small
@@ -215,11 +320,19 @@ module _ {m : List ℕ} {c j r : ℕ} (slot : Slot m c j r) where
     slot-long = let l = long in omega arith
 
     pub plan-made :
-        {mode s t here : ℕ} {room inside : Bool} → s ≡ start (rangeAt m r) c → t ≡ stop (rangeAt m r) c
-        → room ≡ fits (length p) (changed mode s t (runs p)) → inside ≡ has (changed mode s t (runs p)) c → here ≡ bitOf inside → {wanted : ℕ} → mode ≡ wanted
+        {mode s t : ℕ} {room here : Bool} → s ≡ start (rangeAt m r) c → t ≡ stop (rangeAt m r) c
+        → room ≡ fits (length p) (changed mode s t (runs p)) → here ≡ has (changed mode s t (runs p)) c → {wanted : ℕ} → mode ≡ wanted
         → record { mode = mode; here = here; room = room } ≡ rowPlan m c wanted j
-    plan-made {mode} {s} {t} {here} {room} {inside} es et er ei eh {wanted} em =
+    plan-made {mode} {s} {t} {room} {here} es et er eh {wanted} em =
         let q : changed mode s t (runs p) ≡ setAfter m c wanted j = rw (em, es, et, e, slot .owner) in
         let er′ : room ≡ fits SET (setAfter m c wanted j) = er ∙ ap₂ (λ (n : ℕ) (rs : Runs). fits n rs) long q in
-        let eh′ : here ≡ bitOf (has (setAfter m c wanted j) c) = eh ∙ ap bitOf (ei ∙ ap (λ (rs : Runs). has rs c) q) in
+        let eh′ : here ≡ has (setAfter m c wanted j) c = eh ∙ ap (λ (rs : Runs). has rs c) q in
         λ i. record { mode = em i; here = eh′ i; room = er′ i }
+
+    -- a set that stays has room for itself
+    pub plan-stays :
+        {mode : ℕ} {here : Bool} → mode ≡ 0 → here ≡ has (runs p) c → {wanted : ℕ} → mode ≡ wanted → record { mode = mode; here = here; room = true } ≡ rowPlan m c wanted j
+    plan-stays {mode} {here} z eh {wanted} em =
+        let g = rangeAt m r in
+        let still : changed mode (start g c) (stop g c) (runs p) ≡ runs p = changed-0 (start g c) (stop g c) (runs p) mode z in
+        plan-made refl refl (room-else mode (start g c) (stop g c) slot-good slot-long (λ one. omega arith)) (eh ∙ sym (ap (λ (rs : Runs). has rs c) still)) em

@@ -1,37 +1,21 @@
--- The definitions' rules at the rows of a memory: values by bytes and facts, and the change of a temporal row's set. Assumes nothing.
+-- The definitions' rules at the rows of a memory: the change of a temporal row's set, and values. Assumes nothing.
 use Prim.Native.Nat.{ℕ, zero, suc, _-_, _≤_, _<_}
-use mathlib.Core.Path.{_≡_, refl, sym, ap, _∙_, subst⁻¹}
-use mathlib.Core.Bool.{Bool, false}
+use mathlib.Core.Path.{_≡_, refl, subst⁻¹}
+use mathlib.Core.Bool.{Bool, cond, not}
 use mathlib.Core.List.{List, []}
 use native.Mathlib.Omega.{arith}
-use lib.ListN.{getD, take, drop, List·getD-map}
-use lib.Seq.{getD-take}
+use lib.ListN.{drop}
+use lib.Dec.{eqb}
 use borrow.Author.Tests.{le-leb, lt-leb}
-use Rattle.numset.specs.Runs.{Runs, runs, has}
+use Rattle.numset.specs.Runs.{Runs, runs}
 use Rattle.pmtl.specs.Book.{start, stop, mapRow}
 use Rattle.pmtl.specs.Sets.{setRule}
-use Rattle.pmtl.specs.Monitor.{Snap, State, setAt, value}
-use Rattle.memory.specs.Memory.{rowCount, widthWord, kindAt, argAt, lowerAt, upperAt, startAt, slotAt, operandsOf, slotWords, rowOf, rowsOf, setOf, stateOf, isOne, rangeAt}
+use Rattle.pmtl.specs.Monitor.{setAt, valueRule}
+use Rattle.memory.specs.Memory.{rowCount, kindAt, argAt, lowerAt, upperAt, startAt, slotAt, operandsOf, slotWords, rowOf, setOf, stateOf, rangeAt}
 use Rattle.book.specs.Rows.{rowFrom}
-use Rattle.memory.specs.Kept.{BookKept}
-use Rattle.row_answers.specs.Facts.{hereIn, outputOf}
 use Rattle.lists.proofs.Listed.{listed-at}
-use Rattle.row_answers.proofs.Facts.{facts-value}
 use Rattle.set_change.specs.Change.{changed, modeIn}
 use Rattle.set_change.proofs.Changes.{set-historically, set-once, set-since}
-use Rattle.calls.specs.Private.{snapOf}
-
--- ---- values
--- what the code finds by bytes and facts, where the facts are right for the temporal rows up to o
-pub value-right : (m : List ℕ) → BookKept m → (st : State) {c : ℕ} (atoms : List ℕ) → st .now ≡ snapOf c atoms (widthWord m) → (facts : List ℕ) (o : ℕ)
-    → ((q : ℕ) → q ≤ o → q < rowCount m → 7 ≤ kindAt m q → hereIn facts q ≡ has (setAt st q) c) → outputOf m atoms facts o ≡ value (rowsOf m) st o
-value-right m kept st {c} atoms en facts o right =
-    let w : ℕ = widthWord m in
-    facts-value m st facts o atoms
-    (λ a h.
-    let l : a < w = omega (arith, kept .width) in
-    ap isOne (sym (getD-take w atoms a 0 l)) ∙ sym (List·getD-map isOne (take w atoms) a 0) ∙ ap (λ (s : Snap). getD (s .atoms) a false) (sym en))
-    (λ q l h k. right q l h k ∙ ap (λ (s : Snap). has (setAt st q) (s .clock)) (sym en))
 
 -- ---- sets
 -- a row that is not temporal has none
@@ -80,3 +64,21 @@ set-of-slot m r h = rw (le-leb 7 (kindAt m r) h)
 pub set-of-none : (m : List ℕ) (r : ℕ) → kindAt m r < 7 → setOf m r ≡ []
 unfolding setOf
 set-of-none m r h = rw (lt-leb 7 (kindAt m r) h)
+
+-- ---- values
+-- a temporal row's, by whether its set contains the clock
+temporal-from : (bits : List Bool) (here : Bool) (f : ℕ → Bool) (k arg lower upper : ℕ) (os : List ℕ) → k ≤ 2
+    → valueRule bits here (mapRow f (rowFrom (suc (suc (suc (suc (suc (suc (suc k))))))) arg lower upper os)) ≡ cond (eqb (suc (suc (suc (suc (suc (suc (suc k))))))) 7) (not here) here
+unfolding rowFrom valueRule
+temporal-from bits here f zero arg lower upper os h = refl
+temporal-from bits here f (suc zero) arg lower upper os h = refl
+temporal-from bits here f (suc (suc zero)) arg lower upper os h = refl
+temporal-from bits here f (suc (suc (suc k))) arg lower upper os h = absurd (omega arith)
+
+pub temporal-held : (bits : List Bool) (here : Bool) (f : ℕ → Bool) (m : List ℕ) (r : ℕ) → 7 ≤ kindAt m r → kindAt m r ≤ 9
+    → valueRule bits here (mapRow f (rowOf m r)) ≡ cond (eqb (kindAt m r) 7) (not here) here
+unfolding rowOf
+temporal-held bits here f m r h k =
+    let e : kindAt m r ≡ suc (suc (suc (suc (suc (suc (suc (kindAt m r - 7))))))) = omega arith in
+    subst⁻¹ (λ (kind : ℕ). valueRule bits here (mapRow f (rowFrom kind (argAt m r) (lowerAt m r) (upperAt m r) (drop (startAt m r) (operandsOf m)))) ≡ cond (eqb kind 7) (not here) here) e
+    (temporal-from bits here f (kindAt m r - 7) _ _ _ _ (omega arith))

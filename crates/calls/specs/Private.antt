@@ -1,31 +1,34 @@
 -- Private steps of the calls: what a call plans, and the words that it then changes. No public contract cites these. Definitions only.
 use Prim.Native.Nat.{ℕ, _+_, _≤_, _<_}
 use mathlib.Core.Path.{_≡_}
-use mathlib.Core.Bool.{Bool, true, false, not}
+use mathlib.Core.Bool.{Bool, true, false, cond, not}
 use mathlib.Core.List.{List, map}
-use lib.ListN.{length, getD, set, take, replicate}
-use lib.Seq.{paste}
-use Rattle.numbers.specs.Limits.{MAX, LAST-TIME, MOST-ATOMS, MOST-ROWS, MOST-TEMPORALS}
+use lib.ListN.{length, getD, set, take}
+use Rattle.numbers.specs.Limits.{MAX, LAST-TIME, MOST-ROWS, MOST-TEMPORALS}
+use Rattle.numbers.specs.Refusals.{ACCEPTED, NO-ROOM}
+use Rattle.lists.specs.Lists.{filledFrom}
 use Rattle.numset.specs.Runs.{Runs, runs, Good, has, fits, pack}
-use Rattle.pmtl.specs.Book.{start, stop, mapRow}
 use Rattle.pmtl.specs.Answer.{bitOf}
-use Rattle.pmtl.specs.Monitor.{Snap, State, setAt, step}
+use Rattle.pmtl.specs.Book.{start, stop, mapRow}
+use Rattle.pmtl.specs.Sets.{setRule}
+use Rattle.pmtl.specs.Monitor.{Snap, State, setAt, valueRule, value, step}
 use Rattle.pmtl.specs.Calls.{crowded, play}
-use Rattle.memory.specs.Layout.{ATOMS, SETS, SET, SIZE, BEGUN, CLOCK}
-use Rattle.memory.specs.Memory.{rangeAt, begunWord, clockOf, widthWord, temporals, lowerAt, upperAt, ownerAt, slotWords, rowOf, rowsOf, bookOf, stateOf, isOne}
-use Rattle.row_answers.specs.Facts.{hereIn, outputOf}
-use Rattle.memory.specs.Kept.{Kept}
+use Rattle.book.specs.Rows.{temporal, ATOM}
+use Rattle.memory.specs.Layout.{ATOMS, SETS, SET, VALUES, SIZE, BEGUN, CLOCK}
+use Rattle.memory.specs.Memory.{rowCount, rangeAt, begunWord, clockOf, widthWord, temporals, kindAt, argAt, lowerAt, upperAt, slotAt, ownerAt, slotWords, atomsOf, valueAt, earlyAt, settledAt, rowOf, rowsOf, bookOf, setOf, stateOf, isOne}
+use Rattle.memory.specs.Tables.{propertyCount, Valued, Moving, Unused}
+use Rattle.memory.specs.Kept.{Sound}
+use Rattle.tables.specs.Puts.{earlyDigit, settledDigit}
 use Rattle.set_change.specs.Change.{changed, modeIn}
 use Rattle.calls.specs.declared.RowPlan.{RowPlan}
-use Rattle.numbers.specs.Refusals.{ACCEPTED, NO-ROOM}
 
--- the first so many of a list's bytes, and zeros: the atoms as a call hands them on
-abbrev pub firstBytes : List ℕ → ℕ → List ℕ
-firstBytes bytes width = paste (replicate MOST-ATOMS 0) 0 bytes width
+-- the atoms of a call: the bytes of a state, or those that stand there
+abbrev pub atomsFor : List ℕ → (fresh : Bool) → List ℕ → List ℕ
+atomsFor m fresh bytes = cond fresh bytes (atomsOf m)
 
 -- bytes that can be a call's atoms
 pub record Bytes (atoms : List ℕ) (width : ℕ) : Type 0 where
-  pub long : length atoms ≡ MOST-ATOMS
+  pub long : width ≤ length atoms
   pub bits : (i : ℕ) → i < width → getD atoms i 0 ≤ 1
 
 -- the clock and atoms that a call leaves, and the state
@@ -35,9 +38,22 @@ snapOf c atoms width = record { clock = c; atoms = map isOne (take width atoms) 
 abbrev pub stepOf : List ℕ → ℕ → List ℕ → State
 stepOf m c atoms = step (rowsOf m) (stateOf m) (snapOf c atoms (widthWord m))
 
--- how the set of row r changes, by what facts say of the rows below
-abbrev pub modeAt : List ℕ → List ℕ → List ℕ → ℕ → ℕ
-modeAt m atoms facts r = modeIn (mapRow (outputOf m atoms facts) (rowOf m r))
+-- ---- a row by the table: where the values of the rows below it are new, what becomes of its set, and its own new value
+abbrev pub heldIn : List ℕ → ℕ → Bool
+heldIn m r = isOne (valueAt m r)
+
+abbrev pub setNext : List ℕ → ℕ → ℕ → Runs
+setNext m c r = setRule c (setOf m r) (mapRow (heldIn m) (rowOf m r))
+
+abbrev pub atomsIn : List ℕ → List ℕ → List Bool
+atomsIn m atoms = map isOne (take (widthWord m) atoms)
+
+abbrev pub valueNext : List ℕ → ℕ → List ℕ → ℕ → Bool
+valueNext m c atoms r = valueRule (atomsIn m atoms) (has (setNext m c r) c) (mapRow (heldIn m) (rowOf m r))
+
+-- ---- the same as the code finds it: how the set of row r changes
+abbrev pub modeAt : List ℕ → ℕ → ℕ
+modeAt m r = modeIn (mapRow (heldIn m) (rowOf m r))
 
 -- the set of slot j, changed by a mode at clock c
 abbrev pub setAfter : List ℕ → ℕ → ℕ → ℕ → Runs
@@ -47,15 +63,37 @@ setAfter m c mode j = changed mode (start (rangeAt m (ownerAt m j)) c) (stop (ra
 abbrev pub rowPlan : List ℕ → ℕ → ℕ → ℕ → RowPlan
 rowPlan m c mode j = record {
   mode = mode;
-  here = bitOf (has (setAfter m c mode j) c);
+  here = has (setAfter m c mode j) c;
   room = fits SET (setAfter m c mode j);
 }
 
--- the plan of a call: whether every set has room, and if so the modes, and of each set whether it will contain the clock
-pub record Planned (m : List ℕ) (c : ℕ) (atoms here : List ℕ) (room : Bool) (modes : List ℕ) : Type 0 where
+-- if row r is an atom, there is a byte for it
+pub record Named (m bytes : List ℕ) (r : ℕ) : Type 0 where
+  pub inside : kindAt m r ≡ ATOM → argAt m r < length bytes
+
+-- modes with that of row r, if it is temporal
+unfoldable pub modePut : List ℕ → List ℕ → ℕ → List ℕ
+modePut m modes r = cond (temporal (kindAt m r)) (set modes (slotAt m r) (modeAt m r)) modes
+
+-- row r was tried: its set has room, and its value and mode are noted; or it lacks room, and nothing is
+pub record RowTried (m : List ℕ) (c : ℕ) (atoms modes : List ℕ) (r : ℕ) (m′ modes′ : List ℕ) (room : Bool) : Type 0 where
+  pub room-is : room ≡ fits SET (setNext m c r)
+  pub value-put : room ≡ true → m′ ≡ set m (VALUES + r) (bitOf (valueNext m c atoms r))
+  pub mode-put : room ≡ true → modes′ ≡ modePut m modes r
+  pub none : room ≡ false → m′ ≡ m
+
+-- the value of each row after the call, as a word
+abbrev pub valueAfter : List ℕ → ℕ → List ℕ → ℕ → ℕ
+valueAfter m c atoms r = bitOf (value (rowsOf m) (stepOf m c atoms) r)
+
+-- the plan of a call: whether every set has room, and if so the modes; the values of the rows that were tried are new in m′
+pub record Planned (m : List ℕ) (c : ℕ) (atoms m′ : List ℕ) (room : Bool) (modes : List ℕ) : Type 0 where
   pub fits : crowded (stepOf m c atoms) ≡ not room
   pub sets : room ≡ true → (j : ℕ) → j < temporals m → setAfter m c (getD modes j 0) j ≡ setAt (stepOf m c atoms) (ownerAt m j)
-  pub here-right : room ≡ true → (j : ℕ) → j < temporals m → hereIn here (ownerAt m j) ≡ has (setAt (stepOf m c atoms) (ownerAt m j)) c
+  pub tried : ℕ
+  pub few : tried ≤ rowCount m
+  pub all : room ≡ true → tried ≡ rowCount m
+  pub values : m′ ≡ filledFrom VALUES (valueAfter m c atoms) m tried
 
 -- m′ is m with the sets of the slots below n as f says
 pub record Written (m : List ℕ) (f : ℕ → Runs) (n : ℕ) (m′ : List ℕ) : Type 0 where
@@ -63,6 +101,7 @@ pub record Written (m : List ℕ) (f : ℕ → Runs) (n : ℕ) (m′ : List ℕ)
   pub below : (i : ℕ) → i < SETS → getD m′ i 0 ≡ getD m i 0
   pub new : (j : ℕ) → j < n → slotWords m′ j ≡ pack SET (f j)
   pub old : (j : ℕ) → n ≤ j → j < MOST-TEMPORALS → slotWords m′ j ≡ slotWords m j
+  pub beyond : (i : ℕ) → VALUES ≤ i → getD m′ i 0 ≡ getD m i 0
 
 -- m′ is m with its first n atoms anew
 pub record Atoms (m atoms : List ℕ) (n : ℕ) (m′ : List ℕ) : Type 0 where
@@ -75,8 +114,8 @@ pub record Atoms (m atoms : List ℕ) (n : ℕ) (m′ : List ℕ) : Type 0 where
 abbrev pub clocked : List ℕ → ℕ → List ℕ
 clocked m c = set (set m BEGUN 1) CLOCK c
 
--- m′ is m after a call at clock c and atoms, with the atoms still those of m; here says which sets contain the clock
-pub record Moved (m : List ℕ) (c : ℕ) (atoms here m′ : List ℕ) : Type 0 where
+-- m′ is m after a call at clock c and atoms, with the atoms still those of m, and but for what is told and the digits
+pub record Moved (m : List ℕ) (c : ℕ) (atoms m′ : List ℕ) : Type 0 where
   pub long : length m′ ≡ SIZE
   pub begun : begunWord m′ ≡ 1
   pub clock : clockOf m′ ≡ c
@@ -84,11 +123,12 @@ pub record Moved (m : List ℕ) (c : ℕ) (atoms here m′ : List ℕ) : Type 0 
   pub new : (j : ℕ) → j < temporals m → slotWords m′ j ≡ pack SET (setAt (stepOf m c atoms) (ownerAt m j))
   pub good : (j : ℕ) → j < temporals m → Good (slotWords m′ j)
   pub old : (j : ℕ) → temporals m ≤ j → j < MOST-TEMPORALS → slotWords m′ j ≡ slotWords m j
-  pub here-right : (j : ℕ) → j < temporals m → hereIn here (ownerAt m j) ≡ has (setAt (stepOf m c atoms) (ownerAt m j)) c
+  pub values : (r : ℕ) → r < rowCount m → valueAt m′ r ≡ valueAfter m c atoms r
+  pub beyond : (i : ℕ) → VALUES + rowCount m ≤ i → getD m′ i 0 ≡ getD m i 0
 
 -- a call tried: every set has room, r is 0 and m is moved to m′; or one lacks it, r is 11 and m′ is m
-pub record Tried (m : List ℕ) (c : ℕ) (atoms here m′ : List ℕ) (r : ℕ) : Type 0 where
-  pub room : crowded (stepOf m c atoms) ≡ false → (r ≡ ACCEPTED) × Moved m c atoms here m′
+pub record Tried (m : List ℕ) (c : ℕ) (atoms m′ : List ℕ) (r : ℕ) : Type 0 where
+  pub room : crowded (stepOf m c atoms) ≡ false → (r ≡ ACCEPTED) × Moved m c atoms m′
   pub full : crowded (stepOf m c atoms) ≡ true → (r ≡ NO-ROOM) × (m′ ≡ m)
 
 -- a row whose range can be counted from clock c: no sum wraps
@@ -99,9 +139,9 @@ pub record Bounded (m : List ℕ) (c r : ℕ) : Type 0 where
   pub lower : lowerAt m r ≤ LAST-TIME
   pub upper : (upperAt m r ≡ MAX → ⊥) → upperAt m r ≤ LAST-TIME
 
--- a kept memory and a clock that a call may set
+-- a sound memory and a clock that a call may set
 pub record Timely (m : List ℕ) (c : ℕ) : Type 0 where
-  pub kept : Kept m
+  pub sound : Sound m
   pub clock : c ≤ LAST-TIME
 
 -- a slot in use and its owner
@@ -128,10 +168,22 @@ pub record Fitting (m : List ℕ) (c : ℕ) (modes : List ℕ) : Type 0 where
   pub timely : Timely m c
   pub room : (j : ℕ) → j < temporals m → fits SET (setAfter m c (getD modes j 0) j) ≡ true
 
+-- ---- the digits that stand in a memory are right for what was told; those of settled, where it is not the first accepted call
+pub record Asked (m : List ℕ) (first : Bool) : Type 0 where
+  pub early : (i : ℕ) → i < propertyCount m → earlyAt m i ≡ earlyDigit m i
+  pub settled : first ≡ false → (i : ℕ) → i < propertyCount m → settledAt m i ≡ settledDigit m i
+
+-- what a call leaves before it is told and asked what is new
+pub record Due (m : List ℕ) (first : Bool) : Type 0 where
+  pub sound : Sound m
+  pub valued : Valued m
+  pub moving : Moving m
+  pub unused : Unused m
+  pub asked : Asked m first
+
 -- what a call leaves that is not refused for itself: the snapshots played, the newest state or the old one
 pub record Advanced (m : List ℕ) (ns : List Snap) (m′ : List ℕ) (r : ℕ) : Type 0 where
   pub number : r ≡ play (rowsOf m) (stateOf m) (stateOf m) ns .number
   pub state : stateOf m′ ≡ play (rowsOf m) (stateOf m) (stateOf m) ns .state
   pub book : bookOf m′ ≡ bookOf m
   pub refused : (r ≡ 0 → ⊥) → m′ ≡ m
-  pub kept : Kept m′

@@ -1,28 +1,43 @@
-// The calls of a monitor: planned, reading only, and then carried out in place. A call that is refused changes nothing.
+// The calls of a monitor: planned, and then carried out in place. A call that is refused changes nothing.
 ghost use mathlib.Core.Path.{_≡_};
-ghost use Prim.Native.Nat.{_≤_, _<_};
+ghost use mathlib.Core.Bool.{true, false, cond, not, _||_};
+ghost use mathlib.Core.List.{map};
+ghost use Prim.Native.Nat.{_+_, _≤_, _<_};
 ghost use lib.ListN.{length, getD, set};
-ghost use lib.Dec.{ltb};
+ghost use lib.Dec.{ltb, eqb};
 ghost use borrow.Rule.Slice.PartMut.{putMid};
 ghost use Rattle.numset.specs.Runs.{pack, runs};
-ghost use Rattle.pmtl.specs.Book.{start, stop, some};
+ghost use Rattle.pmtl.specs.Answer.{bitOf};
+ghost use Rattle.pmtl.specs.Book.{start, stop, some, mapRow};
+ghost use Rattle.pmtl.specs.Monitor.{valueRule};
 ghost use Rattle.pmtl.specs.Calls.{Call};
-ghost use Rattle.memory.specs.Layout.{SET, SIZE};
-ghost use Rattle.memory.specs.Memory.{rowCount, widthWord, temporals, kindAt, setStart, slotWords, rangeAt};
+ghost use Rattle.memory.specs.Layout.{SET, VALUES, SIZE};
+ghost use Rattle.memory.specs.Memory.{rowCount, widthWord, temporals, kindAt, setStart, slotWords, movesAt, rangeAt, rowOf, isOne};
+ghost use Rattle.memory.specs.Tables.{Tables};
 ghost use Rattle.memory.specs.Kept.{BookKept, Kept};
-ghost use Rattle.row_answers.specs.Facts.{Here};
+ghost use Rattle.memory.specs.Alike.{Alike};
 ghost use Rattle.set_change.specs.Change.{changed};
-ghost use Rattle.calls.specs.Private.{firstBytes, modeAt, setAfter, rowPlan, clocked, Bounded, Slot, Planned, Timely, Roomy, Fit, Fitting, Written, Atoms, Tried};
+ghost use Rattle.calls.specs.Private.{atomsFor, heldIn, atomsIn, Named, modeAt, setAfter, rowPlan, RowTried, clocked, Bounded, Slot, Planned, Timely, Roomy, Fit, Fitting, Written, Atoms, Tried, Due};
 ghost use Rattle.calls.specs.Called.{Called};
 ghost use Rattle.book.specs.Rows.{HISTORICALLY};
-ghost use Rattle.numbers.specs.Limits.{MOST-ATOMS};
+ghost use Rattle.numbers.specs.Limits.{LAST-TIME, MOST-ATOMS, MOST-ROWS, MOST-TEMPORALS};
+use book::AND;
+use book::ATOM;
+use book::FALSE;
+use book::HISTORICALLY;
+use book::NOT;
+use book::ONCE;
+use book::OR;
+use book::TRUE;
 use memory::SIZE;
+use memory::VALUES;
+use memory::holds;
+use memory::operand_at;
 use memory::set_at;
 use numbers::ACCEPTED;
 use numbers::LAST_TIME;
 use numbers::MAX;
 use numbers::MOST_ATOMS;
-use numbers::MOST_ROWS;
 use numbers::MOST_TEMPORALS;
 use numbers::NO_ROOM;
 use numbers::NOT_A_BIT;
@@ -30,47 +45,65 @@ use numbers::PAST_LIMIT;
 use numbers::TOO_EARLY;
 use numbers::TOO_LATE;
 use numbers::TOO_NARROW;
-use pmtl::bit;
+use tables::joined_at;
 
 // What is planned for a temporal row: the change of its set, whether the set will contain the clock, and whether there is room.
 pub struct RowPlan {
     pub mode: u8,
-    pub here: u8,
+    pub here: bool,
     pub room: bool,
 }
 
-// What is planned for a call: whether every set has room, and the changes.
-pub struct Plan {
-    pub room: bool,
-    pub modes: [u8; MOST_TEMPORALS],
+// Whether an atom holds.
+fn atom_at(atoms: &[u8], atom: usize) -> bool
+    requires { ⌜ atom < length (now atoms) ⌝ }
+    ensures { λ r. ⌜ r ≡ isOne (getD (now (atoms .entry)) atom 0) ⌝ }
+{
+    atoms[atom] == 1
 }
 
-// How a temporal row's set changes, by the values of its operands.
-fn mode_of<'a>(
-    monitor: &'a [u64; SIZE],
-    atoms: &'a [u8; MOST_ATOMS],
-    facts: &'a [u8; MOST_ROWS],
-    row: usize,
-) -> u8
+// The new value of a row that is not temporal, where those of its operands are new in the table.
+fn plain_value<'a>(monitor: &'a [u64; SIZE], atoms: &'a [u8], row: usize) -> bool
+    requires { ⌜ BookKept (now monitor) ⌝ }
+    requires { ⌜ (row < rowCount (now monitor)) × (kindAt (now monitor) row < HISTORICALLY) ⌝ }
+    requires { ⌜ Named (now monitor) (now atoms) row ⌝ }
+    ensures { λ r. ⌜ r ≡ valueRule (atomsIn (now (monitor .entry)) (now (atoms .entry))) false (mapRow (heldIn (now (monitor .entry))) (rowOf (now (monitor .entry)) row)) ⌝ }
+{
+    let words = memory::row_at(monitor, row);
+    let kind = words.kind;
+    match kind {
+        FALSE => false,
+        TRUE => true,
+        ATOM => atom_at(atoms, words.arg),
+        AND => joined_at(monitor, VALUES, words.start, words.arg, false),
+        OR => joined_at(monitor, VALUES, words.start, words.arg, true),
+        NOT => !holds(monitor, operand_at(monitor, words.start)),
+        _ => {
+            if holds(monitor, operand_at(monitor, words.start)) {
+                holds(monitor, operand_at(monitor, words.start + 1))
+            } else {
+                true
+            }
+        }
+    }
+}
+
+// How a temporal row's set changes, by the new values of its operands.
+fn mode_of(monitor: &[u64; SIZE], row: usize) -> u8
     requires { ⌜ BookKept (now monitor) ⌝ }
     requires { ⌜ (row < rowCount (now monitor)) × (HISTORICALLY ≤ kindAt (now monitor) row) ⌝ }
-    ensures { λ r. ⌜ r ≡ modeAt (now (monitor .entry)) (now (atoms .entry)) (now (facts .entry)) row ⌝ }
+    ensures { λ r. ⌜ r ≡ modeAt (now (monitor .entry)) row ⌝ }
 {
     let kind = memory::kind_at(monitor, row);
     let start = memory::start_at(monitor, row);
-    let first = row_answers::output(monitor, atoms, facts, memory::operand_at(monitor, start));
-    if kind == book::HISTORICALLY {
+    let first = holds(monitor, operand_at(monitor, start));
+    if kind == HISTORICALLY {
         return set_change::mode(true, !first);
     }
-    if kind == book::ONCE {
+    if kind == ONCE {
         return set_change::mode(true, first);
     }
-    let second = row_answers::output(
-        monitor,
-        atoms,
-        facts,
-        memory::operand_at(monitor, start + 1),
-    );
+    let second = holds(monitor, operand_at(monitor, start + 1));
     set_change::mode(first, second)
 }
 
@@ -94,66 +127,110 @@ fn stop_of(monitor: &[u64; SIZE], clock: u64, row: usize) -> u64
     clock + upper
 }
 
-// The plan of one temporal row, by what is known of the rows below it.
-fn plan_row<'a>(
-    monitor: &'a [u64; SIZE],
-    clock: u64,
-    atoms: &'a [u8; MOST_ATOMS],
-    facts: &'a [u8; MOST_ROWS],
-    slot: usize,
-    row: usize,
-) -> RowPlan
+// The plan of one temporal row, most of which stay as they are, where the values of the rows below it are new in the table.
+fn plan_row(monitor: &[u64; SIZE], clock: u64, slot: usize, row: usize) -> RowPlan
     requires { ⌜ Slot (now monitor) clock slot row ⌝ }
-    ensures { λ r. ⌜ r ≡ rowPlan (now (monitor .entry)) clock (modeAt (now (monitor .entry)) (now (atoms .entry)) (now (facts .entry)) row) slot ⌝ }
+    ensures { λ r. ⌜ r ≡ rowPlan (now (monitor .entry)) clock (modeAt (now (monitor .entry)) row) slot ⌝ }
 {
-    let mode = mode_of(monitor, atoms, facts, row);
+    let mode = mode_of(monitor, row);
+    let set = set_at(monitor, slot);
+    if mode == set_change::STAYS {
+        return RowPlan {
+            mode,
+            here: numset::contains(set, clock),
+            room: true,
+        };
+    }
     let start = start_of(monitor, clock, row);
     let stop = stop_of(monitor, clock, row);
-    let set = set_at(monitor, slot);
     let room = set_change::room_for(set, mode, start, stop);
     let here = set_change::will_have(set, mode, start, stop, clock);
-    RowPlan {
-        mode,
-        here: bit(here),
-        room,
+    RowPlan { mode, here, room }
+}
+
+// A temporal row's value: Historically holds where nothing in the set says otherwise.
+fn temporal_value(kind: u64, here: bool) -> bool
+    ensures { λ r. ⌜ r ≡ cond (eqb kind HISTORICALLY) (not here) here ⌝ }
+{
+    if kind == HISTORICALLY { !here } else { here }
+}
+
+// Notes a row's new value.
+fn put_value(monitor: &mut [u64; SIZE], row: usize, value: bool)
+    requires { ⌜ (row < MOST-ROWS) × (length (now monitor) ≡ SIZE) ⌝ }
+    ensures { λ _. ⌜ now (monitor .exit) ≡ set (now (monitor .entry)) (VALUES + row) (bitOf value) ⌝ }
+{
+    monitor[VALUES + row] = lists::wide(pmtl::bit(value));
+}
+
+// Tries a row, where the values of the rows below it are new in the table: its own is noted, and if it is temporal its mode; but nothing
+// where its set lacks room.
+fn try_row(
+    monitor: &mut [u64; SIZE],
+    clock: u64,
+    atoms: &[u8],
+    row: usize,
+    modes: &mut [u8],
+) -> bool
+    requires { ⌜ Timely (now monitor) clock ⌝ }
+    requires { ⌜ (row < rowCount (now monitor)) × (length (now modes) ≡ MOST-TEMPORALS) × Named (now monitor) (now atoms) row ⌝ }
+    ensures { λ r. ⌜ RowTried (now (monitor .entry)) clock (now (atoms .entry)) (now (modes .entry)) row (now (monitor .exit)) (now (modes .exit)) r ⌝ }
+{
+    let kind = memory::kind_at(monitor, row);
+    if kind < HISTORICALLY {
+        let value = plain_value(monitor, atoms, row);
+        put_value(monitor, row, value);
+        return true;
+    }
+    let slot = memory::slot_at(monitor, row);
+    let plan = plan_row(monitor, clock, slot, row);
+    let room = plan.room;
+    if room {
+        modes[slot] = plan.mode;
+        put_value(monitor, row, temporal_value(kind, plan.here));
+        return true;
+    }
+    false
+}
+
+// Whether a call looks at a row. A state call looks at all, a time call at those that move with the clock: the others keep their values.
+fn visits(monitor: &[u64; SIZE], row: usize, fresh: bool) -> bool
+    requires { ⌜ row < MOST-ROWS ⌝ }
+    ensures { λ r. ⌜ r ≡ (fresh || isOne (movesAt (now (monitor .entry)) row)) ⌝ }
+{
+    if fresh {
+        true
+    } else {
+        memory::moves_at(monitor, row)
     }
 }
 
-// Notes of a row whether its set will contain the clock. The bytes come as a slice, since nothing says the length of a lent array.
-fn note_here(here: &mut [u8], row: usize, fact: u8)
-    requires { ⌜ row < length (now here) ⌝ }
-    ensures { λ _. ⌜ now (here .exit) ≡ set (now (here .entry)) row fact ⌝ }
-{
-    here[row] = fact;
-}
-
-// The plan of a call, from the lowest temporal row upward, up to the first whose set lacks room. Of the rows planned, `here` then
-// says whether their sets will contain the clock; of the others it is never asked.
-fn plan_call<'a>(
-    monitor: &'a [u64; SIZE],
+// The plan of a call, from row 0 upward, up to the first row whose set lacks room. A call with no fresh atoms has no bytes for them.
+fn plan_call(
+    monitor: &mut [u64; SIZE],
     clock: u64,
-    atoms: &'a [u8; MOST_ATOMS],
-    here: &mut [u8; MOST_ROWS],
-) -> Plan
-    requires { ⌜ Timely (now monitor) clock ⌝ }
-    ensures { λ r. ⌜ Planned (now (monitor .entry)) clock (now (atoms .entry)) (now (here .exit)) (r .room) (r .modes) ⌝ }
+    atoms: &[u8],
+    fresh: bool,
+    modes: &mut [u8],
+) -> bool
+    requires { ⌜ Kept (now monitor) × (clock ≤ LAST-TIME) ⌝ }
+    requires { ⌜ (length (now modes) ≡ MOST-TEMPORALS) × (fresh ≡ true → widthWord (now monitor) ≤ length (now atoms)) ⌝ }
+    ensures { λ r. ⌜ Planned (now (monitor .entry)) clock (atomsFor (now (monitor .entry)) fresh (now (atoms .entry))) (now (monitor .exit)) r (now (modes .exit)) ⌝ }
 {
-    let count = memory::temporal_count(monitor);
-    let mut modes = [0u8; MOST_TEMPORALS];
-    let mut slot = 0;
-    while slot < count {
-        let row = memory::owner_at(monitor, slot);
-        let planned = plan_row(monitor, clock, atoms, here, slot, row);
-        let room = planned.room;
-        if room {
-            modes[slot] = planned.mode;
-            note_here(here, row, planned.here);
-            slot += 1;
+    let count = memory::row_count(monitor);
+    let mut row = 0;
+    while row < count {
+        if visits(monitor, row, fresh) {
+            if try_row(monitor, clock, atoms, row, modes) {
+                row += 1;
+            } else {
+                return false;
+            }
         } else {
-            return Plan { room: false, modes };
+            row += 1;
         }
     }
-    Plan { room: true, modes }
+    true
 }
 
 // Changes the set of a slot among a monitor's words, by a range's start and stop. No part can be taken of an array.
@@ -203,8 +280,8 @@ fn put_clock(monitor: &mut [u64; SIZE], clock: u64)
 }
 
 // Sets the atoms.
-fn put_atoms(monitor: &mut [u64; SIZE], atoms: &[u8; MOST_ATOMS])
-    requires { ⌜ (length (now monitor) ≡ SIZE) × (length (now atoms) ≡ MOST-ATOMS) × (widthWord (now monitor) ≤ MOST-ATOMS) ⌝ }
+fn put_atoms(monitor: &mut [u64; SIZE], atoms: &[u8])
+    requires { ⌜ (length (now monitor) ≡ SIZE) × (widthWord (now monitor) ≤ length (now atoms)) × (widthWord (now monitor) ≤ MOST-ATOMS) ⌝ }
     ensures { λ _. ⌜ Atoms (now (monitor .entry)) (now (atoms .entry)) (widthWord (now (monitor .entry))) (now (monitor .exit)) ⌝ }
 {
     let count = memory::width(monitor);
@@ -216,39 +293,37 @@ fn put_atoms(monitor: &mut [u64; SIZE], atoms: &[u8; MOST_ATOMS])
 }
 
 // A call at a clock and atoms: planned, and then carried out, all but the atoms, which a time call leaves as they are. Where a set
-// lacks room, nothing is.
-fn advance(
-    monitor: &mut [u64; SIZE],
-    clock: u64,
-    atoms: &[u8; MOST_ATOMS],
-    here: &mut [u8; MOST_ROWS],
-) -> u64
-    requires { ⌜ Timely (now monitor) clock ⌝ }
-    ensures { λ r. ⌜ Tried (now (monitor .entry)) clock (now (atoms .entry)) (now (here .exit)) (now (monitor .exit)) r ⌝ }
+// lacks room, the values are worked out anew from what did not change: these are the old ones.
+fn advance(monitor: &mut [u64; SIZE], clock: u64, atoms: &[u8], fresh: bool) -> u64
+    requires { ⌜ Kept (now monitor) × (clock ≤ LAST-TIME) ⌝ }
+    requires { ⌜ (fresh ≡ true → widthWord (now monitor) ≤ length (now atoms)) ⌝ }
+    ensures { λ r. ⌜ Tried (now (monitor .entry)) clock (atomsFor (now (monitor .entry)) fresh (now (atoms .entry))) (now (monitor .exit)) r ⌝ }
 {
-    let plan = plan_call(monitor, clock, atoms, here);
-    let room = plan.room;
-    if room {
-        let modes = plan.modes;
+    let mut modes = [0u8; MOST_TEMPORALS];
+    if plan_call(monitor, clock, atoms, fresh, &mut modes) {
         commit(monitor, clock, &modes);
         put_clock(monitor, clock);
         return ACCEPTED;
     }
+    tables::fill_values(monitor);
     NO_ROOM
 }
 
-// The atoms of a state: its first bytes.
-fn new_atoms(state: &[u8], count: usize) -> [u8; MOST_ATOMS]
-    requires { ⌜ (count ≤ length (now state)) × (count ≤ MOST-ATOMS) ⌝ }
-    ensures { λ r. ⌜ r ≡ firstBytes (now (state .entry)) count ⌝ }
+// After an accepted call the rows are told anew what is so of their sets. Only if that is something new, or at the first such call, are
+// the properties asked again.
+fn renew(monitor: &mut [u64; SIZE], first: bool)
+    requires { ⌜ Due (now monitor) first ⌝ }
+    ensures { λ _. ⌜ Alike (now (monitor .entry)) (now (monitor .exit)) × Tables (now (monitor .exit)) ⌝ }
 {
-    let mut atoms = [0u8; MOST_ATOMS];
-    let mut i = 0;
-    while i < count {
-        atoms[i] = state[i];
-        i += 1;
+    if first {
+        tables::retell(monitor);
+        tables::ask(monitor);
+        return;
     }
-    atoms
+    if tables::retell(monitor) {
+        return;
+    }
+    tables::ask(monitor);
 }
 
 // Whether a byte is neither 0 nor 1.
@@ -266,10 +341,9 @@ fn has_other(state: &[u8]) -> bool
 }
 
 // The clock becomes `time`, and every row is evaluated anew. The answer is 0, or the number of the refusal: then nothing changed.
-// Of an accepted call, `here` then says which sets contain the clock, so that whoever answers need not search them again.
-pub fn update_time_here(monitor: &mut [u64; SIZE], time: u64, here: &mut [u8; MOST_ROWS]) -> u64
+pub fn update_time(monitor: &mut [u64; SIZE], time: u64) -> u64
     requires { ⌜ Kept (now monitor) ⌝ }
-    ensures { λ r. ⌜ Called (Call.time time) (now (monitor .entry)) (now (monitor .exit)) r × (r ≡ 0 → Here (now (monitor .exit)) (now (here .exit))) ⌝ }
+    ensures { λ r. ⌜ Called (Call.time time) (now (monitor .entry)) (now (monitor .exit)) r ⌝ }
 {
     if time < memory::clock(monitor) {
         return TOO_EARLY;
@@ -277,14 +351,19 @@ pub fn update_time_here(monitor: &mut [u64; SIZE], time: u64, here: &mut [u8; MO
     if LAST_TIME < time {
         return TOO_LATE;
     }
-    let atoms = memory::read_atoms(monitor);
-    advance(monitor, time, &atoms, here)
+    let first = memory::begun(monitor) == 0;
+    let number = advance(monitor, time, b"", false);
+    if number != ACCEPTED {
+        return number;
+    }
+    renew(monitor, first);
+    ACCEPTED
 }
 
-// The atoms become the bytes of `state`. The answer, and `here`, are as those of `update_time_here`.
-pub fn update_state_here(monitor: &mut [u64; SIZE], state: &[u8], here: &mut [u8; MOST_ROWS]) -> u64
+// The atoms become the bytes of `state`, and every row is evaluated anew. The answer is as that of `update_time`.
+pub fn update_state(monitor: &mut [u64; SIZE], state: &[u8]) -> u64
     requires { ⌜ Kept (now monitor) ⌝ }
-    ensures { λ r. ⌜ Called (Call.state (now (state .entry))) (now (monitor .entry)) (now (monitor .exit)) r × (r ≡ 0 → Here (now (monitor .exit)) (now (here .exit))) ⌝ }
+    ensures { λ r. ⌜ Called (Call.state (now (state .entry))) (now (monitor .entry)) (now (monitor .exit)) r ⌝ }
 {
     if MOST_ATOMS < state.len() {
         return PAST_LIMIT;
@@ -296,12 +375,13 @@ pub fn update_state_here(monitor: &mut [u64; SIZE], state: &[u8], here: &mut [u8
     if has_other(state) {
         return NOT_A_BIT;
     }
-    let atoms = new_atoms(state, count);
+    let first = memory::begun(monitor) == 0;
     let clock = memory::clock(monitor);
-    let number = advance(monitor, clock, &atoms, here);
+    let number = advance(monitor, clock, state, true);
     if number != ACCEPTED {
         return number;
     }
-    put_atoms(monitor, &atoms);
+    put_atoms(monitor, state);
+    renew(monitor, first);
     ACCEPTED
 }

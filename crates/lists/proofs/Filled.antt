@@ -7,7 +7,7 @@ use mathlib.Core.Path.{_≡_, refl, sym, ap, _∙_}
 use mathlib.Core.List.{List, [], _∷_, _++_, append-assoc}
 use lib.ListN.{length, getD, set, drop, replicate, length-set, length-replicate, getD-replicate, List·getD-eq-default}
 use lib.Seq.{ext-getD, getD-set-same, getD-set-other, drop-cons, set-at}
-use Rattle.lists.specs.Lists.{listed, filledTo}
+use Rattle.lists.specs.Lists.{listed, filledTo, filledFrom}
 use Rattle.lists.proofs.Listed.{listed-length, listed-at}
 
 -- an element that is there does not need a default
@@ -85,3 +85,31 @@ module _ {A : Type 0} (f : ℕ → A) (xs : List A) where
       ap (λ l. set l i (f i)) (filledTo-is i (omega arith) ∙ ap (λ l. listed f i ++ l) (drop-cons xs i (f i) h))
       ∙ set-at (listed f i) (getD xs i (f i)) (drop (suc i) xs) (f i) i (listed-length f i)
       ∙ sym (append-assoc (listed f i) (f i ∷ []) (drop (suc i) xs))
+
+-- ---- and from any place on
+module _ {A : Type 0} (a : ℕ) (f : ℕ → A) (xs : List A) where
+  pub filledFrom-length : (n : ℕ) → length (filledFrom a f xs n) ≡ length xs
+  filledFrom-length zero = refl
+  filledFrom-length (suc i) = length-set (filledFrom a f xs i) (a + i) (f i) ∙ filledFrom-length i
+
+  -- one more
+  pub filledFrom-more : {l : List A} {i : ℕ} {x : A} → l ≡ filledFrom a f xs i → x ≡ f i → set l (a + i) x ≡ filledFrom a f xs (i + 1)
+  filledFrom-more {i = i} e ex = rw (e, ex, add-one)
+
+  -- those that are stored
+  pub filledFrom-at : (d : A) (n k : ℕ) → k < n → a + n ≤ length xs → getD (filledFrom a f xs n) (a + k) d ≡ f k
+  filledFrom-at d zero k h l = absurd (omega arith)
+  filledFrom-at d (suc i) k h l = go (ℕ-discrete k i) (λ (h′ : k < i). filledFrom-at d i k h′ (omega arith))
+    where
+      go : Dec (k ≡ i) → (k < i → getD (filledFrom a f xs i) (a + k) d ≡ f k) → getD (filledFrom a f xs (suc i)) (a + k) d ≡ f k
+      go (yes e) below = rw e (getD-set-same (filledFrom a f xs i) (a + i) (f i) d (let e′ = filledFrom-length i in omega arith))
+      go (no e) below = getD-set-other (filledFrom a f xs i) (a + i) (a + k) (f i) d (λ q. e (omega arith)) ∙ below (omega arith)
+
+  -- those before them, those after them
+  pub filledFrom-before : (d : A) (n k : ℕ) → k < a → getD (filledFrom a f xs n) k d ≡ getD xs k d
+  filledFrom-before d zero k h = refl
+  filledFrom-before d (suc i) k h = getD-set-other (filledFrom a f xs i) (a + i) k (f i) d (λ q. omega arith) ∙ filledFrom-before d i k h
+
+  pub filledFrom-after : (d : A) (n k : ℕ) → a + n ≤ k → getD (filledFrom a f xs n) k d ≡ getD xs k d
+  filledFrom-after d zero k h = refl
+  filledFrom-after d (suc i) k h = getD-set-other (filledFrom a f xs i) (a + i) k (f i) d (λ q. omega arith) ∙ filledFrom-after d i k (omega arith)

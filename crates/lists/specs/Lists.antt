@@ -1,5 +1,5 @@
 -- Lists by index, and parts of them. Definitions only.
-use Prim.Native.Nat.{ℕ, zero, suc}
+use Prim.Native.Nat.{ℕ, zero, suc, _+_}
 use mathlib.Core.List.{List, [], _∷_, _++_}
 use lib.ListN.{length, set, take, drop}
 use lib.Seq.{paste}
@@ -21,3 +21,8 @@ put m at xs = paste m at xs (length xs)
 abbrev pub filledTo : {A : Type 0} → (ℕ → A) → List A → ℕ → List A
 filledTo f xs zero = xs
 filledTo f xs (suc i) = set (filledTo f xs i) i (f i)
+
+-- xs with the elements from a on as f says, so many of them
+abbrev pub filledFrom : {A : Type 0} → ℕ → (ℕ → A) → List A → ℕ → List A
+filledFrom a f xs zero = xs
+filledFrom a f xs (suc i) = set (filledFrom a f xs i) (a + i) (f i)

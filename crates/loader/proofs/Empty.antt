@@ -1,4 +1,4 @@
--- A memory of zeros is kept, and holds the empty book and its first state. Assumes nothing.
+-- A memory of zeros is sound, and holds the empty book and its first state. Assumes nothing.
 use Prim.Native.Nat.{ℕ, _+_, _<_}
 use mathlib.Core.Path.{_≡_, _∙_}
 use mathlib.Core.List.{List, []}
@@ -10,7 +10,8 @@ use Rattle.pmtl.specs.Monitor.{initial}
 use Rattle.memory.specs.Layout.{SET, SIZE}
 use Rattle.memory.specs.Memory.{setStart, slotWords, rowsOf, bookOf, stateOf}
 use Rattle.lists.specs.Lists.{listed}
-use Rattle.memory.specs.Kept.{BookKept, slotTo, Tidy, Kept}
+use Rattle.memory.specs.Kept.{BookKept, slotTo, Tidy, Sound}
+use Rattle.memory.specs.Tables.{Unused}
 use Rattle.lists.proofs.Parts.{part-zeros}
 
 module _ (m : List ℕ) (long : length m ≡ SIZE) (zeros : (i : ℕ) → getD m i 0 ≡ 0) where
@@ -56,8 +57,8 @@ module _ (m : List ℕ) (long : length m ≡ SIZE) (zeros : (i : ℕ) → getD m
         sets-rest = λ j p h. no-sets j h;
       }
 
-  pub empty-kept : Kept m
-  empty-kept =
+  pub empty-sound : Sound m
+  empty-sound =
       record {
         book = book-kept;
         tidy = tidy;
@@ -66,6 +67,9 @@ module _ (m : List ℕ) (long : length m ≡ SIZE) (zeros : (i : ℕ) → getD m
         atoms = λ i h. absurd (omega (arith, zeros 3));
         sets = λ j h. rw (no-sets j h) (good-zeros SET (omega arith));
       }
+
+  pub empty-unused : Unused m
+  empty-unused = record { values = λ r p q. zeros _; told = λ j p q. zeros _; early = λ i p q. zeros _; settled = λ i p q. zeros _; moves = λ r p q. zeros _ }
 
   pub empty-book : bookOf m ≡ emptyBook
   unfolding bookOf rowsOf listed

@@ -1,4 +1,4 @@
--- A memory whose words are those of an accepted book holds that book and a fresh monitor, and is kept. Assumes nothing.
+-- A memory whose words are those of an accepted book holds that book and a fresh monitor, and is sound. Assumes nothing.
 use Prim.Native.Nat.{ℕ, zero, suc, _+_, _*_, _-_, _≤_, _<_}
 use mathlib.Core.Path.{_≡_, refl, sym, ap, _∙_}
 use mathlib.Core.Bool.{true, false}
@@ -14,7 +14,7 @@ use Rattle.lists.proofs.Tests.{lt-or-ge}
 use Rattle.numset.proofs.Packs.{good-zeros}
 use Rattle.pmtl.specs.Book.{widthOf}
 use Rattle.pmtl.specs.Monitor.{initial}
-use Rattle.memory.specs.Layout.{ROWS, ROW, OPERANDS, PROPERTIES, ATOMS, OWNERS, SET, SIZE}
+use Rattle.memory.specs.Layout.{ROWS, ROW, OPERANDS, PROPERTIES, ATOMS, OWNERS, SET, SIZE, VALUES, TOLD, EARLY, SETTLED, MOVES}
 use Rattle.lists.specs.Lists.{part, listed, put}
 use Rattle.memory.specs.Memory.{assumeCount, guaranteeCount, kindAt, argAt, lowerAt, upperAt, startAt, slotAt, operandsOf, ownerAt, setStart, slotWords, rowOf, rowsOf, bookOf, isOne, setOf, stateOf}
 use Rattle.book.specs.Rows.{countOf}
@@ -248,19 +248,29 @@ module _ (s : Sections) (m : List ℕ) (ok : Accepted s) (st : Stands s m) where
         sets-rest = λ j p h. no-sets j h;
       }
 
+  zero-from : (i : ℕ) → VALUES ≤ i → getD m i 0 ≡ 0
+  zero-from i h = let t = room in st .owners-rest i (omega arith)
+
   pub holds : Holds s m
   holds =
       let n = narrow in
       record {
         book = holds-book;
         state = holds-state;
-        kept = record {
+        sound = record {
           book = book-kept;
           tidy = tidy;
           begun = omega (arith, st .begun);
           clock = omega (arith, st .clock);
           atoms = λ i h. omega (arith, st .width, st .atom i (omega (arith, st .width)));
           sets = λ j h. rw (no-sets j h) (good-zeros SET (omega arith));
+        };
+        unused = record {
+          values = λ r p q. zero-from (VALUES + r) (omega arith);
+          told = λ j p q. zero-from (TOLD + j) (omega arith);
+          early = λ i p q. zero-from (EARLY + i) (omega arith);
+          settled = λ i p q. zero-from (SETTLED + i) (omega arith);
+          moves = λ r p q. zero-from (MOVES + r) (omega arith);
         };
       }
 

@@ -13,9 +13,10 @@ use Rattle.lists.specs.Lists.{put}
 use Rattle.memory.specs.Memory.{bookOf, stateOf}
 use Rattle.numbers.specs.Limits.{ROW-WORDS, MOST-OPERANDS, MOST-ROWS, MOST-TEMPORALS}
 use Rattle.book.specs.Reading.{Sections}
-use Rattle.book.specs.Judging.{kindIn, argIn, lowerIn, upperIn, rowsIn, temporalsIn, startIn, argGood, judged, bookIn}
+use Rattle.book.specs.Judging.{kindIn, argIn, lowerIn, upperIn, rowsIn, temporalsIn, startIn, argGood, judged, bookIn, loaded}
 use Rattle.book.specs.Private.{Few}
-use Rattle.memory.specs.Kept.{Kept}
+use Rattle.memory.specs.Kept.{Sound}
+use Rattle.memory.specs.Tables.{Unused}
 use Rattle.numbers.specs.Refusals.{ACCEPTED}
 
 -- the largest atom of the first n rows plus 1; 0 if there is no atom
@@ -75,8 +76,17 @@ pub record Accepted (s : Sections) : Type 0 where
   pub few : Few s
   pub good : judged s ≡ ACCEPTED
 
--- the memory holds the book that the sections say, with a fresh monitor
+-- the memory holds the book that the sections say, with a fresh monitor; its tables are not worked out yet
 pub record Holds (s : Sections) (m : List ℕ) : Type 0 where
   pub book : bookOf m ≡ bookIn s
   pub state : stateOf m ≡ initial (bookIn s .rows)
-  pub kept : Kept m
+  pub sound : Sound m
+  pub unused : Unused m
+
+-- the same of words, accepted or refused, and the number that is handed back
+pub record Stored (words m : List ℕ) (r : ℕ) : Type 0 where
+  pub number : r ≡ loaded words .number
+  pub book : bookOf m ≡ loaded words .book
+  pub state : stateOf m ≡ initial (loaded words .book .rows)
+  pub sound : Sound m
+  pub unused : Unused m

@@ -8,7 +8,7 @@ ghost use Rattle.numbers.specs.Limits.{ROW-WORDS, MOST-ATOMS, MOST-ROWS};
 ghost use Rattle.book.specs.Placing.{sectionsOf, partsOf, Counted};
 ghost use Rattle.book.specs.Judging.{startIn, temporalsIn};
 ghost use Rattle.loader.specs.Loading.{Loads};
-ghost use Rattle.loader.specs.Private.{reach, widthIn, wordsWith, rowPut, rowsPut, headPut, Rowed, Accepted, Holds};
+ghost use Rattle.loader.specs.Private.{reach, widthIn, wordsWith, rowPut, rowsPut, headPut, Rowed, Accepted, Holds, Stored};
 use book::ATOM;
 use book::HISTORICALLY;
 use book::check::Places;
@@ -168,10 +168,10 @@ fn store_parts(words: &[u64], places: Places, monitor: &mut [u64])
     );
 }
 
-// Loading, over a memory whose length is not part of its type.
-fn load_into(words: &[u64], monitor: &mut [u64]) -> u64
+// Loading but for the tables, over a memory whose length is not part of its type.
+fn store_judged(words: &[u64], monitor: &mut [u64]) -> u64
     requires { ⌜ length (now monitor) ≡ SIZE ⌝ }
-    ensures { λ r. ⌜ Loads (now (words .entry)) (now (monitor .exit)) r ⌝ }
+    ensures { λ r. ⌜ Stored (now (words .entry)) (now (monitor .exit)) r ⌝ }
 {
     let places = book::check::place(words);
     let number = places.number;
@@ -187,5 +187,7 @@ fn load_into(words: &[u64], monitor: &mut [u64]) -> u64
 pub fn load(words: &[u64], monitor: &mut [u64; SIZE]) -> u64
     ensures { λ r. ⌜ Loads (now (words .entry)) (now (monitor .exit)) r ⌝ }
 {
-    load_into(words, monitor)
+    let number = store_judged(words, monitor);
+    tables::work_out(monitor);
+    number
 }

@@ -3,3 +3,5 @@ pub mod Sets
 pub mod Stepped
 pub mod Codes
 pub mod Same
+pub mod Alike
+pub mod Bits

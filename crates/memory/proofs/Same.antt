@@ -11,15 +11,19 @@ use borrow.Author.Tests.{eqb-true, eqb-false, le-leb}
 use Rattle.numset.specs.Runs.{Runs, runs, pack}
 use Rattle.lists.proofs.Tests.{either, lt-or-ge}
 use Rattle.numset.proofs.Packs.{packed}
-use Rattle.pmtl.specs.Book.{Row, Book, widthOf}
-use Rattle.pmtl.specs.Monitor.{State}
-use Rattle.memory.specs.Layout.{ROWS, ROW, OPERANDS, PROPERTIES, ATOMS, OWNERS, SETS, SET, SIZE}
+use Rattle.pmtl.specs.Answer.{bitOf, digitOf}
+use Rattle.pmtl.specs.Book.{Row, Rows, Book, widthOf}
+use Rattle.pmtl.specs.Monitor.{State, value}
+use Rattle.pmtl.specs.Early.{early}
+use Rattle.pmtl.specs.Settled.{settled}
+use Rattle.memory.specs.Layout.{ROWS, ROW, OPERANDS, PROPERTIES, ATOMS, OWNERS, SETS, SET, VALUES, TOLD, EARLY, SETTLED, MOVES, SIZE}
 use Rattle.lists.specs.Lists.{part, listed}
-use Rattle.memory.specs.Memory.{rowCount, begunWord, clockOf, widthWord, temporals, assumeCount, guaranteeCount, kindAt, argAt, lowerAt, upperAt, startAt, slotAt, operandsOf, ownerAt, setStart, slotWords, rowOf, rowsOf, bookOf, isOne, setOf, stateOf}
+use Rattle.memory.specs.Memory.{rowCount, begunWord, clockOf, widthWord, temporals, assumeCount, guaranteeCount, kindAt, argAt, lowerAt, upperAt, startAt, slotAt, operandsOf, ownerAt, setStart, slotWords, propertyRow, valueAt, toldAt, earlyAt, settledAt, movesAt, rowOf, rowsOf, bookOf, isOne, setOf, stateOf}
+use Rattle.memory.specs.Tables.{standing, propertyCount, moves}
 use Rattle.book.specs.Rows.{countOf}
 use Rattle.lists.proofs.Listed.{listed-at}
 use Rattle.memory.proofs.Rows.{rows-length, row-at}
-use Rattle.memory.specs.Kept.{startTo, slotTo, Kept}
+use Rattle.memory.specs.Kept.{startTo, slotTo, Sound, Kept}
 use Rattle.lists.proofs.Parts.{word-at, part-length, part-at}
 use Rattle.memory.proofs.Codes.{kindOf, argOf, lowerOf, upperOf, takenBy, Spelled, spelled-by}
 
@@ -31,7 +35,7 @@ same-bit a b ha hb e =
     (either (isOne a))
 
 -- ---- what a kept memory's rows tell
-module _ (m : List ℕ) (k : Kept m) where
+module _ (m : List ℕ) (k : Sound m) where
   long : length m ≡ SIZE
   long = k .book .long
 
@@ -55,7 +59,7 @@ module _ (m : List ℕ) (k : Kept m) where
   unfolding setOf
   set-owned j h = rw (le-leb 7 (kindAt m (ownerAt m j)) (k .book .temporals-are j h), k .book .slots j h)
 
-module _ (m m′ : List ℕ) (k : Kept m) (k′ : Kept m′) (same-book : bookOf m ≡ bookOf m′) (same-state : stateOf m ≡ stateOf m′) where
+module _ (m m′ : List ℕ) (k : Sound m) (k′ : Sound m′) (same-book : bookOf m ≡ bookOf m′) (same-state : stateOf m ≡ stateOf m′) where
   same-rows : rowsOf m ≡ rowsOf m′
   unfolding bookOf
   same-rows = ap (λ (b : Book). b .rows) same-book
@@ -283,7 +287,7 @@ module _ (m m′ : List ℕ) (k : Kept m) (k′ : Kept m′) (same-book : bookOf
       (λ p. k .tidy .sets-rest j p h ∙ sym (k′ .tidy .sets-rest j (omega arith) h))
       (lt-or-ge j (temporals m))
 
-  same-in-sets : (i : ℕ) → SETS ≤ i → i < SIZE → getD m i 0 ≡ getD m′ i 0
+  same-in-sets : (i : ℕ) → SETS ≤ i → i < VALUES → getD m i 0 ≡ getD m′ i 0
   same-in-sets i l u =
       let j : ℕ = (i - 1223) / 129 in
       let d : ℕ = (i - 1223) % 129 in
@@ -295,8 +299,8 @@ module _ (m m′ : List ℕ) (k : Kept m) (k′ : Kept m′) (same-book : bookOf
   before : (a i : ℕ) → a ≤ i → getD m (a + (i - a)) 0 ≡ getD m′ (a + (i - a)) 0 → getD m i 0 ≡ getD m′ i 0
   before a i h e = word-at m i (a + (i - a)) (omega arith) ∙ e ∙ word-at m′ (a + (i - a)) i (omega arith)
 
-  by-parts : (i : ℕ) → i < SIZE → getD m i 0 ≡ getD m′ i 0
-  by-parts i h =
+  pub before-tables : (i : ℕ) → i < VALUES → getD m i 0 ≡ getD m′ i 0
+  before-tables i h =
       ⊎-elim (same-head i) (λ p₁.
       ⊎-elim (same-in-rows i p₁) (λ p₂.
       ⊎-elim (λ q. before OPERANDS i p₂ (same-operand (i - OPERANDS) (omega arith))) (λ p₃.
@@ -310,7 +314,81 @@ module _ (m m′ : List ℕ) (k : Kept m) (k′ : Kept m′) (same-book : bookOf
       (lt-or-ge i OPERANDS))
       (lt-or-ge i ROWS)
 
+-- ---- the tables say the same of the same monitor
+module _ (m m′ : List ℕ) (k : Kept m) (k′ : Kept m′) (same-book : bookOf m ≡ bookOf m′) (same-state : stateOf m ≡ stateOf m′) where
+  below : (i : ℕ) → i < VALUES → getD m i 0 ≡ getD m′ i 0
+  below = before-tables m m′ (k .sound) (k′ .sound) same-book same-state
+
+  -- an answer of every row
+  same-answer : {A : Type 0} (f : Rows → State → ℕ → A) (r r′ : ℕ) → r ≡ r′ → f (rowsOf m) (stateOf m) r ≡ f (rowsOf m′) (stateOf m′) r′
+  same-answer f r r′ e = rw (same-rows m m′ (k .sound) (k′ .sound) same-book same-state, same-state, e)
+
+  same-value : (r : ℕ) → r < 128 → valueAt m r ≡ valueAt m′ r
+  same-value r h =
+      let c = below 0 (omega arith) in
+      ⊎-elim
+      (λ p. k .tables .valued .right r p ∙ ap bitOf (same-answer value r r refl) ∙ sym (k′ .tables .valued .right r (omega arith)))
+      (λ p. k .tables .unused .values r p h ∙ sym (k′ .tables .unused .values r (omega arith) h))
+      (lt-or-ge r (rowCount m))
+
+  same-told : (j : ℕ) → j < 32 → toldAt m j ≡ toldAt m′ j
+  same-told j h =
+      let c = below 4 (omega arith) in
+      let e : standing (clockOf m) (runs (slotWords m j)) ≡ standing (clockOf m′) (runs (slotWords m′ j)) =
+      rw (same-clock m m′ (k .sound) (k′ .sound) same-book same-state, same-set m m′ (k .sound) (k′ .sound) same-book same-state j h) in
+      ⊎-elim
+      (λ p. k .tables .told .right j p ∙ e ∙ sym (k′ .tables .told .right j (omega arith)))
+      (λ p. k .tables .unused .told j p h ∙ sym (k′ .tables .unused .told j (omega arith) h))
+      (lt-or-ge j (temporals m))
+
+  same-property-row : (i : ℕ) → i < 32 → propertyRow m i ≡ propertyRow m′ i
+  same-property-row = same-property m m′ (k .sound) (k′ .sound) same-book same-state
+
+  same-early : (i : ℕ) → i < 32 → earlyAt m i ≡ earlyAt m′ i
+  same-early i h =
+      let a = below 5 (omega arith) in
+      let g = below 6 (omega arith) in
+      ⊎-elim
+      (λ p. k .tables .answered .early i p ∙ ap digitOf (same-answer early (propertyRow m i) (propertyRow m′ i) (same-property-row i h)) ∙ sym (k′ .tables .answered .early i (omega arith)))
+      (λ p. k .tables .unused .early i p h ∙ sym (k′ .tables .unused .early i (omega arith) h))
+      (lt-or-ge i (propertyCount m))
+
+  same-settled : (i : ℕ) → i < 32 → settledAt m i ≡ settledAt m′ i
+  same-settled i h =
+      let a = below 5 (omega arith) in
+      let g = below 6 (omega arith) in
+      ⊎-elim
+      (λ p. k .tables .answered .settled i p ∙ ap digitOf (same-answer settled (propertyRow m i) (propertyRow m′ i) (same-property-row i h)) ∙ sym (k′ .tables .answered .settled i (omega arith)))
+      (λ p. k .tables .unused .settled i p h ∙ sym (k′ .tables .unused .settled i (omega arith) h))
+      (lt-or-ge i (propertyCount m))
+
+  same-moves : (r : ℕ) → r < 128 → movesAt m r ≡ movesAt m′ r
+  same-moves r h =
+      let c = below 0 (omega arith) in
+      let e = same-rows m m′ (k .sound) (k′ .sound) same-book same-state in
+      ⊎-elim
+      (λ p. k .tables .moving .right r p ∙ ap (λ (b : Rows). bitOf (moves b r)) e ∙ sym (k′ .tables .moving .right r (omega arith)))
+      (λ p. k .tables .unused .moves r p h ∙ sym (k′ .tables .unused .moves r (omega arith) h))
+      (lt-or-ge r (rowCount m))
+
+  -- the word at a place of the part from a on
+  in-part : (a i : ℕ) → a ≤ i → getD m (a + (i - a)) 0 ≡ getD m′ (a + (i - a)) 0 → getD m i 0 ≡ getD m′ i 0
+  in-part a i h e = word-at m i (a + (i - a)) (omega arith) ∙ e ∙ word-at m′ (a + (i - a)) i (omega arith)
+
+  by-parts : (i : ℕ) → i < SIZE → getD m i 0 ≡ getD m′ i 0
+  by-parts i h =
+      ⊎-elim (below i) (λ p₁.
+      ⊎-elim (λ q. in-part VALUES i p₁ (same-value (i - VALUES) (omega arith))) (λ p₂.
+      ⊎-elim (λ q. in-part TOLD i p₂ (same-told (i - TOLD) (omega arith))) (λ p₃.
+      ⊎-elim (λ q. in-part EARLY i p₃ (same-early (i - EARLY) (omega arith))) (λ p₄.
+      ⊎-elim (λ q. in-part SETTLED i p₄ (same-settled (i - SETTLED) (omega arith))) (λ p₅. in-part MOVES i p₅ (same-moves (i - MOVES) (omega arith)))
+      (lt-or-ge i MOVES))
+      (lt-or-ge i SETTLED))
+      (lt-or-ge i EARLY))
+      (lt-or-ge i TOLD))
+      (lt-or-ge i VALUES)
+
   pub same-words : m ≡ m′
   same-words =
-      let l = long m k in
-      ext-getD 0 m m′ (l ∙ sym (long m′ k′)) (λ i h. by-parts i (omega arith))
+      let l = k .sound .book .long in
+      ext-getD 0 m m′ (l ∙ sym (k′ .sound .book .long)) (λ i h. by-parts i (omega arith))

@@ -11,9 +11,9 @@ use Rattle.numset.proofs.Laws.{good-canonical}
 use Rattle.pmtl.specs.Monitor.{setAt}
 use Rattle.lists.proofs.Listed.{listed-at, listed-out}
 use Rattle.memory.specs.Memory.{rowCount, temporals, kindAt, slotAt, ownerAt, slotWords, setOf, stateOf}
-use Rattle.memory.specs.Kept.{Kept}
+use Rattle.memory.specs.Kept.{Sound}
 
-module _ (m : List ℕ) (kept : Kept m) where
+module _ (m : List ℕ) (kept : Sound m) where
   -- a temporal row's
   pub owner-set : (j : ℕ) → j < temporals m → setAt (stateOf m) (ownerAt m j) ≡ runs (slotWords m j)
   unfolding stateOf setOf

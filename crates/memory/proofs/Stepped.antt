@@ -11,7 +11,7 @@ use Rattle.numbers.specs.Limits.{LAST-TIME}
 use Rattle.pmtl.specs.Book.{widthOf}
 use Rattle.memory.specs.Layout.{ROWS, ROW, OPERANDS, PROPERTIES, ATOMS, SIZE}
 use Rattle.memory.specs.Memory.{rowCount, begunWord, clockOf, widthWord, temporals, assumeCount, guaranteeCount, kindAt, argAt, lowerAt, upperAt, startAt, slotAt, operandsOf, ownerAt, slotWords, rowOf, rowsOf, bookOf}
-use Rattle.memory.specs.Kept.{RowKept, BookKept, startTo, slotTo, Tidy, Kept}
+use Rattle.memory.specs.Kept.{RowKept, BookKept, startTo, slotTo, Tidy, Sound}
 use Rattle.lists.proofs.Listed.{listed-agree}
 use Rattle.lists.proofs.Parts.{part-same}
 
@@ -28,7 +28,7 @@ pub record Stepped (m m′ : List ℕ) : Type 0 where
   pub atoms : (i : ℕ) → i < widthWord m → getD m′ (ATOMS + i) 0 ≤ 1
   pub sets : (j : ℕ) → j < temporals m → Good (slotWords m′ j)
 
-module _ (m m′ : List ℕ) (kept : Kept m) (step : Stepped m m′) where
+module _ (m m′ : List ℕ) (kept : Sound m) (step : Stepped m m′) where
   few : rowCount m ≤ 128
   few = kept .book .few
 
@@ -188,7 +188,7 @@ module _ (m m′ : List ℕ) (kept : Kept m) (step : Stepped m m′) where
   set-kept j h (inl p) = step .sets j p
   set-kept j h (inr p) = rw (step .sets-same j p h) (kept .sets j h)
 
-  pub kept-step : Kept m′
+  pub kept-step : Sound m′
   kept-step =
       record {
         book = book-kept;

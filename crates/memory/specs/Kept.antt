@@ -11,7 +11,8 @@ use Rattle.pmtl.specs.Answer.{bitOf}
 use Rattle.book.specs.Rows.{countOf, temporal, ATOM, HISTORICALLY, SINCE}
 use Rattle.book.specs.Judging.{formGood}
 use Rattle.memory.specs.Layout.{ROWS, ROW, OPERANDS, PROPERTIES, ATOMS, OWNERS, SET, SIZE}
-use Rattle.memory.specs.Memory.{rowCount, begunWord, clockOf, widthWord, temporals, assumeCount, guaranteeCount, kindAt, argAt, lowerAt, upperAt, startAt, slotAt, operandAt, ownerAt, slotWords, rowsOf}
+use Rattle.memory.specs.Memory.{rowCount, begunWord, clockOf, widthWord, temporals, assumeCount, guaranteeCount, kindAt, argAt, lowerAt, upperAt, startAt, slotAt, operandAt, ownerAt, atomAt, slotWords, rowsOf}
+use Rattle.memory.specs.Tables.{Tables}
 
 -- ---- a loaded book, as the loader leaves it: what reading it needs
 pub record RowKept (m : List ℕ) (r : ℕ) : Type 0 where
@@ -67,11 +68,16 @@ pub record Tidy (m : List ℕ) : Type 0 where
   pub owners-rest : (j : ℕ) → temporals m ≤ j → j < MOST-TEMPORALS → getD m (OWNERS + j) 0 ≡ 0
   pub sets-rest : (j : ℕ) → temporals m ≤ j → j < MOST-TEMPORALS → slotWords m j ≡ replicate SET 0
 
--- the memory came from calls made here
-pub record Kept (m : List ℕ) : Type 0 where
+-- the words before the tables: a book in order, and a state that it can have
+pub record Sound (m : List ℕ) : Type 0 where
   pub book : BookKept m
   pub tidy : Tidy m
   pub begun : begunWord m ≤ 1
   pub clock : clockOf m ≤ LAST-TIME
-  pub atoms : (i : ℕ) → i < widthWord m → getD m (ATOMS + i) 0 ≤ 1
+  pub atoms : (i : ℕ) → i < widthWord m → atomAt m i ≤ 1
   pub sets : (j : ℕ) → j < MOST-TEMPORALS → Good (slotWords m j)
+
+-- the memory came from calls made here: it is sound, and its tables say what the monitor that it holds answers
+pub record Kept (m : List ℕ) : Type 0 where
+  pub sound : Sound m
+  pub tables : Tables m

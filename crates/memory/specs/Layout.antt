@@ -61,6 +61,23 @@ OWNERS = ATOMS + MOST-ATOMS
 abbrev pub SETS : ℕ
 SETS = OWNERS + MOST-TEMPORALS
 
+-- the tables: each row's value, what was told of each set, and the digits of each property's early and settled answer
+abbrev pub VALUES : ℕ
+VALUES = SETS + SET * MOST-TEMPORALS
+
+abbrev pub TOLD : ℕ
+TOLD = VALUES + MOST-ROWS
+
+abbrev pub EARLY : ℕ
+EARLY = TOLD + MOST-TEMPORALS
+
+abbrev pub SETTLED : ℕ
+SETTLED = EARLY + MOST-PROPERTIES
+
+-- and of each row whether a time call can change its value
+abbrev pub MOVES : ℕ
+MOVES = SETTLED + MOST-PROPERTIES
+
 -- all words
 abbrev pub SIZE : ℕ
-SIZE = SETS + SET * MOST-TEMPORALS
+SIZE = MOVES + MOST-ROWS

@@ -11,7 +11,7 @@ use Rattle.pmtl.specs.Book.{Range, Row, Rows, Book}
 use Rattle.pmtl.specs.Monitor.{State}
 use Rattle.book.specs.Rows.{rowFrom, temporal}
 use Rattle.memory.specs.declared.RowWords.{RowWords}
-use Rattle.memory.specs.Layout.{ROW-COUNT, BEGUN, CLOCK, WIDTH, TEMPORALS, ASSUMES, GUARANTEES, ROWS, ROW, OPERANDS, PROPERTIES, ATOMS, OWNERS, SETS, SET}
+use Rattle.memory.specs.Layout.{ROW-COUNT, BEGUN, CLOCK, WIDTH, TEMPORALS, ASSUMES, GUARANTEES, ROWS, ROW, OPERANDS, PROPERTIES, ATOMS, OWNERS, SETS, SET, VALUES, TOLD, EARLY, SETTLED, MOVES}
 
 -- ---- words read off a memory
 abbrev pub rowCount : List ℕ → ℕ
@@ -71,6 +71,10 @@ operandsFrom m place left = take left (drop place (operandsOf m))
 abbrev pub rangeAt : List ℕ → ℕ → Range
 rangeAt m r = record { lower = lowerAt m r; upper = upperAt m r }
 
+-- the row that is property i
+abbrev pub propertyRow : List ℕ → ℕ → ℕ
+propertyRow m i = getD m (PROPERTIES + i) 0
+
 -- the atoms, a byte for each
 abbrev pub atomAt : List ℕ → ℕ → ℕ
 atomAt m i = getD m (ATOMS + i) 0
@@ -86,6 +90,23 @@ setStart j = SETS + SET * j
 
 abbrev pub slotWords : List ℕ → ℕ → List ℕ
 slotWords m j = part (setStart j) SET m
+
+-- ---- the tables: a row's value, what was told of a set, the digits of a property's early and settled answer
+abbrev pub valueAt : List ℕ → ℕ → ℕ
+valueAt m r = getD m (VALUES + r) 0
+
+abbrev pub toldAt : List ℕ → ℕ → ℕ
+toldAt m j = getD m (TOLD + j) 0
+
+abbrev pub earlyAt : List ℕ → ℕ → ℕ
+earlyAt m i = getD m (EARLY + i) 0
+
+abbrev pub settledAt : List ℕ → ℕ → ℕ
+settledAt m i = getD m (SETTLED + i) 0
+
+-- whether a time call can change a row's value
+abbrev pub movesAt : List ℕ → ℕ → ℕ
+movesAt m r = getD m (MOVES + r) 0
 
 -- ---- the monitor that a memory holds: its book
 unfoldable pub rowOf : List ℕ → ℕ → Row ℕ

@@ -2,10 +2,11 @@
 ghost use mathlib.Core.Path.{_≡_};
 ghost use Prim.Native.Nat.{_<_};
 ghost use lib.ListN.{getD};
-ghost use Rattle.numbers.specs.Limits.{MOST-ROWS, MOST-OPERANDS, MOST-TEMPORALS};
+ghost use Rattle.numbers.specs.Limits.{MOST-ROWS, MOST-OPERANDS, MOST-PROPERTIES, MOST-TEMPORALS};
 ghost use Rattle.memory.specs.Layout.{SIZE};
-ghost use Rattle.memory.specs.Memory.{begunWord, clockOf, widthWord, temporals, assumeCount, guaranteeCount, kindAt, argAt, lowerAt, upperAt, startAt, wordsAt, operandAt, ownerAt, atomsOf, slotWords};
-ghost use Rattle.memory.specs.Kept.{Kept};
+ghost use Rattle.memory.specs.Memory.{rowCount, begunWord, clockOf, widthWord, temporals, assumeCount, guaranteeCount, kindAt, argAt, lowerAt, upperAt, startAt, wordsAt, slotAt, operandAt, propertyRow, ownerAt, slotWords, valueAt, toldAt, earlyAt, settledAt, movesAt, isOne};
+ghost use Rattle.memory.specs.Kept.{BookKept};
+ghost use Rattle.memory.specs.Tables.{propertyCount};
 use numbers::MOST_ATOMS;
 use numbers::MOST_OPERANDS;
 use numbers::MOST_PROPERTIES;
@@ -59,8 +60,28 @@ pub const OWNERS: usize = ATOMS + MOST_ATOMS;
 
 pub const SETS: usize = OWNERS + MOST_TEMPORALS;
 
+// The tables, which say at one look what the rest of the memory answers: each row's value, what was told of each set, and the digits
+// of each property's early and settled answer.
+pub const VALUES: usize = SETS + SET * MOST_TEMPORALS;
+
+pub const TOLD: usize = VALUES + MOST_ROWS;
+
+pub const EARLY: usize = TOLD + MOST_TEMPORALS;
+
+pub const SETTLED: usize = EARLY + MOST_PROPERTIES;
+
+// And of each row whether a time call can change its value.
+pub const MOVES: usize = SETTLED + MOST_PROPERTIES;
+
+// What is told of a set: that it has every instant from the clock on, that it has none of them, or neither.
+pub const COVERS: u64 = 1;
+
+pub const GONE: u64 = 2;
+
+pub const NEITHER: u64 = 0;
+
 // All words.
-pub const SIZE: usize = SETS + SET * MOST_TEMPORALS;
+pub const SIZE: usize = MOVES + MOST_ROWS;
 
 // The word at a place.
 pub fn word(monitor: &[u64; SIZE], at: usize) -> u64
@@ -68,6 +89,13 @@ pub fn word(monitor: &[u64; SIZE], at: usize) -> u64
     ensures { λ r. ⌜ r ≡ getD (now (monitor .entry)) at 0 ⌝ }
 {
     monitor[at]
+}
+
+// How many rows the book has.
+pub fn row_count(monitor: &[u64; SIZE]) -> usize
+    ensures { λ r. ⌜ r ≡ rowCount (now (monitor .entry)) ⌝ }
+{
+    monitor[ROW_COUNT] as usize
 }
 
 // 1 once a call was accepted.
@@ -112,6 +140,14 @@ pub fn guarantee_count(monitor: &[u64; SIZE]) -> usize
     monitor[GUARANTEES] as usize
 }
 
+// How many properties there are.
+pub fn property_count(monitor: &[u64; SIZE]) -> usize
+    requires { ⌜ BookKept (now monitor) ⌝ }
+    ensures { λ r. ⌜ r ≡ propertyCount (now (monitor .entry)) ⌝ }
+{
+    assume_count(monitor) + guarantee_count(monitor)
+}
+
 // The words of a row.
 pub fn kind_at(monitor: &[u64; SIZE], row: usize) -> u64
     requires { ⌜ row < MOST-ROWS ⌝ }
@@ -148,6 +184,13 @@ pub fn start_at(monitor: &[u64; SIZE], row: usize) -> usize
     monitor[ROWS + ROW * row + START] as usize
 }
 
+pub fn slot_at(monitor: &[u64; SIZE], row: usize) -> usize
+    requires { ⌜ row < MOST-ROWS ⌝ }
+    ensures { λ r. ⌜ r ≡ slotAt (now (monitor .entry)) row ⌝ }
+{
+    monitor[ROWS + ROW * row + SLOT] as usize
+}
+
 // What a row's answer is made from, besides its operands' answers and its set.
 pub struct RowWords {
     pub kind: u64,
@@ -177,6 +220,14 @@ pub fn operand_at(monitor: &[u64; SIZE], place: usize) -> usize
     monitor[OPERANDS + place] as usize
 }
 
+// The row that is a property.
+pub fn property_row(monitor: &[u64; SIZE], i: usize) -> usize
+    requires { ⌜ i < MOST-PROPERTIES ⌝ }
+    ensures { λ r. ⌜ r ≡ propertyRow (now (monitor .entry)) i ⌝ }
+{
+    monitor[PROPERTIES + i] as usize
+}
+
 // The row that a set belongs to.
 pub fn owner_at(monitor: &[u64; SIZE], slot: usize) -> usize
     requires { ⌜ slot < MOST-TEMPORALS ⌝ }
@@ -196,17 +247,50 @@ pub fn set_at(monitor: &[u64; SIZE], slot: usize) -> &[u64]
     &words[from..to]
 }
 
-// The atoms, a byte for each.
-pub fn read_atoms(monitor: &[u64; SIZE]) -> [u8; MOST_ATOMS]
-    requires { ⌜ Kept (now monitor) ⌝ }
-    ensures { λ r. ⌜ r ≡ atomsOf (now (monitor .entry)) ⌝ }
+// A row's value, by the table.
+pub fn value_at(monitor: &[u64; SIZE], row: usize) -> u64
+    requires { ⌜ row < MOST-ROWS ⌝ }
+    ensures { λ r. ⌜ r ≡ valueAt (now (monitor .entry)) row ⌝ }
 {
-    let count = width(monitor);
-    let mut atoms = [0u8; MOST_ATOMS];
-    let mut i = 0;
-    while i < count {
-        atoms[i] = word(monitor, ATOMS + i) as u8;
-        i += 1;
-    }
-    atoms
+    monitor[VALUES + row]
+}
+
+// Whether a row holds, by the table.
+pub fn holds(monitor: &[u64; SIZE], row: usize) -> bool
+    requires { ⌜ row < MOST-ROWS ⌝ }
+    ensures { λ r. ⌜ r ≡ isOne (valueAt (now (monitor .entry)) row) ⌝ }
+{
+    monitor[VALUES + row] == 1
+}
+
+// Whether a time call can change a row's value.
+pub fn moves_at(monitor: &[u64; SIZE], row: usize) -> bool
+    requires { ⌜ row < MOST-ROWS ⌝ }
+    ensures { λ r. ⌜ r ≡ isOne (movesAt (now (monitor .entry)) row) ⌝ }
+{
+    monitor[MOVES + row] == 1
+}
+
+// What was told of a set.
+pub fn told_at(monitor: &[u64; SIZE], slot: usize) -> u64
+    requires { ⌜ slot < MOST-TEMPORALS ⌝ }
+    ensures { λ r. ⌜ r ≡ toldAt (now (monitor .entry)) slot ⌝ }
+{
+    monitor[TOLD + slot]
+}
+
+// The digit of a property's early answer.
+pub fn early_at(monitor: &[u64; SIZE], i: usize) -> u64
+    requires { ⌜ i < MOST-PROPERTIES ⌝ }
+    ensures { λ r. ⌜ r ≡ earlyAt (now (monitor .entry)) i ⌝ }
+{
+    monitor[EARLY + i]
+}
+
+// The digit of its settled answer.
+pub fn settled_at(monitor: &[u64; SIZE], i: usize) -> u64
+    requires { ⌜ i < MOST-PROPERTIES ⌝ }
+    ensures { λ r. ⌜ r ≡ settledAt (now (monitor .entry)) i ⌝ }
+{
+    monitor[SETTLED + i]
 }

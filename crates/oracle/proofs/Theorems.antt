@@ -50,7 +50,7 @@ made-number {k = k} made c = c .number ∙ ap₂ (λ (b : Book) (st : State). ca
 -- operands are below their owners
 made-ordered : {words : List ℕ} {ks : List Call} {m : List ℕ} → Made words ks m → Ordered (bookSaid words .rows)
 unfolding bookOf
-made-ordered {m = m} made = rw (sym (ap (λ (b : Book). b .rows) (made-book made))) (kept-ordered (made-kept made .book))
+made-ordered {m = m} made = rw (sym (ap (λ (b : Book). b .rows) (made-book made))) (kept-ordered (made-kept made .sound .book))
 
 -- the answers of property i are the definitions'
 pub made-verdict : {words : List ℕ} {ks : List Call} {m : List ℕ} → Made words ks m → (i : ℕ) → verdictOf m i ≡ verdictIn (bookSaid words) (after (bookSaid words .rows) ks) i

@@ -45,14 +45,14 @@ go-start input from count m out start k =
     record { low = omega arith; size = refl; kept = k; book = refl; on = refl; owed = rw e }
 
 module _ {input : List ℕ} {from count : ℕ} {m₀ out₀ : List ℕ} {start : ℕ} {m out : List ℕ} {at cursor done : ℕ} (g : Going input from count m₀ out₀ start m out at cursor done) where
-  abbrev Next : List ℕ → List ℕ → Turn → Type 0
-  Next m′ here t = Turned input (supplyFrom input cursor .ending) (callFrom (supplyFrom input cursor .ending) (supplyFrom input cursor .words)) m m′ here t
+  abbrev Next : List ℕ → Turn → Type 0
+  Next m′ t = Turned input (supplyFrom input cursor .ending) (callFrom (supplyFrom input cursor .ending) (supplyFrom input cursor .words)) m m′ t
 
-  pub go-called : (m′ here : List ℕ) {t : Turn} {r next : ℕ} → Next m′ here t → t ≡ Made r next → CallMade input (supplyFrom input cursor .ending) (callFrom (supplyFrom input cursor .ending) (supplyFrom input cursor .words)) m m′ here r next
+  pub go-called : (m′ : List ℕ) {t : Turn} {r next : ℕ} → Next m′ t → t ≡ Made r next → CallMade input (supplyFrom input cursor .ending) (callFrom (supplyFrom input cursor .ending) (supplyFrom input cursor .words)) m m′ r next
   unfolding Turned
-  go-called m′ here k e = rw e at k
+  go-called m′ k e = rw e at k
 
-  module _ {m′ here : List ℕ} {r next : ℕ} (c : CallMade input (supplyFrom input cursor .ending) (callFrom (supplyFrom input cursor .ending) (supplyFrom input cursor .words)) m m′ here r next) where
+  module _ {m′ : List ℕ} {r next : ℕ} (c : CallMade input (supplyFrom input cursor .ending) (callFrom (supplyFrom input cursor .ending) (supplyFrom input cursor .words)) m m′ r next) where
     made : call (bookOf m₀ .rows) (stateOf m) (c .what) ≡ record { number = r; state = stateOf m′ }
     made = rw (← g .book) (outcome-is (c .called .number) (c .called .state))
 
@@ -80,14 +80,14 @@ module _ {input : List ℕ} {from count : ℕ} {m₀ out₀ : List ℕ} {start :
   unfolding written line lastLine linesFrom linesOf callsFrom orStop
   halt {n} k e f = let a = rw (g .on) at e in rw (f, a) (append-nil (stopLine n))
 
-  go-refused : (m′ here : List ℕ) {t : Turn} {n : ℕ} → Next m′ here t → t ≡ Stopped n → callFrom (supplyFrom input cursor .ending) (supplyFrom input cursor .words) ≡ refused n
+  go-refused : (m′ : List ℕ) {t : Turn} {n : ℕ} → Next m′ t → t ≡ Stopped n → callFrom (supplyFrom input cursor .ending) (supplyFrom input cursor .words) ≡ refused n
   unfolding Turned
-  go-refused m′ here k e = rw e at k
+  go-refused m′ k e = rw e at k
 
-  pub go-stop : (m′ here : List ℕ) {t : Turn} {h : Handed} {n k : ℕ} → Next m′ here t → t ≡ Stopped n → done < count → h ≡ finish out at (stopLine k) → k ≡ n → h ≡ finish out₀ start (written (linesFrom (bookOf m₀) 0 (stateOf m₀) (callsFrom (supplyFrom input from .ending) count (supplyFrom input from .words))))
-  go-stop m′ here {n = n} c e l p f =
+  pub go-stop : (m′ : List ℕ) {t : Turn} {h : Handed} {n k : ℕ} → Next m′ t → t ≡ Stopped n → done < count → h ≡ finish out at (stopLine k) → k ≡ n → h ≡ finish out₀ start (written (linesFrom (bookOf m₀) 0 (stateOf m₀) (callsFrom (supplyFrom input from .ending) count (supplyFrom input from .words))))
+  go-stop m′ {n = n} c e l p f =
       p ∙ ap (λ (x : ℕ). finish out at (stopLine x)) f
-      ∙ sym (ap (finish out at) (halt (count - (done + 1)) (go-refused m′ here c e) (omega arith))) ∙ g .owed
+      ∙ sym (ap (finish out at) (halt (count - (done + 1)) (go-refused m′ c e) (omega arith))) ∙ g .owed
 
   none : count - done ≡ zero → written (linesFrom (bookOf m₀) done (stateOf m) (callsFrom (supplyFrom input from .ending) (count - done) (supplyFrom input cursor .words))) ≡ lastLine (endingOf (supplyFrom input from .ending) (supplyFrom input cursor .words))
   unfolding written line linesFrom linesOf callsFrom

@@ -3,4 +3,3 @@ pub mod Lasting
 pub mod Turns
 pub mod Going
 pub mod Examples
-pub mod Saying

@@ -11,7 +11,6 @@ use Rattle.text.proofs.Supplies.{word, refused as ended}
 use Rattle.pmtl.specs.Calls.{Call}
 use Rattle.pmtl.specs.Calls.Call.{time, state}
 use Rattle.book.specs.Reading.{Read, refused, next as andNext}
-use Rattle.row_answers.specs.Facts.{Here}
 use Rattle.calls.specs.Called.{Called}
 use Rattle.text_reader.specs.declared.Part as reader
 use Rattle.text_reader.specs.Reads.{StateTook, StateRead}
@@ -35,15 +34,14 @@ module _ (input : List ℕ) (at : ℕ) where
   unfolding timeFrom
   no-time e f = rw (ended input at e, f)
 
-  pub timed : {t next : ℕ} {m m′ here : List ℕ} {r : ℕ} → nextWord input at ≡ Word t next → Called (time t) m m′ r × (r ≡ 0 → Here m′ here) → CallMade input (supplyFrom input at .ending) (timeFrom (supplyFrom input at .ending) (supplyFrom input at .words)) m m′ here r next
+  pub timed : {t next : ℕ} {m m′ : List ℕ} {r : ℕ} → nextWord input at ≡ Word t next → Called (time t) m m′ r → CallMade input (supplyFrom input at .ending) (timeFrom (supplyFrom input at .ending) (supplyFrom input at .words)) m m′ r next
   unfolding timeFrom
   timed {t} e c =
       record {
         what = time t;
         read = rw (word input at e .gave);
         ending-on = rw (word input at e .gave);
-        called = c .0;
-        told = c .1;
+        called = c;
       }
 
   -- ---- state calls
@@ -55,15 +53,14 @@ module _ (input : List ℕ) (at : ℕ) where
   unfolding StateRead
   state-there m′ k e = rw e at k
 
-  pub stated : {bytes : List ℕ} {width next : ℕ} {m m′ here : List ℕ} {r : ℕ} → StateTook input at bytes width next → Called (state (take width bytes)) m m′ r × (r ≡ 0 → Here m′ here) → CallMade input (supplyFrom input at .ending) (stateFrom (supplyFrom input at .ending) (supplyFrom input at .words)) m m′ here r next
+  pub stated : {bytes : List ℕ} {width next : ℕ} {m m′ : List ℕ} {r : ℕ} → StateTook input at bytes width next → Called (state (take width bytes)) m m′ r → CallMade input (supplyFrom input at .ending) (stateFrom (supplyFrom input at .ending) (supplyFrom input at .words)) m m′ r next
   unfolding stateFrom andNext
   stated k c =
       record {
         what = state (k .words);
         read = rw (k .read);
         ending-on = k .ending;
-        called = as-words (rw (k .stand) at (c .0));
-        told = c .1;
+        called = as-words (rw (k .stand) at c);
       }
 
   -- ---- calls
@@ -87,12 +84,12 @@ module _ (input : List ℕ) (at : ℕ) where
     unfolding callFrom
     other-kind h k = rw (word input at e .gave, ne-eqb kind 0 h, ne-eqb kind 1 k)
 
-    turned : {asked asked′ : Read Call} (m m′ here : List ℕ) (t : Turn) → asked ≡ asked′ → Turned input (supplyFrom input from .ending) asked m m′ here t → Turned input (supplyFrom input at .ending) asked′ m m′ here t
+    turned : {asked asked′ : Read Call} (m m′ : List ℕ) (t : Turn) → asked ≡ asked′ → Turned input (supplyFrom input from .ending) asked m m′ t → Turned input (supplyFrom input at .ending) asked′ m m′ t
     unfolding Turned
-    turned m m′ here t f k = rw (← f, ← ending-kept) k
+    turned m m′ t f k = rw (← f, ← ending-kept) k
 
-    pub turned-time : (m m′ here : List ℕ) (t : Turn) → kind ≡ 0 → Turned input (supplyFrom input from .ending) (timeFrom (supplyFrom input from .ending) (supplyFrom input from .words)) m m′ here t → Turned input (supplyFrom input at .ending) (callFrom (supplyFrom input at .ending) (supplyFrom input at .words)) m m′ here t
-    turned-time m m′ here t h k = turned m m′ here t (is-time h) k
+    pub turned-time : (m m′ : List ℕ) (t : Turn) → kind ≡ 0 → Turned input (supplyFrom input from .ending) (timeFrom (supplyFrom input from .ending) (supplyFrom input from .words)) m m′ t → Turned input (supplyFrom input at .ending) (callFrom (supplyFrom input at .ending) (supplyFrom input at .words)) m m′ t
+    turned-time m m′ t h k = turned m m′ t (is-time h) k
 
-    pub turned-state : (m m′ here : List ℕ) (t : Turn) → kind ≡ 1 → Turned input (supplyFrom input from .ending) (stateFrom (supplyFrom input from .ending) (supplyFrom input from .words)) m m′ here t → Turned input (supplyFrom input at .ending) (callFrom (supplyFrom input at .ending) (supplyFrom input at .words)) m m′ here t
-    turned-state m m′ here t h k = turned m m′ here t (is-state h) k
+    pub turned-state : (m m′ : List ℕ) (t : Turn) → kind ≡ 1 → Turned input (supplyFrom input from .ending) (stateFrom (supplyFrom input from .ending) (supplyFrom input from .words)) m m′ t → Turned input (supplyFrom input at .ending) (callFrom (supplyFrom input at .ending) (supplyFrom input at .words)) m m′ t
+    turned-state m m′ t h k = turned m m′ t (is-state h) k

@@ -1,5 +1,4 @@
 // Text in, report out.
-mod digits;
 mod lines;
 mod text_calls;
 
@@ -17,9 +16,8 @@ use memory::SIZE;
 use numbers::ACCEPTED;
 use numbers::LONGEST_INPUT;
 use numbers::MOST_ATOMS;
-use numbers::MOST_PROPERTIES;
-use numbers::MOST_ROWS;
 use numbers::PAST_LIMIT;
+use text::MOST_DIGITS;
 use text::Read;
 use text_calls::Turn;
 use text_reader::Part;
@@ -36,41 +34,19 @@ fn call_lines(
     requires { ⌜ Kept (now monitor) ⌝ }
     ensures { λ r. ⌜ handed r (now (out .exit)) ≡ finish (now (out .entry)) start (written (linesFrom (bookOf (now (monitor .entry))) 0 (stateOf (now (monitor .entry))) (callsFrom (supplyFrom (now (input .entry)) from .ending) count (supplyFrom (now (input .entry)) from .words)))) ⌝ }
 {
-    let properties = property_answers::property_count(monitor);
     let mut bytes = [0u8; MOST_ATOMS];
-    let mut here = [0u8; MOST_ROWS];
-    let mut told = [0u8; MOST_ROWS];
-    let mut values = [0u8; MOST_PROPERTIES];
-    let mut early = [0u8; MOST_PROPERTIES];
-    let mut settled = [0u8; MOST_PROPERTIES];
-    property_answers::ask(monitor, &told, &mut early, &mut settled);
+    let mut digits = [b'0'; MOST_DIGITS];
+    let mut first = MOST_DIGITS - 1;
     let mut at = start;
     let mut cursor = from;
     let mut done: u64 = 0;
     while done < count {
-        let t = text_calls::call(input, cursor, &mut bytes, monitor, &mut here);
+        let t = text_calls::call(input, cursor, &mut bytes, monitor);
         let Turn::Made(refusal, next) = t else {
             return lines::stopped(out, at, text_calls::turn_number(t));
         };
-        digits::renew(
-            refusal,
-            monitor,
-            &here,
-            &mut told,
-            &mut values,
-            &mut early,
-            &mut settled,
-        );
-        at = lines::put_call(
-            out,
-            at,
-            done + 1,
-            refusal,
-            properties,
-            &values,
-            &early,
-            &settled,
-        );
+        first = text::count_up(done, &mut digits, first);
+        at = lines::put_call(out, at, &digits, first, refusal, monitor);
         cursor = next;
         done += 1;
     }

@@ -1,17 +1,20 @@
 // The lines of a report.
 ghost use mathlib.Core.Path.{_≡_};
 ghost use mathlib.Core.List.{_∷_, _++_};
-ghost use Prim.Native.Nat.{_+_, _≤_};
+ghost use Prim.Native.Nat.{_+_, _≤_, _<_};
+ghost use lib.ListN.{length, drop};
 ghost use Rattle.text.specs.Words.{space, digit0, supplyFrom};
 ghost use Rattle.text.specs.Decimals.{decimal};
 ghost use Rattle.buffer_writer.specs.Buffer.{handed};
 ghost use Rattle.buffer_writer.specs.Finish.{finish, Wrote};
 ghost use Rattle.report.specs.Lines.{endingOf};
 ghost use Rattle.report.specs.Report.{ended as Report·ended, bookLine, stopLine, endLine, lastLine};
-ghost use Rattle.report.specs.Private.{digitWord, digitWords, digitLine, Digits};
+ghost use Rattle.report.specs.Private.{wordAt, digitWords, digitLine};
+ghost use Rattle.memory.specs.Tables.{propertyCount};
+ghost use Rattle.memory.specs.Kept.{Kept};
+use memory::SIZE;
 use numbers::ACCEPTED;
 use numbers::BAD_WORD;
-use numbers::MOST_PROPERTIES;
 use numbers::WRONG_LENGTH;
 use text::Read;
 
@@ -70,69 +73,69 @@ pub fn last(input: &[u8], cursor: usize, out: &mut [u8], at: usize) -> u64
 }
 
 // The byte of a digit.
-fn glyph(d: u8) -> u8
-    requires { ⌜ d ≤ 2 ⌝ }
-    ensures { λ r. ⌜ r ≡ digit0 + d ⌝ }
+fn glyph(digit: u64) -> u8
+    requires { ⌜ digit ≤ 2 ⌝ }
+    ensures { λ r. ⌜ r ≡ digit0 + digit ⌝ }
 {
-    ZERO + d
+    ZERO + digit as u8
 }
 
-// A property's word, of its three digits.
-fn put_word(out: &mut [u8], at: usize, value: u8, early: u8, settled: u8) -> usize
-    requires { ⌜ (value ≤ 2) × (early ≤ 2) × (settled ≤ 2) ⌝ }
-    ensures { λ r. ⌜ Wrote (now (out .entry)) at (digitWord value early settled) (now (out .exit)) r ⌝ }
+// A property's word, of the three digits that the tables hold.
+fn put_word(out: &mut [u8], at: usize, monitor: &[u64; SIZE], i: usize) -> usize
+    requires { ⌜ Kept (now monitor) ⌝ }
+    requires { ⌜ i < propertyCount (now monitor) ⌝ }
+    ensures { λ r. ⌜ Wrote (now (out .entry)) at (wordAt (now (monitor .entry)) i) (now (out .exit)) r ⌝ }
 {
-    let word = [b' ', glyph(value), glyph(early), glyph(settled)];
+    let value = glyph(memory::value_at(monitor, memory::property_row(monitor, i)));
+    let early = glyph(memory::early_at(monitor, i));
+    let settled = glyph(memory::settled_at(monitor, i));
+    let word = [b' ', value, early, settled];
     buffer_writer::put_bytes(out, at, &word)
 }
 
-// The words of the first `count` properties.
-fn put_words(
-    out: &mut [u8],
-    at: usize,
-    count: usize,
-    values: &[u8; MOST_PROPERTIES],
-    early: &[u8; MOST_PROPERTIES],
-    settled: &[u8; MOST_PROPERTIES],
-) -> usize
-    requires { ⌜ Digits count (now values) (now early) (now settled) ⌝ }
-    ensures { λ r. ⌜ Wrote (now (out .entry)) at (digitWords (now (values .entry)) (now (early .entry)) (now (settled .entry)) count) (now (out .exit)) r ⌝ }
+// The words of the properties.
+fn put_words(out: &mut [u8], at: usize, monitor: &[u64; SIZE]) -> usize
+    requires { ⌜ Kept (now monitor) ⌝ }
+    ensures { λ r. ⌜ Wrote (now (out .entry)) at (digitWords (now (monitor .entry)) (propertyCount (now (monitor .entry)))) (now (out .exit)) r ⌝ }
 {
+    let count = memory::property_count(monitor);
     let mut p = at;
     let mut i = 0;
     while i < count {
-        p = put_word(out, p, values[i], early[i], settled[i]);
+        p = put_word(out, p, monitor, i);
         i += 1;
     }
     p
 }
 
-// A call's number and its refusal.
-fn put_numbers(out: &mut [u8], at: usize, i: u64, refusal: u64) -> usize
-    ensures { λ r. ⌜ Wrote (now (out .entry)) at (decimal i ++ space ∷ decimal refusal) (now (out .exit)) r ⌝ }
+// A call's number, of the digits from `first` on, and its refusal: most often 0, which is put at once.
+fn put_numbers(out: &mut [u8], at: usize, digits: &[u8], first: usize, refusal: u64) -> usize
+    requires { ⌜ first ≤ length (now digits) ⌝ }
+    ensures { λ r. ⌜ Wrote (now (out .entry)) at (drop first (now (digits .entry)) ++ space ∷ decimal refusal) (now (out .exit)) r ⌝ }
 {
-    let a = buffer_writer::put_number(out, at, i);
+    let a = buffer_writer::put_bytes(out, at, &digits[first..]);
+    if refusal == ACCEPTED {
+        return buffer_writer::put_bytes(out, a, b" 0");
+    }
     let b = buffer_writer::put_bytes(out, a, b" ");
     buffer_writer::put_number(out, b, refusal)
 }
 
-// A call's line. That of an accepted call has the words of `count` properties.
+// A call's line, its number's digits from `first` on. That of an accepted call has the words of the properties.
 pub fn put_call(
     out: &mut [u8],
     at: usize,
-    i: u64,
+    digits: &[u8],
+    first: usize,
     refusal: u64,
-    count: usize,
-    values: &[u8; MOST_PROPERTIES],
-    early: &[u8; MOST_PROPERTIES],
-    settled: &[u8; MOST_PROPERTIES],
+    monitor: &[u64; SIZE],
 ) -> usize
-    requires { ⌜ (refusal ≡ 0 → Digits count (now values) (now early) (now settled)) ⌝ }
-    ensures { λ r. ⌜ Wrote (now (out .entry)) at (digitLine i refusal (digitWords (now (values .entry)) (now (early .entry)) (now (settled .entry)) count)) (now (out .exit)) r ⌝ }
+    requires { ⌜ Kept (now monitor) × (first ≤ length (now digits)) ⌝ }
+    ensures { λ r. ⌜ Wrote (now (out .entry)) at (digitLine (drop first (now (digits .entry))) refusal (digitWords (now (monitor .entry)) (propertyCount (now (monitor .entry))))) (now (out .exit)) r ⌝ }
 {
-    let a = put_numbers(out, at, i, refusal);
+    let a = put_numbers(out, at, digits, first, refusal);
     if refusal == ACCEPTED {
-        let b = put_words(out, a, count, values, early, settled);
+        let b = put_words(out, a, monitor);
         return buffer_writer::put_bytes(out, b, b"\n");
     }
     buffer_writer::put_bytes(out, a, b"\n")

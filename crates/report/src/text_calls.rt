@@ -5,14 +5,12 @@ ghost use lib.ListN.{length, take};
 ghost use Rattle.text.specs.Words.{supplyFrom};
 ghost use Rattle.pmtl.specs.Calls.{Call};
 ghost use Rattle.memory.specs.Kept.{Kept};
-ghost use Rattle.row_answers.specs.Facts.{Here};
 ghost use Rattle.calls.specs.Called.{Called};
 ghost use Rattle.report.specs.Lines.{timeFrom, stateFrom, callFrom};
 ghost use Rattle.report.specs.Private.{turnNumber, Turned};
 use memory::SIZE;
 use numbers::BAD_WORD;
 use numbers::MOST_ATOMS;
-use numbers::MOST_ROWS;
 use text::Read;
 use text_reader::Part;
 
@@ -37,28 +35,23 @@ pub fn turn_number(t: Turn) -> u64
     }
 }
 
-fn time_call(input: &[u8], at: usize, monitor: &mut [u64; SIZE], here: &mut [u8; MOST_ROWS]) -> Turn
+fn time_call(input: &[u8], at: usize, monitor: &mut [u64; SIZE]) -> Turn
     requires { ⌜ Kept (now monitor) ⌝ }
-    ensures { λ t. ⌜ Turned (now (input .entry)) (supplyFrom (now (input .entry)) at .ending) (timeFrom (supplyFrom (now (input .entry)) at .ending) (supplyFrom (now (input .entry)) at .words)) (now (monitor .entry)) (now (monitor .exit)) (now (here .exit)) t ⌝ }
+    ensures { λ t. ⌜ Turned (now (input .entry)) (supplyFrom (now (input .entry)) at .ending) (timeFrom (supplyFrom (now (input .entry)) at .ending) (supplyFrom (now (input .entry)) at .words)) (now (monitor .entry)) (now (monitor .exit)) t ⌝ }
 {
     let r = text::next_word(input, at);
     let Read::Word(time, next) = r else {
         return Turn::Stopped(text_reader::number_of(r));
     };
-    Turn::Made(calls::update_time_here(monitor, time, here), next)
+    Turn::Made(calls::update_time(monitor, time), next)
 }
 
 // A state call of the first `width` bytes.
-fn state_made(
-    monitor: &mut [u64; SIZE],
-    bytes: &[u8],
-    width: usize,
-    here: &mut [u8; MOST_ROWS],
-) -> u64
+fn state_made(monitor: &mut [u64; SIZE], bytes: &[u8], width: usize) -> u64
     requires { ⌜ Kept (now monitor) × (width ≤ length (now bytes)) ⌝ }
-    ensures { λ r. ⌜ Called (Call.state (take width (now (bytes .entry)))) (now (monitor .entry)) (now (monitor .exit)) r × (r ≡ 0 → Here (now (monitor .exit)) (now (here .exit))) ⌝ }
+    ensures { λ r. ⌜ Called (Call.state (take width (now (bytes .entry)))) (now (monitor .entry)) (now (monitor .exit)) r ⌝ }
 {
-    calls::update_state_here(monitor, &bytes[..width], here)
+    calls::update_state(monitor, &bytes[..width])
 }
 
 fn state_call(
@@ -66,38 +59,36 @@ fn state_call(
     at: usize,
     bytes: &mut [u8; MOST_ATOMS],
     monitor: &mut [u64; SIZE],
-    here: &mut [u8; MOST_ROWS],
 ) -> Turn
     requires { ⌜ Kept (now monitor) ⌝ }
-    ensures { λ t. ⌜ Turned (now (input .entry)) (supplyFrom (now (input .entry)) at .ending) (stateFrom (supplyFrom (now (input .entry)) at .ending) (supplyFrom (now (input .entry)) at .words)) (now (monitor .entry)) (now (monitor .exit)) (now (here .exit)) t ⌝ }
+    ensures { λ t. ⌜ Turned (now (input .entry)) (supplyFrom (now (input .entry)) at .ending) (stateFrom (supplyFrom (now (input .entry)) at .ending) (supplyFrom (now (input .entry)) at .words)) (now (monitor .entry)) (now (monitor .exit)) t ⌝ }
 {
     let p = text_reader::state(input, at, bytes);
     let Part::Words(width, next) = p else {
         return Turn::Stopped(text_reader::part_number(p));
     };
-    Turn::Made(state_made(monitor, bytes, width, here), next)
+    Turn::Made(state_made(monitor, bytes, width), next)
 }
 
-// The next call. `bytes` is room for a state, whatever stands there. Of a call that is accepted, `here` then says which sets contain the clock.
+// The next call. `bytes` is room for a state, whatever stands there.
 pub fn call(
     input: &[u8],
     at: usize,
     bytes: &mut [u8; MOST_ATOMS],
     monitor: &mut [u64; SIZE],
-    here: &mut [u8; MOST_ROWS],
 ) -> Turn
     requires { ⌜ Kept (now monitor) ⌝ }
-    ensures { λ t. ⌜ Turned (now (input .entry)) (supplyFrom (now (input .entry)) at .ending) (callFrom (supplyFrom (now (input .entry)) at .ending) (supplyFrom (now (input .entry)) at .words)) (now (monitor .entry)) (now (monitor .exit)) (now (here .exit)) t ⌝ }
+    ensures { λ t. ⌜ Turned (now (input .entry)) (supplyFrom (now (input .entry)) at .ending) (callFrom (supplyFrom (now (input .entry)) at .ending) (supplyFrom (now (input .entry)) at .words)) (now (monitor .entry)) (now (monitor .exit)) t ⌝ }
 {
     let r = text::next_short(input, at);
     let Read::Word(kind, next) = r else {
         return Turn::Stopped(text_reader::number_of(r));
     };
     if kind == TIME {
-        return time_call(input, next, monitor, here);
+        return time_call(input, next, monitor);
     }
     if kind == STATE {
-        return state_call(input, next, bytes, monitor, here);
+        return state_call(input, next, bytes, monitor);
     }
     Turn::Stopped(BAD_WORD)
 }

@@ -13,10 +13,10 @@ use Rattle.pmtl.specs.Early.{fromNow}
 use Rattle.pmtl.proofs.Table.{answer-in}
 use Rattle.memory.specs.declared.RowWords.{RowWords}
 use Rattle.memory.specs.Layout.{OPERANDS}
-use Rattle.memory.specs.Memory.{rowCount, argAt, lowerAt, upperAt, wordsAt, operandAt, operandsOf, rangeAt, rowsOf}
+use Rattle.memory.specs.Memory.{rowCount, widthWord, kindAt, lowerAt, upperAt, slotAt, wordsAt, operandAt, operandsOf, rangeAt, rowsOf}
 use Rattle.book.specs.Rows.{rowFrom, countOf}
 use Rattle.memory.specs.Kept.{BookKept, Span}
-use Rattle.memory.proofs.Rows.{Read, rows-length, row-read, span-read, first-is, second-is, first-below, span-rest, kept-ordered}
+use Rattle.memory.proofs.Rows.{Read, rows-length, row-read, span-read, first-is, second-is, first-below, span-rest, kept-ordered, below-128}
 
 -- ---- a row's answer from its words, by any rule
 module _ {A : Type 0} (none : A) (rule : ℕ → Row A → A) {m : List ℕ} {r kind arg start : ℕ} (e : Read m r kind arg start) where
@@ -119,10 +119,11 @@ pub past-seven : {m : List ℕ} {r kind arg start : ℕ} → Read m r kind arg s
 past-seven {m} {r} {kind} e n = once-or-since kind (rw (e .kind-is) (e .kept .rows r (e .inside) .kind)) n
 
 -- an atom's number is below the width
+pub atom-named : {m : List ℕ} {r kind arg start : ℕ} → Read m r kind arg start → kind ≡ 2 → arg < widthWord m
+atom-named {m} {r} e ek = rw (e .arg-is) (e .kept .rows r (e .inside) .atoms (sym (e .kind-is) ∙ ek))
+
 pub atom-as : {m : List ℕ} {r kind arg start : ℕ} → Read m r kind arg start → kind ≡ 2 → arg < 256
-atom-as {m} {r} e ek =
-    let below : argAt m r < _ = e .kept .rows r (e .inside) .atoms (sym (e .kind-is) ∙ ek) in
-    omega (arith, e .arg-is, e .kept .narrow)
+atom-as e ek = omega (arith, atom-named e ek, e .kept .narrow)
 
 pub some-left : {n : ℕ} → (n ≡ 0 → ⊥) → 0 < n
 some-left h = omega arith
@@ -136,3 +137,15 @@ first-inside e ek h = omega (arith, span-as e ek .inside)
 
 pub second-inside : {m : List ℕ} {r kind arg start : ℕ} → Read m r kind arg start → {k : ℕ} → kind ≡ k → 1 < countOf k arg → start + 1 < 128
 second-inside e ek h = omega (arith, span-as e ek .inside)
+
+-- ---- a temporal row has a slot
+pub temporal-as : {m : List ℕ} {r kind arg start : ℕ} → Read m r kind arg start → {k : ℕ} → kind ≡ k → 7 ≤ k → 7 ≤ kindAt m r
+temporal-as e ek h = omega (arith, e .kind-is)
+
+pub past-temporal : {m : List ℕ} {r kind arg start : ℕ} → Read m r kind arg start → PastSeven kind → 7 ≤ kindAt m r
+past-temporal e n = ⊎-elim (λ k. omega (arith, e .kind-is)) (λ k. omega (arith, e .kind-is)) (past-seven e n)
+
+pub slot-as : {m : List ℕ} {r kind arg start : ℕ} → Read m r kind arg start → {k : ℕ} → kind ≡ k → 7 ≤ k → (r < 128) × (slotAt m r < 32)
+slot-as {m} {r} e ek h =
+    let inside = e .kept .rows r (e .inside) .slot (temporal-as e ek h) in
+    (below-128 (e .kept) (e .inside), omega (arith, e .kept .temporal-few))

@@ -1,5 +1,5 @@
 pub mod Answers
+pub mod Told
 pub mod Values
 pub mod Earlies
 pub mod Settleds
-pub mod Facts

@@ -7,11 +7,11 @@ use native.Mathlib.Omega.{arith}
 use native.Mathlib.Numerals.{add-one}
 use native.Mathlib.Nat.{pow-suc}
 use lib.Dec.{leb, ltb, eqb}
-use lib.ListN.{length, take, drop, set, replicate, length-replicate, length-drop, length-append, length-set, take-append-drop}
-use lib.Seq.{take-set-le, drop-cons, drop-set-lt, getD-set-same, length-take-le, drop-length, take-take, take-all, drop-at}
+use lib.ListN.{length, getD, take, drop, set, replicate, length-replicate, length-drop, length-append, length-set, take-append-drop}
+use lib.Seq.{take-suc, take-suc-set, take-at, drop-append-le, take-set-le, drop-cons, drop-set-lt, getD-set-same, length-take-le, drop-length, take-take, take-all, drop-at}
 use borrow.Author.Tests.{ne-eqb, le-leb, le-ltb, lt-leb, leb-true}
 use Rattle.text.specs.Words.{pick}
-use Rattle.text.specs.Decimals.{orElse, digitsBefore, before, decimal, shown, lastly}
+use Rattle.text.specs.Decimals.{orElse, digitsBefore, before, decimal, shown, lastly, Counted}
 
 onto-none : (f : ℕ) (l : List ℕ) → digitsBefore f 0 l ≡ l
 unfolding digitsBefore
@@ -194,3 +194,61 @@ one-place n h =
     let q : n / 10 ≡ 0 = omega arith in
     let r : n % 10 ≡ n = omega arith in
     rw (q, r) (sym (onto-none 0 ((48 + n) ∷ [])))
+
+-- ---- counting up
+onto : (f n : ℕ) (l k : List ℕ) → digitsBefore f n (l ++ k) ≡ digitsBefore f n l ++ k
+unfolding digitsBefore
+onto zero n l k = refl
+onto (suc f) n l k = by-zero (eqb n 0) refl (onto f (n / 10) ((48 + n % 10) ∷ l) k)
+  where
+    by-zero : (t : Bool) → eqb n 0 ≡ t → digitsBefore f (n / 10) ((48 + n % 10) ∷ (l ++ k)) ≡ digitsBefore f (n / 10) ((48 + n % 10) ∷ l) ++ k → orElse (eqb n 0) (l ++ k) (λ (d : ℕ). digitsBefore f (n / 10) (d ∷ (l ++ k))) (48 + n % 10) ≡ orElse (eqb n 0) l (λ (d : ℕ). digitsBefore f (n / 10) (d ∷ l)) (48 + n % 10) ++ k
+    by-zero true e r = rw e
+    by-zero false e r = rw e r
+
+last-apart : (n : ℕ) → decimal n ≡ before (n / 10) [] ++ (48 + n % 10) ∷ []
+unfolding decimal
+last-apart n = onto (n / 10) (n / 10) [] ((48 + n % 10) ∷ [])
+
+same-ends : (g b : List ℕ) (y x : ℕ) → g ++ y ∷ [] ≡ b ++ x ∷ [] → (g ≡ b) × (y ≡ x)
+same-ends g b y x h =
+    let e : length g ≡ length b = omega (arith, length-append g (y ∷ []), length-append b (x ∷ []), ap length h) in
+    let t : g ≡ b = sym (take-at g (y ∷ []) (length b) e) ∙ ap (take (length b)) h ∙ take-at b (x ∷ []) (length b) refl in
+    let d : y ∷ [] ≡ x ∷ [] = sym (drop-at g (y ∷ []) (length b) e) ∙ ap (drop (length b)) h ∙ drop-at b (x ∷ []) (length b) refl in
+    (t, cc)
+
+some : (n : ℕ) → 1 ≤ length (decimal n)
+unfolding decimal
+some n = longer (n / 10) (n / 10) ((48 + n % 10) ∷ [])
+
+module _ {n : ℕ} {m : List ℕ} {first : ℕ} (g : Counted n m first) where
+  below : first ≤ length (take 19 m)
+  below = omega (arith, some n, ap length (g .digits), length-drop first m, g .size, length-take-le 19 m (omega (arith, g .size)))
+
+  pub inside : first ≤ length m
+  inside = omega (arith, some n, ap length (g .digits), length-drop first m)
+
+  whole : m ≡ take 19 m ++ getD m 19 0 ∷ []
+  whole = sym (take-all (suc 19) m (omega (arith, g .size))) ∙ take-suc m 19 0 (omega (arith, g .size))
+
+  ends : (drop first (take 19 m) ≡ before (n / 10) []) × (getD m 19 0 ≡ 48 + n % 10)
+  ends = same-ends (drop first (take 19 m)) (before (n / 10) []) (getD m 19 0) (48 + n % 10) (sym (drop-append-le first (take 19 m) (getD m 19 0 ∷ []) below) ∙ ap (drop first) (sym whole) ∙ g .digits ∙ last-apart n)
+
+  pub one-more : (v : ℕ) → v ≡ getD m 19 0 + 1 → getD m 19 0 < 57 → Counted (n + 1) (set m 19 v) first
+  one-more v e h =
+      let s : set m 19 v ≡ take 19 m ++ v ∷ [] = sym (take-all (suc 19) (set m 19 v) (omega (arith, length-set m 19 v, g .size))) ∙ take-suc-set m 19 v (omega (arith, g .size)) in
+      let q : (n + 1) / 10 ≡ n / 10 = omega (arith, ends .1) in
+      let r : 48 + (n + 1) % 10 ≡ v = omega (arith, ends .1) in
+      record {
+        size = length-set m 19 v ∙ g .size;
+        digits = ap (drop first) s ∙ drop-append-le first (take 19 m) (v ∷ []) below ∙ ap (λ (l : List ℕ). l ++ v ∷ []) (ends .0) ∙ sym (last-apart (n + 1) ∙ rw (q, r));
+      }
+
+pub anew : (n : ℕ) (m₀ m : List ℕ) (i : ℕ) → n < 2 ^ 64 → length m₀ ≡ 20 → length m ≡ length m₀ → i ≡ length m₀ - length (shown n (length m₀)) → m ≡ lastly n m₀ → Counted n m i
+anew n m₀ m i few size kept e f =
+    record {
+      size = kept ∙ size;
+      digits = sym (take-all (length m - i) (drop i m) (omega (arith, length-drop i m))) ∙ part n m₀ m i e f ∙ ap (shown n) size ∙ all-shown n few;
+    }
+
+pub from-zero : Counted 0 (replicate 20 48) 19
+from-zero = record { size = refl; digits = one-place 0 (omega arith) }

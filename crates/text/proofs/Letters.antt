@@ -1,5 +1,5 @@
 -- Laws of a word's letters, for the proofs of `words`. Assumes nothing.
-use Prim.Native.Nat.{ℕ, suc, _+_, _*_, _-_, _/_, _^_, _≤_, _<_}
+use Prim.Native.Nat.{ℕ, suc, _+_, _*_, _-_, _/_, _%_, _^_, _≤_, _<_}
 use mathlib.Core.Path.{_≡_, refl, sym, ap, _∙_}
 use mathlib.Core.Bool.{Bool, true, false, _&&_, and-false, false≢true}
 use mathlib.Core.Logic.{_⊎_, inl, inr, ⊎-elim}
@@ -10,7 +10,7 @@ use native.Mathlib.Nat.{pow-suc, pow-le-pow-right, add-zero, zero-add, add-suc, 
 use lib.Dec.{leb, ltb, eqb, lit<}
 use lib.ListN.{length, getD, drop, drop-of-length-le}
 use lib.Seq.{drop-cons}
-use borrow.Author.Tests.{le-leb, lt-leb, ne-eqb, leb-true, ltb-true, ltb-false}
+use borrow.Author.Tests.{le-leb, le-ltb, lt-ltb, lt-leb, ne-eqb, leb-true, ltb-true, ltb-false}
 use Rattle.numbers.specs.Limits.{MAX}
 use Rattle.text.specs.Words.{mostDigits, pick, parts, digit, letters, allDigits, said, plain, good, wordHere, nextIn, nextWord}
 use Rattle.text.specs.Private.{kindOf, kindAt}
@@ -47,6 +47,13 @@ kind-above b h k = rw (no-part b h, le-leb 48 b h, lt-leb b 57 k)
 pub kind-digit : (b : ℕ) → 48 ≤ b → b ≤ 57 → b - 48 ≡ kindOf b
 unfolding kindOf pick digit
 kind-digit b h k = rw (no-part b h, le-leb 48 b h, le-leb b 57 k)
+
+-- the same, of the byte's distance from the digit 0 upwards, around 256
+pub kind-near : (b d : ℕ) → (d + 48) % 2 ^ 8 ≡ b → d < 10 → d ≡ kindOf b
+kind-near b d e h = let f : d ≡ b - 48 = omega arith in f ∙ kind-digit b (omega arith) (omega arith)
+
+pub kind-far : (b d : ℕ) → (d + 48) % 2 ^ 8 ≡ b → d < 2 ^ 8 → 10 ≤ d → parts b ≡ false → 11 ≡ kindOf b
+kind-far b d e r h p = ⊎-elim (λ k. kind-under b k p) (λ k. kind-above b k (omega arith)) (lt-or-ge b 48)
 
 pub kind-in : (s : List ℕ) (i : ℕ) → i < length s → kindOf (getD s i 0) ≡ kindAt (drop i s)
 unfolding kindAt
@@ -141,6 +148,17 @@ module _ (s : List ℕ) (at i n d : ℕ) (g : Going s at i n) (e : d ≡ kindAt 
 -- one more digit fits, or passes MAX
 pub fits : (n d : ℕ) → d < 10 → n ≤ (MAX - d) / 10 → n * 10 + d ≤ MAX
 fits n d h k = omega arith
+
+-- which of the two, by a tenth of MAX and its last digit
+module _ (n d : ℕ) (h : d < 10) where
+  pub fits-below : n < 1844674407370955161 → false ≡ ltb ((MAX - d) / 10) n
+  fits-below k = sym (le-ltb ((MAX - d) / 10) n (omega arith))
+
+  pub passes-above : 1844674407370955161 < n → true ≡ ltb ((MAX - d) / 10) n
+  passes-above k = sym (lt-ltb ((MAX - d) / 10) n (omega arith))
+
+  pub by-last : n ≡ 1844674407370955161 → ltb 5 d ≡ ltb ((MAX - d) / 10) n
+  by-last e = ⊎-elim (λ k. lt-ltb 5 d k ∙ sym (lt-ltb ((MAX - d) / 10) n (omega arith))) (λ k. le-ltb 5 d k ∙ sym (le-ltb ((MAX - d) / 10) n (omega arith))) (lt-or-ge 5 d)
 
 pub passes : (n d : ℕ) → d < 10 → (MAX - d) / 10 < n → MAX < n * 10 + d
 passes n d h k = omega arith
@@ -287,3 +305,9 @@ next-is-short s at d h p q e f =
     rw (← a) (accepted (drop (at + 1) s) (at + 1) d 1 (rw ls (short-good b w)) (rw ls v) (rw ls))
     ∙ next-here s (at + 1) (omega arith) (w .stays)
     ∙ sym (next-more s at (omega arith) p)
+
+-- a digit below 2 by its byte alone
+pub next-is-bit : (s : List ℕ) (at : ℕ) → at + 2 < length s → parts (getD s at 0) ≡ true → 48 ≤ getD s (at + 1) 0 → getD s (at + 1) 0 ≤ 49 → parts (getD s (at + 2) 0) ≡ true → nextWord s at ≡ Word (getD s (at + 1) 0 - 48) (at + 2)
+next-is-bit s at h p low high q =
+    let b = getD s (at + 1) 0 in
+    sym (next-is-short s at (b - 48) h p q (kind-digit b low (omega arith)) (omega arith))

@@ -1,4 +1,4 @@
-mod Letters
+pub mod Letters
 pub mod Supplies
 pub mod Digits
 pub mod Back

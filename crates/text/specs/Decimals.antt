@@ -5,7 +5,7 @@ use mathlib.Core.List.{List, [], _∷_, _++_}
 use lib.Dec.{leb, eqb}
 use mathlib.Core.Path.{_≡_}
 use denote.Ref.{RefT}
-use lib.ListN.{length, take}
+use lib.ListN.{length, take, drop}
 use Rattle.text.specs.Words.{digit0, pick}
 
 -- l where the test holds, else what f makes of d, which is not computed before
@@ -33,6 +33,11 @@ shown n room = pick (leb (length (decimal n)) room) (decimal n) []
 -- a scratch with them as its last bytes, the others unchanged
 unfoldable pub lastly : ℕ → List ℕ → List ℕ
 lastly n m = take (length m - length (shown n (length m))) m ++ shown n (length m)
+
+-- the digits of n end a scratch of 20 bytes, from `first` on
+pub record Counted (n : ℕ) (m : List ℕ) (first : ℕ) : Type 0 where
+  pub size : length m ≡ 20
+  pub digits : drop first m ≡ decimal n
 
 -- r is a last part of s: it lies in the same memory, and ends where s ends
 pub record LastOf (s r : RefT (List ℕ)) : Type 0 where

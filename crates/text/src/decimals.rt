@@ -3,15 +3,21 @@ ghost use mathlib.Core.Path.{_≡_};
 ghost use Prim.Native.Nat.{_+_, _-_, _<_};
 ghost use lib.Dec.{ltb};
 ghost use lib.ListN.{length};
+ghost use Rattle.numbers.specs.Limits.{MAX};
 ghost use Rattle.text.specs.Words.{digit0};
-ghost use Rattle.text.specs.Decimals.{decimal as Decimals·decimal, shown, lastly, LastOf};
+ghost use Rattle.text.specs.Decimals.{decimal as Decimals·decimal, shown, lastly, Counted, LastOf};
 
 const ZERO: u8 = b'0';
+
+const NINE: u8 = b'9';
 
 const TEN: u64 = 10;
 
 // No number of 64 bits has more digits.
-const MOST_DIGITS: usize = 20;
+pub const MOST_DIGITS: usize = 20;
+
+// The place of the last digit in a scratch for all of them.
+const LAST: usize = MOST_DIGITS - 1;
 
 // The byte of a digit.
 fn glyph(d: u64) -> u8
@@ -63,6 +69,19 @@ pub fn write_last(n: u64, scratch: &mut [u8]) -> usize
             return i;
         }
     }
+}
+
+// The digits of `n` end `scratch`, from `first` on: writes those of the next number in their place, and answers where they
+// begin. Nine times in ten the last digit alone is another.
+pub fn count_up(n: u64, scratch: &mut [u8], first: usize) -> usize
+    requires { ⌜ Counted n (now scratch) first × (n < MAX) ⌝ }
+    ensures { λ r. ⌜ Counted (n + 1) (now (scratch .exit)) r ⌝ }
+{
+    if scratch[LAST] < NINE {
+        scratch[LAST] += 1;
+        return first;
+    }
+    write_last(n + 1, scratch)
 }
 
 // The digits of `n`, as the last part of `scratch`; an empty part where they do not fit.

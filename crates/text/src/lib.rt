@@ -2,8 +2,11 @@
 mod decimals;
 mod words;
 
+pub use decimals::MOST_DIGITS;
+pub use decimals::count_up;
 pub use decimals::decimal;
 pub use decimals::write_last;
 pub use words::Read;
 pub use words::next_short;
 pub use words::next_word;
+pub use words::parts;

@@ -2,6 +2,7 @@
 ghost use mathlib.Core.Path.{_≡_};
 ghost use mathlib.Core.Bool.{false};
 ghost use Prim.Native.Nat.{_-_, _/_, _<_};
+ghost use lib.Dec.{ltb};
 ghost use lib.ListN.{length, getD, drop};
 ghost use Rattle.numbers.specs.Limits.{MAX as Words·MAX};
 ghost use Rattle.text.specs.Words.{digit0, parts as Words·parts, wordHere, nextWord};
@@ -15,10 +16,8 @@ const SPACE: u8 = b' ';
 
 const LINE_FEED: u8 = b'\n';
 
-// The digits of a word lie between these two bytes.
+// The byte of the digit 0.
 const ZERO: u8 = b'0';
-
-const NINE: u8 = b'9';
 
 // What `kind` says of a byte that is no digit.
 const OVER: u64 = 10;
@@ -42,7 +41,7 @@ pub enum Read {
 }
 
 // Whether a byte parts words.
-fn parts(b: u8) -> bool
+pub fn parts(b: u8) -> bool
     ensures { λ r. ⌜ r ≡ Words·parts b ⌝ }
 {
     if b == SPACE { true } else { b == LINE_FEED }
@@ -56,20 +55,18 @@ fn wide(b: u8) -> u64
 }
 
 // What a byte is to a word: a digit's value, OVER where the word is over, BAD where it is spoilt.
-// Digits are the most frequent, so that they are told by the fewest tests.
+// Digits are the most frequent, so that they are told by one test.
 fn kind(b: u8) -> u64
     ensures { λ r. ⌜ r ≡ kindOf b ⌝ }
 {
-    if b < ZERO {
-        if parts(b) {
-            return OVER;
-        }
-        return BAD;
+    let d = wide(std::num::wrapping_sub_u8(b, ZERO));
+    if d < TEN {
+        return d;
     }
-    if NINE < b {
-        return BAD;
+    if parts(b) {
+        return OVER;
     }
-    wide(b) - wide(ZERO)
+    BAD
 }
 
 // The same of a place. A word is over at the end of the text, too.
@@ -82,15 +79,18 @@ fn kind_at(input: &[u8], i: usize) -> u64
     OVER
 }
 
-// The largest number that `d` can follow as one more digit: no division, since it is asked at each digit.
-fn most_before(d: u64) -> u64
+// Whether `d` as one more digit takes `n` past MAX. One test tells it of any number but those with as many digits as MAX.
+fn passes(n: u64, d: u64) -> bool
     requires { ⌜ d < 10 ⌝ }
-    ensures { λ r. ⌜ r ≡ (Words·MAX - d) / 10 ⌝ }
+    ensures { λ r. ⌜ r ≡ ltb ((Words·MAX - d) / 10) n ⌝ }
 {
-    if MAX_LAST < d {
-        return MAX_TENTH - 1;
+    if n < MAX_TENTH {
+        return false;
     }
-    MAX_TENTH
+    if MAX_TENTH < n {
+        return true;
+    }
+    MAX_LAST < d
 }
 
 // The word that begins at `at` with a zero, which is 0 itself or bad.
@@ -117,7 +117,7 @@ fn word_here(input: &[u8], at: usize) -> Read
     let mut i = at;
     let mut d = kind_at(input, at);
     while d < TEN {
-        if most_before(d) < n {
+        if passes(n, d) {
             return Read::Refused(BAD_WORD);
         }
         n = n * TEN + d;

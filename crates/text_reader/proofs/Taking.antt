@@ -1,18 +1,20 @@
 -- Laws of reading words into lent memory. Assumes nothing.
 use Prim.Native.Nat.{ℕ, suc, _+_, _*_, _-_, _≤_, _<_}
 use mathlib.Core.Path.{_≡_, refl, sym, ap, _∙_}
+use mathlib.Core.Bool.{true}
 use mathlib.Core.List.{List, [], _∷_, _++_, map, append-assoc, append-nil, map-append}
 use native.Mathlib.Omega.{arith}
 use native.Mathlib.Numerals.{add-one}
 use lib.ListN.{length, getD, take, drop, set, length-drop, length-set, length-append}
 use lib.Seq.{take-suc, drop-cons, take-suc-set, length-take-le, take-at, drop-at}
 use borrow.Author.Tests.{lt-ltb, le-ltb}
-use Rattle.text.specs.Words.{Supply, nextWord, supplyFrom}
+use Rattle.text.specs.Words.{Supply, parts, nextWord, supplyFrom}
 use Rattle.text.specs.declared.words.Read as text
+use Rattle.text.proofs.Letters.{next-is-bit}
 use Rattle.text.proofs.Supplies.{word, refused as ended}
 use Rattle.numbers.specs.Limits.{MOST-ATOMS, ROW-WORDS}
 use Rattle.book.specs.Reading.{section, next as andNext, sections, got, refused}
-use Rattle.text_reader.specs.Reads.{numberOf, partNumber, byteOf, Took, Ended, WordsTook, WordsRead, SectionTook, SectionRead, BytesTook, BytesRead, StateTook, StateRead, BookTook, BookRead}
+use Rattle.text_reader.specs.Reads.{numberOf, partNumber, byteOf, Took, Ended, WordsTook, WordsRead, SectionTook, SectionRead, BitsTook, BytesTook, BytesRead, StateTook, StateRead, BookTook, BookRead}
 use Rattle.text_reader.specs.declared.Part.{Part}
 use Rattle.text_reader.specs.declared.Part.the-variants.{Words, Refused}
 
@@ -139,6 +141,43 @@ module _ {input : List ℕ} {cursor count : ℕ} {m₀ m : List ℕ} {i from : �
   turn-done h =
       let e : count ≡ i = omega (arith, g .taking .low) in
       record { took = take-done (g .taking) h; place = refl; stand = rw e (g .stand) }
+
+-- ---- as far as they are bits, two bytes of the text each
+pub record Telling (input : List ℕ) (cursor count : ℕ) (m₀ m : List ℕ) (i from : ℕ) : Type 0 where
+  pub turning : Turning input cursor count m₀ m i from
+  pub place : from ≡ cursor + 2 * i
+  pub parted : parts (getD input from 0) ≡ true
+
+pub tell-start : (input : List ℕ) (cursor count : ℕ) (m : List ℕ) → parts (getD input cursor 0) ≡ true → Telling input cursor count m m 0 cursor
+tell-start input cursor count m h = record { turning = turn-start input cursor count m; place = omega arith; parted = h }
+
+bit-byte : (w : ℕ) → w ≤ 1 → w ≡ byteOf w
+bit-byte w h = rw (le-ltb 1 w h)
+
+module _ {input : List ℕ} {cursor count : ℕ} {m₀ m : List ℕ} {i from : ℕ} (g : Telling input cursor count m₀ m i from) where
+  pub tell-more : i < count → count ≤ length m₀ → cursor + 2 * count < length input → 48 ≤ getD input (from + 1) 0 → getD input (from + 1) 0 ≤ 49 → parts (getD input (from + 2) 0) ≡ true → Telling input cursor count m₀ (set m i (getD input (from + 1) 0 - 48)) (i + 1) (from + 2)
+  tell-more h room long low high q =
+      let w = getD input (from + 1) 0 - 48 in
+      let e = next-is-bit input from (omega (arith, g .place)) (g .parted) low high q in
+      record {
+        turning = turn-more (g .turning) e (bit-byte w (omega arith)) h room;
+        place = omega (arith, g .place);
+        parted = q;
+      }
+
+  pub tell-done : cursor + 2 * count < length input → BitsTook input cursor count m i
+  tell-done long = record { low = g .turning .taking .low; within = omega (arith, g .turning .taking .low); took = rw (← (g .place)) (g .turning .taking .took); stand = g .turning .stand }
+
+pub tell-none : (input : List ℕ) (cursor count : ℕ) (m : List ℕ) → BitsTook input cursor count m 0
+tell-none input cursor count m =
+    let e : cursor + 2 * 0 ≡ cursor = omega arith in
+    record { low = omega arith; within = omega arith; took = rw e (take-start input cursor count .took); stand = refl }
+
+pub turn-told : {input : List ℕ} {cursor count : ℕ} {m : List ℕ} {i : ℕ} → BitsTook input cursor count m i → Turning input cursor count m m i (cursor + 2 * i)
+turn-told b = record { taking = record { low = b .low; took = b .took }; size = refl; stand = b .stand }
+
+pub room-kept : {count size size′ : ℕ} → count ≤ size → size′ ≡ size → count ≤ size′
+room-kept h e = rw e h
 
 -- ---- a section
 module _ (input : List ℕ) (cursor limit size : ℕ) where

@@ -1,5 +1,5 @@
 -- Steps of reading a text's words into lent memory. No public contract cites these. Definitions only.
-use Prim.Native.Nat.{ℕ, _+_, _*_, _≤_, _<_}
+use Prim.Native.Nat.{ℕ, _+_, _*_, _-_, _≤_, _<_}
 use mathlib.Core.Path.{_≡_}
 use mathlib.Core.Bool.{cond}
 use mathlib.Core.List.{List, [], _∷_, _++_, map}
@@ -77,6 +77,13 @@ BookRead input m′ (Refused number) = sections (supplyFrom input 0 .ending) (su
 -- a state's word as a byte: a word over 1 as 2, which is refused as any other is
 abbrev pub byteOf : ℕ → ℕ
 byteOf w = cond (ltb 1 w) 2 w
+
+-- n words, none more than asked for and each two bytes of the text, stand at the start of a memory, as bytes
+pub record BitsTook (input : List ℕ) (cursor count : ℕ) (m′ : List ℕ) (n : ℕ) : Type 0 where
+  pub low : n ≤ count
+  pub within : 2 * n ≤ length input - cursor
+  pub took : Took input cursor n (cursor + 2 * n)
+  pub stand : take n m′ ≡ map byteOf (take n (supplyFrom input cursor .words))
 
 -- words stand at the start of a memory, as bytes
 pub record BytesTook (input : List ℕ) (cursor count : ℕ) (m′ : List ℕ) (end next : ℕ) : Type 0 where

@@ -1,9 +1,11 @@
 // The book and the states of a text, read word by word into lent memory.
 ghost use mathlib.Core.Path.{_≡_};
-ghost use Prim.Native.Nat.{_+_, _*_, _≤_};
-ghost use lib.ListN.{length};
+ghost use mathlib.Core.Bool.{true};
+ghost use Prim.Native.Nat.{_+_, _*_, _≤_, _<_};
+ghost use lib.ListN.{length, getD};
 ghost use Rattle.numbers.specs.Limits.{MOST-ATOMS};
-ghost use Rattle.text_reader.specs.Reads.{numberOf, partNumber, byteOf, WordsRead, SectionRead, BookRead, BytesRead, StateRead};
+ghost use Rattle.text.specs.Words.{parts};
+ghost use Rattle.text_reader.specs.Reads.{numberOf, partNumber, byteOf, WordsRead, SectionRead, BookRead, BitsTook, BytesRead, StateRead};
 use numbers::ACCEPTED;
 use numbers::MOST_ASSUMES;
 use numbers::MOST_ATOMS;
@@ -23,6 +25,14 @@ pub const BOOK_WORDS: usize = 1
     + MOST_ASSUMES
     + 1
     + MOST_GUARANTEES;
+
+// The bytes of the words 0 and 1.
+const ZERO: u8 = b'0';
+
+const ONE: u8 = b'1';
+
+// Such a word and the byte before it.
+const BIT_BYTES: usize = 2;
 
 // What was read: the words stand in the memory up to a place, and the next word is looked for from another in the text; or
 // the number that ends the reading.
@@ -121,13 +131,55 @@ fn byte_of(w: u64) -> u8
     w as u8
 }
 
+// Of `count` words from the parting byte at `cursor` on, those before the first that is not 0 or 1 between two such bytes,
+// as a state's bytes: how many. Each is told by two tests, since the byte after it is the one before the next.
+fn bits_into(input: &[u8], cursor: usize, count: usize, bytes: &mut [u8]) -> usize
+    requires { ⌜ (cursor + 2 * count < length (now input)) × (parts (getD (now input) cursor 0) ≡ true) × (count ≤ length (now bytes)) ⌝ }
+    ensures { λ r. ⌜ BitsTook (now (input .entry)) cursor count (now (bytes .exit)) r ⌝ }
+{
+    let mut from = cursor;
+    let mut i = 0;
+    while i < count {
+        let b = input[from + 1];
+        if b < ZERO {
+            return i;
+        }
+        if ONE < b {
+            return i;
+        }
+        if text::parts(input[from + BIT_BYTES]) {
+            bytes[i] = b - ZERO;
+            from += BIT_BYTES;
+            i += 1;
+        } else {
+            return i;
+        }
+    }
+    i
+}
+
+// The same from any place on: none where the text may be too short for all, or no byte parts words there.
+fn bits(input: &[u8], cursor: usize, count: usize, bytes: &mut [u8]) -> usize
+    requires { ⌜ count ≤ length (now bytes) ⌝ }
+    ensures { λ r. ⌜ BitsTook (now (input .entry)) cursor count (now (bytes .exit)) r ⌝ }
+{
+    if cursor < input.len() {
+        if count < (input.len() - cursor) / BIT_BYTES {
+            if text::parts(input[cursor]) {
+                return bits_into(input, cursor, count, bytes);
+            }
+        }
+    }
+    0
+}
+
 // The next `count` words, as a state's bytes.
 fn bytes_into(input: &[u8], cursor: usize, count: usize, bytes: &mut [u8]) -> Part
     requires { ⌜ count ≤ length (now bytes) ⌝ }
     ensures { λ r. ⌜ BytesRead (now (input .entry)) cursor count (now (bytes .exit)) r ⌝ }
 {
-    let mut from = cursor;
-    let mut i = 0;
+    let mut i = bits(input, cursor, count, bytes);
+    let mut from = cursor + BIT_BYTES * i;
     while i < count {
         let r = text::next_short(input, from);
         let Read::Word(w, next) = r else {

@@ -20,10 +20,10 @@ temporal-count-requires : tie.Need-temporal-count-requires Inv-loop μ-loop
 temporal-count-requires c κs = tt
 
 loop-holds : tie.Need-loop-holds Inv-loop μ-loop
-loop-holds c = let s = c .before .before in (omega arith, c .temporal-count .ensures, written-start (s .args .monitor .now) _ (s .pre .timely .kept .book .long))
+loop-holds c = let s = c .before .before in (omega arith, c .temporal-count .ensures, written-start (s .args .monitor .now) _ (s .pre .timely .sound .book .long))
 
 element-copy-out-commit-slot : tie.Need-element-copy-out-commit-slot Inv-loop μ-loop
-element-copy-out-commit-slot c = let s = c .before .before .before .before .before in let l = c .before .before .loop in let e = l .inv .1 in let f = s .pre .timely .kept .book .temporal-few in omega arith
+element-copy-out-commit-slot c = let s = c .before .before .before .before .before in let l = c .before .before .loop in let e = l .inv .1 in let f = s .pre .timely .sound .book .temporal-few in omega arith
 
 commit-slot-requires : tie.Need-commit-slot-requires Inv-loop μ-loop
 commit-slot-requires c κs = let s = c .before .before .before .before .before .before in let l = c .before .before .before .loop in commit-fit (s .pre) (let e = l .inv .1 in omega arith) (l .inv .2)

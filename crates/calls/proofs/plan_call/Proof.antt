@@ -1,50 +1,62 @@
--- `calls::plan_call` meets its contract. The invariant: the slots passed are planned, and all had room. Assumes nothing.
-use Rattle.calls.proofs.Plans.{Going, going-start, going-more, going-full, going-done}
-use Rattle.memory.specs.Memory.{temporals}
-use mathlib.Core.Path.{_≡_}
+-- `calls::plan_call` meets its contract. The invariant: the rows passed have their new values, and their sets modes and room. Assumes nothing.
 use Prim.Native.Nat.{_≤_, _-_}
+use mathlib.Core.Path.{_≡_, refl, sym, _∙_}
 use native.Mathlib.Omega.{arith}
+use Rattle.memory.specs.Memory.{rowCount}
+use Rattle.calls.specs.Private.{atomsFor}
+use Rattle.calls.proofs.Plans.{Going, going-start, going-sound, going-count, going-more, going-full, going-done}
+use Rattle.calls.proofs.Looks.{visited-named, visited-same, going-skip}
+use borrow.Author.Needs.{needs}
 use Rattle.calls.proofs.plan_call.Statement.{statement}
 use Rattle.calls.proofs.plan_call.Tie as tie
 
 abbrev Inv-loop : tie.InvT-loop
-Inv-loop monitor clock atoms here₀ count modes₀ slot₀ here modes slot = (slot ≤ count) × (count ≡ temporals monitor) × Going monitor clock atoms here modes slot
+Inv-loop monitor₀ clock atoms fresh modes₀ count row₀ monitor modes row = (row ≤ count) × (count ≡ rowCount monitor₀) × Going monitor₀ clock (atomsFor monitor₀ fresh atoms) monitor modes row
 
 abbrev μ-loop : tie.MeasureT-loop
-μ-loop monitor clock atoms here₀ count modes₀ slot₀ here modes slot = count - slot
+μ-loop monitor₀ clock atoms fresh modes₀ count row₀ monitor modes row = count - row
 
-temporal-count-requires : tie.Need-temporal-count-requires Inv-loop μ-loop
-temporal-count-requires c κs = tt
+row-count-requires : tie.Need-row-count-requires Inv-loop μ-loop
+row-count-requires c κs = search needs
 
 loop-holds : tie.Need-loop-holds Inv-loop μ-loop
-loop-holds c = let s = c .before in (omega arith, c .temporal-count .ensures, going-start (s .args .monitor .now) (s .pre .kept .book) (s .args .clock) (s .args .atoms .now))
+loop-holds c = let s = (c .before .before .before .before) in (omega arith, c .row-count .ensures, going-start (s .args .monitor .now) (s .args .clock) (atomsFor (s .args .monitor .now) (s .args .fresh) (s .args .atoms .now)) (s .pre .1 .0))
 
-owner-at-requires : tie.Need-owner-at-requires Inv-loop μ-loop
-owner-at-requires c κs = let s = c .before .before .before in let l = c .before .loop in let e = l .inv .1 in let f = s .pre .kept .book .temporal-few in omega arith
+visits-requires : tie.Need-visits-requires Inv-loop μ-loop
+visits-requires c κs = let s = (c .before .before .before .before .before .before .before) in let l = (c .before .before) .loop in let e = l .inv .1 in let f = s .pre .0 .0 .sound .book .few in omega arith
 
-plan-row-requires : tie.Need-plan-row-requires Inv-loop μ-loop
-plan-row-requires c κs = let s = c .before .before .before .before .before in let l = c .before .before .before .loop in record { timely = s .pre; inside = (let e = l .inv .1 in omega arith); owner = c .before .owner-at .ensures }
+try-row-requires : tie.Need-try-row-requires Inv-loop μ-loop
+try-row-requires c κs = let s = (c .before .before .before .before .before .before .before .before .before .before .before) in let l = (c .before .before .before .before .before .before) .loop in let g = l .inv .2 in let e = l .inv .1 in (record { sound = going-sound (s .pre .0 .0 .sound) g; clock = s .pre .0 .1 }, (let k = going-count (s .pre .0 .0 .sound) g in omega arith, g .modes-long, visited-named (s .pre .0 .0) g (omega arith) (s .args .fresh) (s .args .atoms .now) (s .pre .1 .1) (sym ((c .before .before .before) .visits .ensures) ∙ (c .before .before) .if1 .taken)))
 
-array-write-modes : tie.Need-array-write-modes Inv-loop μ-loop
-array-write-modes c = let s = c .before .before .before .before .before .before .before in let l = c .before .before .before .before .before .loop in let e = l .inv .1 in let f = s .pre .kept .book .temporal-few in omega arith
-
-note-here-requires : tie.Need-note-here-requires Inv-loop μ-loop
-note-here-requires c κs = let s = c .before .before .before .before .before .before .before .before in let l = c .before .before .before .before .before .before .loop in let e = l .inv .1 in let b = s .pre .kept .book in let o = b .owned (l .slot) (omega arith) in let f = b .few in let we = c .before .before .before .before .owner-at .ensures in let long = c .note-here-arg .given .0 .1 in omega arith
-
-add-slot : tie.Need-add-slot Inv-loop μ-loop
-add-slot c = let s = c .before .before .before .before .before .before .before .before .before in let l = c .before .before .before .before .before .before .before .loop in let e = l .inv .1 in let f = s .pre .kept .book .temporal-few in omega arith
+add-row : tie.Need-add-row Inv-loop μ-loop
+add-row c = let s = (c .before .before .before .before .before .before .before .before .before .before .before .before .before .before .before) in let l = (c .before .before .before .before .before .before .before .before .before .before) .loop in let e = l .inv .1 in let f = s .pre .0 .0 .sound .book .few in omega arith
 
 loop-less : tie.Need-loop-less Inv-loop μ-loop
-loop-less c = omega arith
+loop-less c = search needs
 
 loop-again : tie.Need-loop-again Inv-loop μ-loop
-loop-again c = let s = c .before .before .before .before .before .before .before .before .before in let l = c .before .before .before .before .before .before .before .loop in (omega arith, l .inv .1, going-more (s .args .monitor .now) (s .pre .kept .book) (s .args .clock) (s .args .atoms .now) (l .inv .2) (let e = l .inv .1 in omega arith) (c .before .before .before .before .before .owner-at .ensures) (c .before .before .before .plan-row .ensures) (c .before .note-here-arg .given .0 .1) (c .before .before .if1 .taken) (c .note-here .ensures))
+loop-again c = let s = (c .before .before .before .before .before .before .before .before .before .before .before .before .before .before .before) in let l = (c .before .before .before .before .before .before .before .before .before .before) .loop in let e = l .inv .1 in (omega arith, e, going-more (s .pre .0 .0 .sound) (l .inv .2) (omega arith) (visited-same (s .pre .0 .0) (l .inv .2) (omega arith) (s .args .fresh) (s .args .atoms .now) refl (sym ((c .before .before .before .before .before .before .before) .visits .ensures) ∙ (c .before .before .before .before .before .before) .if1 .taken)) ((c .before .before .before) .try-row .ensures) (c .if2 .taken))
+
+same-length : tie.Need-same-length Inv-loop μ-loop
+same-length c = search needs
 
 returns : tie.Need-returns Inv-loop μ-loop
-returns c = let s = c .before .before .before .before .before .before .before in let l = c .before .before .before .before .before .loop in going-full (s .args .monitor .now) (s .pre .kept .book) (s .args .clock) (s .args .atoms .now) (l .inv .2) (let e = l .inv .1 in omega arith) (c .before .before .before .owner-at .ensures) (c .before .plan-row .ensures) (c .if1 .left)
+returns c = let s = (c .before .before .before .before .before .before .before .before .before .before .before .before .before .before .before) in let l = (c .before .before .before .before .before .before .before .before .before .before) .loop in let e = l .inv .1 in going-full (s .pre .0 .0 .sound) (l .inv .2) (omega arith) (visited-same (s .pre .0 .0) (l .inv .2) (omega arith) (s .args .fresh) (s .args .atoms .now) refl (sym ((c .before .before .before .before .before .before .before) .visits .ensures) ∙ (c .before .before .before .before .before .before) .if1 .taken)) ((c .before .before .before) .try-row .ensures) (c .if2 .left)
+
+add-row-2 : tie.Need-add-row-2 Inv-loop μ-loop
+add-row-2 c = let s = (c .before .before .before .before .before .before .before .before .before) in let l = (c .before .before .before .before) .loop in let e = l .inv .1 in let f = s .pre .0 .0 .sound .book .few in omega arith
+
+loop-less-2 : tie.Need-loop-less-2 Inv-loop μ-loop
+loop-less-2 c = search needs
+
+loop-again-2 : tie.Need-loop-again-2 Inv-loop μ-loop
+loop-again-2 c = let s = (c .before .before .before .before .before .before .before .before .before) in let l = (c .before .before .before .before) .loop in let e = l .inv .1 in (omega arith, e, going-skip (s .pre .0 .0) (l .inv .2) (omega arith) (s .args .fresh) (s .args .atoms .now) refl (sym ((c .before) .visits .ensures) ∙ c .if1 .left))
+
+same-length-2 : tie.Need-same-length-2 Inv-loop μ-loop
+same-length-2 c = search needs
 
 returns-2 : tie.Need-returns-2 Inv-loop μ-loop
-returns-2 c = let s = c .before .before .before in let l = c .before .loop in going-done (s .args .monitor .now) (s .pre .kept .book) (s .args .clock) (s .args .atoms .now) (l .inv .2) (let e = l .inv .1 in omega arith)
+returns-2 c = let s = (c .before .before .before .before .before .before) in let l = (c .before) .loop in let e = l .inv .1 in going-done (s .pre .0 .0 .sound) (l .inv .2) (omega arith)
 
 pub plan-call-spec : {M : Type 1} → statement M
 plan-call-spec =
@@ -52,14 +64,17 @@ plan-call-spec =
     (tie.spec
     Inv-loop
     μ-loop
-    temporal-count-requires
+    row-count-requires
     loop-holds
-    owner-at-requires
-    plan-row-requires
-    array-write-modes
-    note-here-requires
-    add-slot
+    visits-requires
+    try-row-requires
+    add-row
     loop-less
     loop-again
+    same-length
     returns
+    add-row-2
+    loop-less-2
+    loop-again-2
+    same-length-2
     returns-2)

@@ -19,34 +19,34 @@ width-requires : tie.Need-width-requires Inv-loop μ-loop
 width-requires c κs = search needs
 
 loop-holds : tie.Need-loop-holds Inv-loop μ-loop
-loop-holds c = let s = c .before .before in (omega arith, c .width .ensures, atoms-start (s .args .monitor .now) (s .args .atoms .now) (s .pre .0))
+loop-holds c = let s = (c .before .before .before) in (omega arith, c .width .ensures, atoms-start (s .args .monitor .now) (s .args .atoms .now) (s .pre .0))
 
-element-copy-out-wide : tie.Need-element-copy-out-wide Inv-loop μ-loop
-element-copy-out-wide c = let s = c .before .before .before .before in let l = c .before .loop in let e = l .inv .1 in let k = s .pre in omega arith
+shared-slice-read-wide : tie.Need-shared-slice-read-wide Inv-loop μ-loop
+shared-slice-read-wide c = let s = (c .before .before .before .before .before .before) in let l = (c .before .before) .loop in let e = l .inv .1 in let k = s .pre .1 in omega arith
 
 wide-requires : tie.Need-wide-requires Inv-loop μ-loop
 wide-requires c κs = search needs
 
 add-monitor : tie.Need-add-monitor Inv-loop μ-loop
-add-monitor c = let s = c .before .before .before .before .before .before in let l = c .before .before .before .loop in let e = l .inv .1 in let k = s .pre in omega arith
+add-monitor c = let s = (c .before .before .before .before .before .before .before) in let l = (c .before .before .before) .loop in let e = l .inv .1 in let k = s .pre .2 in omega arith
 
 mul-monitor : tie.Need-mul-monitor Inv-loop μ-loop
-mul-monitor c = let s = c .before .before .before .before .before .before in let l = c .before .before .before .loop in let e = l .inv .1 in let k = s .pre in omega arith
+mul-monitor c = let s = (c .before .before .before .before .before .before .before) in let l = (c .before .before .before) .loop in let e = l .inv .1 in let k = s .pre .2 in omega arith
 
 element-write-monitor : tie.Need-element-write-monitor Inv-loop μ-loop
-element-write-monitor c = let s = c .before .before .before .before .before .before in let l = c .before .before .before .loop in let e = l .inv .1 in let k = s .pre in let g = l .inv .2 .long in omega arith
+element-write-monitor c = let s = (c .before .before .before .before .before .before .before) in let l = (c .before .before .before) .loop in let e = l .inv .1 in let k = s .pre .2 in let g = l .inv .2 .long in omega arith
 
 add-i : tie.Need-add-i Inv-loop μ-loop
-add-i c = let s = c .before .before .before .before .before .before in let l = c .before .before .before .loop in let e = l .inv .1 in let k = s .pre in omega arith
+add-i c = let s = (c .before .before .before .before .before .before .before) in let l = (c .before .before .before) .loop in let e = l .inv .1 in let k = s .pre .2 in omega arith
 
 loop-less : tie.Need-loop-less Inv-loop μ-loop
 loop-less c = search needs
 
 loop-again : tie.Need-loop-again Inv-loop μ-loop
-loop-again c = let s = c .before .before .before .before .before .before in let l = c .before .before .before .loop in let e = l .inv .1 in let k = s .pre in (omega arith, e, atoms-more (l .inv .2) (omega arith) (c .wide .ensures))
+loop-again c = let s = (c .before .before .before .before .before .before .before) in let l = (c .before .before .before) .loop in let e = l .inv .1 in let k = s .pre .2 in (omega arith, e, atoms-more (l .inv .2) (omega arith) (c .wide .ensures))
 
 returns : tie.Need-returns Inv-loop μ-loop
-returns c = let s = c .before .before .before .before in let l = c .before .loop in let e : l .i ≡ widthWord (s .args .monitor .now) = let q = l .inv .1 in omega arith in rw e at (l .inv .2)
+returns c = let s = (c .before .before .before .before .before) in let l = (c .before) .loop in let e : l .i ≡ widthWord (s .args .monitor .now) = let q = l .inv .1 in omega arith in rw e at (l .inv .2)
 
 pub put-atoms-spec : {M : Type 1} → statement M
 put-atoms-spec =
@@ -56,7 +56,7 @@ put-atoms-spec =
     μ-loop
     width-requires
     loop-holds
-    element-copy-out-wide
+    shared-slice-read-wide
     wide-requires
     add-monitor
     mul-monitor

@@ -1,13 +1,17 @@
 -- `loader::load` meets its contract. Assumes nothing.
+use Rattle.loader.proofs.Loads.{loads-worked}
 use borrow.Author.Needs.{needs}
 use Rattle.loader.proofs.load.Statement.{statement}
 use Rattle.loader.proofs.load.Tie as tie
 
-load-into-requires : tie.Need-load-into-requires
-load-into-requires c κs = search needs
+store-judged-requires : tie.Need-store-judged-requires
+store-judged-requires c κs = search needs
+
+work-out-requires : tie.Need-work-out-requires
+work-out-requires c κs = let p = (c .before) .store-judged .ensures in (p .sound, p .unused)
 
 returns : tie.Need-returns
-returns c = search needs
+returns c = let p = (c .before .before) .store-judged .ensures in loads-worked p (c .work-out .ensures .0) (c .work-out .ensures .1)
 
 pub load-spec : {M : Type 1} → statement M
-load-spec = tie.close (tie.spec load-into-requires returns)
+load-spec = tie.close (tie.spec store-judged-requires work-out-requires returns)

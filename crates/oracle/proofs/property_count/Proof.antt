@@ -5,7 +5,7 @@ use Rattle.oracle.proofs.property_count.Statement.{statement}
 use Rattle.oracle.proofs.property_count.Tie as tie
 
 property-count-requires : tie.Need-property-count-requires
-property-count-requires c κs = c .pre .book
+property-count-requires c κs = c .pre .sound .book
 
 returns : tie.Need-returns
 returns c = c .property-count .ensures ∙ sym (properties-length _ (c .before .pre))

@@ -1,49 +1,40 @@
--- `property_answers::verdict_at` meets its contract: a property that is not there, or the answers of its row. Assumes nothing.
-use borrow.Author.Needs.{needs}
+-- `property_answers::verdict_at` meets its contract. Assumes nothing.
 use native.Mathlib.Omega.{arith}
-use mathlib.Core.Path.{sym, _∙_}
-use Rattle.property_answers.proofs.Read.{facts-apart}
-use Rattle.property_answers.proofs.Bridge.{verdict-in, verdict-out}
+use mathlib.Core.Path.{sym}
+use Rattle.property_answers.proofs.Bridge.{few-count, verdict-in}
+use borrow.Author.Needs.{needs}
 use Rattle.property_answers.proofs.verdict_at.Statement.{statement}
 use Rattle.property_answers.proofs.verdict_at.Tie as tie
 
-property-count-requires : tie.Need-property-count-requires
-property-count-requires c κs = c .pre .kept .book
+property-row-requires : tie.Need-property-row-requires
+property-row-requires c κs = let s = c in few-count (s .pre .0) (s .pre .1)
 
-absent-requires : tie.Need-absent-requires
-absent-requires c κs = search needs
+holds-requires : tie.Need-holds-requires
+holds-requires c κs = let s = (c .before) in rw (c .property-row .ensures) (let h = s .pre .0 .sound .book .properties (s .args .i) (s .pre .1) in let f = s .pre .0 .sound .book .few in omega arith)
 
-returns : tie.Need-returns
-returns c = let s = c .before .before .before in c .absent .ensures ∙ sym (verdict-out (s .args .monitor .now) (s .pre .kept) (s .args .i) (let e = c .before .before .property-count .ensures in omega arith))
+early-at-requires : tie.Need-early-at-requires
+early-at-requires c κs = let s = (c .before .before) in few-count (s .pre .0) (s .pre .1)
 
-add-word : tie.Need-add-word
-add-word c = let k = c .before .before .pre .kept .book in let e = c .before .property-count .ensures in let a = k .assumes-few in let g = k .guarantees-few in omega arith
-
-word-requires : tie.Need-word-requires
-word-requires c κs = let k = c .before .before .pre .kept .book in let e = c .before .property-count .ensures in let a = k .assumes-few in let g = k .guarantees-few in let l = k .long in omega arith
-
-output-requires : tie.Need-output-requires
-output-requires c κs = let s = c .before .before .before in (s .pre .kept .book, rw (c .word .ensures) (s .pre .kept .book .properties (s .args .i) (let e = c .before .before .property-count .ensures in omega arith)))
-
-valuation-requires : tie.Need-valuation-requires
-valuation-requires c κs = let s = c .before .before .before .before in (s .pre .kept .book, rw (c .before .word .ensures) (s .pre .kept .book .properties (s .args .i) (let e = c .before .before .before .property-count .ensures in omega arith)))
+answer-of-requires : tie.Need-answer-of-requires
+answer-of-requires c κs = search needs
 
 settled-at-requires : tie.Need-settled-at-requires
-settled-at-requires c κs = let s = c .before .before .before .before .before in (s .pre .kept .book, (facts-apart (s .pre .kept) (s .pre .facts-are), rw (c .before .before .word .ensures) (s .pre .kept .book .properties (s .args .i) (let e = c .before .before .before .before .property-count .ensures in omega arith))))
+settled-at-requires c κs = let s = (c .before .before .before .before) in few-count (s .pre .0) (s .pre .1)
 
-returns-2 : tie.Need-returns-2
-returns-2 c = let s = c .before .before .before .before .before .before in sym (verdict-in (s .pre) (s .args .i) (let e = c .before .before .before .before .before .property-count .ensures in omega arith) (c .before .before .before .word .ensures) (c .before .before .output .ensures) (c .before .valuation .ensures) (c .settled-at .ensures))
+answer-of-requires-2 : tie.Need-answer-of-requires-2
+answer-of-requires-2 c κs = search needs
+
+returns : tie.Need-returns
+returns c = let s = (c .before .before .before .before .before .before) in sym (verdict-in (s .pre .0) (s .args .i) (s .pre .1) ((c .before .before .before .before .before) .property-row .ensures) ((c .before .before .before .before) .holds .ensures) ((c .before .before .before) .early-at .ensures) ((c .before .before) .answer-of .ensures) ((c .before) .settled-at .ensures) (c .answer-of2 .ensures))
 
 pub verdict-at-spec : {M : Type 1} → statement M
 verdict-at-spec =
     tie.close
     (tie.spec
-    property-count-requires
-    absent-requires
-    returns
-    add-word
-    word-requires
-    output-requires
-    valuation-requires
+    property-row-requires
+    holds-requires
+    early-at-requires
+    answer-of-requires
     settled-at-requires
-    returns-2)
+    answer-of-requires-2
+    returns)

@@ -9,7 +9,7 @@ use Rattle.pmtl.specs.declared.Answer.{Answer}
 use Rattle.pmtl.specs.Answer.{isOpen}
 use Rattle.pmtl.specs.Book.{Range}
 use Rattle.pmtl.specs.Early.{fromNow}
-use Rattle.row_answers.specs.Facts.{coversIn, goneIn, settledOf, CoversNotGone}
+use Rattle.row_answers.specs.Told.{coversIn, goneIn, settledTold}
 use Rattle.pmtl.specs.Book.Row.{neg, implies, historically, once, since}
 use Rattle.pmtl.specs.Settled.{settledTrue, settledFalse}
 use Rattle.memory.specs.Memory.{rowCount, rangeAt, operandAt}
@@ -17,7 +17,8 @@ use Rattle.book.specs.Rows.{rowFrom, countOf}
 use Rattle.memory.specs.Kept.{BookKept}
 use Rattle.row_answers.specs.Private.{settledSoFar, settledHistorically, settledOnce, settledLeft}
 use Rattle.memory.proofs.Rows.{Read, first-below, second-below, span-rest, walk-cons, below-128}
-use Rattle.row_answers.proofs.Answers.{read-words, zero-words, span-as, answer-read, answer-one, answer-two, walk-falls, row-falls, operand-falls, rest-falls, above, above-most, above-first, above-rest, span-book, past-eight, some-left, first-inside, second-inside}
+use Rattle.row_answers.proofs.Answers.{read-words, zero-words, span-as, answer-read, answer-one, answer-two, walk-falls, row-falls, operand-falls, rest-falls, above, above-most, above-first, above-rest, span-book, past-eight, some-left, first-inside, second-inside, slot-as}
+use Rattle.row_answers.proofs.Told.{not-both}
 use Rattle.row_answers.proofs.Settleds.{settled-and, settled-or, settled-stop, settled-on, settled-not, implies-true, historically-false, historically-asked, once-true, once-asked, since-left, since-right}
 use Prim.Native.Nat.{ℕ, _<_, _+_, _*_, _^_}
 use borrow.Fn.Kinds.{In}
@@ -49,13 +50,13 @@ use Rattle.row_answers.proofs.+settled+settled_since+settled_walk.{stat
 use Rattle.row_answers.proofs.+settled+settled_since+settled_walk.Tie.{close}
 
 abbrev μ-settled : Measures 1 settled-kinds.ps ℕ
-μ-settled κs a = (a .1 .1 .0 + 1) * 2 ^ 64
+μ-settled κs a = (a .1 .0 + 1) * 2 ^ 64
 
 abbrev μ-settled-since : Measures 1 settled-since-kinds.ps ℕ
-μ-settled-since κs a = a .1 .1 .0 * 2 ^ 64 + 1
+μ-settled-since κs a = a .1 .0 * 2 ^ 64 + 1
 
 abbrev μ-settled-walk : Measures 1 settled-walk-kinds.ps ℕ
-μ-settled-walk κs a = above (a .0 .now) (a .1 .1 .0) (a .1 .1 .1 .0) * 2 ^ 64 + a .1 .1 .1 .0
+μ-settled-walk κs a = above (a .0 .now) (a .1 .0) (a .1 .1 .0) * 2 ^ 64 + a .1 .1 .0
 
 abbrev settled-at : ℕ → In 1 settled-kinds.ps
 settled-at t = and 1 settled-kinds.ps (is 1 settled-kinds.ps μ-settled t) settled.Pre
@@ -105,14 +106,14 @@ Place t = settled-lts.After-row-at (settled-calls t) (settled-at t) settled.Post
 
 seen : (t : ℕ) (p : Place t) → let s = p .before in
     Read (s .args .monitor .now) (s .args .row) (p .row-at .result .kind) (p .row-at .result .arg) (p .row-at .result .start)
-seen t p = let s = p .before in read-words (s .args .monitor .now) (s .args .row) (s .pre .1 .0) (s .pre .1 .1 .1) (p .row-at .ensures)
+seen t p = let s = p .before in read-words (s .args .monitor .now) (s .args .row) (s .pre .1 .0) (s .pre .1 .1) (p .row-at .ensures)
 
 -- a row below is asked
 asks : (t : ℕ) (p : Place t) {x : ℕ} → let s = p .before in
-    x < s .args .row → ((x + 1) * 2 ^ 64 < t) × (BookKept (s .args .monitor .now) × (CoversNotGone (s .args .facts .now) × (x < rowCount (s .args .monitor .now))))
+    x < s .args .row → ((x + 1) * 2 ^ 64 < t) × (BookKept (s .args .monitor .now) × (x < rowCount (s .args .monitor .now)))
 asks t p lt =
     let s = p .before in
-    (row-falls (s .pre .0) lt, (s .pre .1 .0, (s .pre .1 .1 .0, lt-trans lt (s .pre .1 .1 .1))))
+    (row-falls (s .pre .0) lt, (s .pre .1 .0, lt-trans lt (s .pre .1 .1)))
 
 -- the row's range, and whether it begins at 0
 abbrev range : (t : ℕ) (p : Place t) → Range
@@ -122,21 +123,21 @@ zero-is : (t : ℕ) (p : Place t) {z : Bool} → z ≡ eqb (p .row-at .result .l
 zero-is t p = let s = p .before in zero-words (s .args .monitor .now) (s .args .row) (p .row-at .ensures)
 
 settled-row-at-requires : (t : ℕ) → settled-lts.Need-row-at-requires (settled-calls t) (settled-at t) settled.Post
-settled-row-at-requires t c κs = below-128 (c .pre .1 .0) (c .pre .1 .1 .1)
+settled-row-at-requires t c κs = below-128 (c .pre .1 .0) (c .pre .1 .1)
 
 settled-settled-walk-requires : (t : ℕ) → settled-lts.Need-settled-walk-requires (settled-calls t) (settled-at t) settled.Post
 unfolding countOf
 settled-settled-walk-requires t c κs =
     let s = (c .before .before) in
     let sp = span-as (seen t (c .before)) (c .match .keys4) in
-    (walk-falls (s .pre .0) (above-most (c .before .row-at .result .arg) sp) (omega (arith, sp .inside)), (s .pre .1 .0, (s .pre .1 .1 .0, span-book sp (s .pre .1 .1 .1))))
+    (walk-falls (s .pre .0) (above-most (c .before .row-at .result .arg) sp) (omega (arith, sp .inside)), (s .pre .1 .0, span-book sp (s .pre .1 .1)))
 
 settled-settled-walk-requires-2 : (t : ℕ) → settled-lts.Need-settled-walk-requires-2 (settled-calls t) (settled-at t) settled.Post
 unfolding countOf
 settled-settled-walk-requires-2 t c κs =
     let s = (c .before .before) in
     let sp = span-as (seen t (c .before)) (c .match .keys5) in
-    (walk-falls (s .pre .0) (above-most (c .before .row-at .result .arg) sp) (omega (arith, sp .inside)), (s .pre .1 .0, (s .pre .1 .1 .0, span-book sp (s .pre .1 .1 .1))))
+    (walk-falls (s .pre .0) (above-most (c .before .row-at .result .arg) sp) (omega (arith, sp .inside)), (s .pre .1 .0, span-book sp (s .pre .1 .1)))
 
 settled-operand-at-requires : (t : ℕ) → settled-lts.Need-operand-at-requires (settled-calls t) (settled-at t) settled.Post
 unfolding countOf
@@ -183,7 +184,7 @@ settled-implied-requires : (t : ℕ) → settled-lts.Need-implied-requires (sett
 settled-implied-requires t c κs = search needs
 
 settled-covers-at-requires : (t : ℕ) → settled-lts.Need-covers-at-requires (settled-calls t) (settled-at t) settled.Post
-settled-covers-at-requires t c κs = below-128 (c .before .before .pre .1 .0) (c .before .before .pre .1 .1 .1)
+settled-covers-at-requires t c κs = slot-as (seen t (c .before)) (c .match .keys8) (lit≤ tt)
 
 settled-returns-2 : (t : ℕ) → settled-lts.Need-returns-2 (settled-calls t) (settled-at t) settled.Post
 unfolding rowFrom countOf
@@ -191,7 +192,7 @@ settled-returns-2 t c =
     let s = (c .before .before .before .before) in
     let covered = sym (c .before .covers-at .ensures) ∙ c .if2 .taken in
     sym (answer-one _ _ (seen t (c .before .before .before)) (c .before .before .match .keys8) (historically (range t (c .before .before .before))) (λ os. refl) (lit< tt) refl refl
-    ∙ historically-false _ _ (range t (c .before .before .before)) _ covered (s .pre .1 .1 .0 .not-gone (s .args .row) covered))
+    ∙ historically-false _ _ (range t (c .before .before .before)) _ covered (not-both (s .args .monitor .now) (s .args .row) covered))
 
 settled-operand-at-requires-4 : (t : ℕ) → settled-lts.Need-operand-at-requires-4 (settled-calls t) (settled-at t) settled.Post
 unfolding countOf
@@ -205,13 +206,13 @@ settled-from-now-requires : (t : ℕ) → settled-lts.Need-from-now-requires (se
 settled-from-now-requires t c κs = search needs
 
 settled-gone-at-requires : (t : ℕ) → settled-lts.Need-gone-at-requires (settled-calls t) (settled-at t) settled.Post
-settled-gone-at-requires t c κs = below-128 (c .before .before .before .before .before .before .before .pre .1 .0) (c .before .before .before .before .before .before .before .pre .1 .1 .1)
+settled-gone-at-requires t c κs = slot-as (seen t (c .before .before .before .before .before .before)) (c .before .before .before .before .before .match .keys8) (lit≤ tt)
 
 settled-settled-historically-requires : (t : ℕ) → settled-lts.Need-settled-historically-requires (settled-calls t) (settled-at t) settled.Post
 settled-settled-historically-requires t c κs = search needs
 
 settled-covers-at-requires-2 : (t : ℕ) → settled-lts.Need-covers-at-requires-2 (settled-calls t) (settled-at t) settled.Post
-settled-covers-at-requires-2 t c κs = below-128 (c .before .before .pre .1 .0) (c .before .before .pre .1 .1 .1)
+settled-covers-at-requires-2 t c κs = slot-as (seen t (c .before)) (c .match .keys9) (lit≤ tt)
 
 settled-returns-3 : (t : ℕ) → settled-lts.Need-returns-3 (settled-calls t) (settled-at t) settled.Post
 unfolding rowFrom countOf
@@ -231,7 +232,7 @@ settled-from-now-requires-2 : (t : ℕ) → settled-lts.Need-from-now-requires-2
 settled-from-now-requires-2 t c κs = search needs
 
 settled-gone-at-requires-2 : (t : ℕ) → settled-lts.Need-gone-at-requires-2 (settled-calls t) (settled-at t) settled.Post
-settled-gone-at-requires-2 t c κs = below-128 (c .before .before .before .before .before .before .before .pre .1 .0) (c .before .before .before .before .before .before .before .pre .1 .1 .1)
+settled-gone-at-requires-2 t c κs = slot-as (seen t (c .before .before .before .before .before .before)) (c .before .before .before .before .before .match .keys9) (lit≤ tt)
 
 settled-settled-once-requires : (t : ℕ) → settled-lts.Need-settled-once-requires (settled-calls t) (settled-at t) settled.Post
 settled-settled-once-requires t c κs = search needs
@@ -241,7 +242,7 @@ unfolding countOf
 settled-settled-since-requires t c κs =
     let s = (c .before .before) in
     let e = seen t (c .before) in
-    (walk-falls (s .pre .0) (le-refl (s .args .row)) (lit≤ tt), (s .pre .1 .0, (s .pre .1 .1 .0, (s .pre .1 .1 .1, (span-as e (past-eight e (c .match .rest)), c .before .row-at .ensures)))))
+    (walk-falls (s .pre .0) (le-refl (s .args .row)) (lit≤ tt), (s .pre .1 .0, (s .pre .1 .1, (span-as e (past-eight e (c .match .rest)), (c .before .row-at .ensures, slot-as e (past-eight e (c .match .rest)) (lit≤ tt) .1)))))
 
 settled-returns-4 : (t : ℕ) → settled-lts.Need-returns-4 (settled-calls t) (settled-at t) settled.Post
 unfolding settledTrue settledFalse rowFrom countOf
@@ -302,34 +303,34 @@ module _ {t : ℕ} (s : settled-since-lts.Start (settled-since-calls t) (settled
   since-range = rangeAt (s .args .monitor .now) (s .args .row)
 
   abbrev answers : ℕ → Answer
-  answers = settledOf (s .args .monitor .now) (s .args .facts .now)
+  answers = settledTold (s .args .monitor .now)
 
   since-zero : {z : Bool} → z ≡ eqb (s .args .words .lower) 0 → z ≡ fromNow since-range
-  since-zero = zero-words (s .args .monitor .now) (s .args .row) (s .pre .1 .1 .1 .1 .1)
+  since-zero = zero-words (s .args .monitor .now) (s .args .row) (s .pre .1 .1 .1 .1 .0)
 
 left-is : (t : ℕ) (p : settled-since-lts.After-settled-left (settled-since-calls t) (settled-since-at t) settled-since.Post) → let s = p .before .before .before .before .before in
-    p .settled-left .result ≡ settledLeft (fromNow (since-range s)) (coversIn (s .args .facts .now) (s .args .row)) (answers s (operandAt (s .args .monitor .now) (s .args .words .start)))
+    p .settled-left .result ≡ settledLeft (fromNow (since-range s)) (coversIn (s .args .monitor .now) (s .args .row)) (answers s (operandAt (s .args .monitor .now) (s .args .words .start)))
 left-is t p =
     let s = p .before .before .before .before .before in
     let left = p .before .before .before .settled in
     p .settled-left .ensures
     ∙ ap₂ (λ z k. settledLeft z k (left .result)) (since-zero s (p .before .before .from-now .ensures)) (p .before .covers-at .ensures)
-    ∙ ap (λ x. settledLeft (fromNow (since-range s)) (coversIn (s .args .facts .now) (s .args .row)) x) (left .ensures ∙ ap (answers s) (p .before .before .before .before .operand-at .ensures))
+    ∙ ap (λ x. settledLeft (fromNow (since-range s)) (coversIn (s .args .monitor .now) (s .args .row)) x) (left .ensures ∙ ap (answers s) (p .before .before .before .before .operand-at .ensures))
 
 settled-since-operand-at-requires : (t : ℕ) → settled-since-lts.Need-operand-at-requires (settled-since-calls t) (settled-since-at t) settled-since.Post
-settled-since-operand-at-requires t c κs = let s = c in omega (arith, s .pre .1 .1 .1 .1 .0 .inside)
+settled-since-operand-at-requires t c κs = let s = c in omega (arith, s .pre .1 .1 .1 .0 .inside)
 
 settled-since-settled-requires : (t : ℕ) → settled-since-lts.Need-settled-requires (settled-since-calls t) (settled-since-at t) settled-since.Post
 settled-since-settled-requires t c κs =
     let s = (c .before) in
-    let lt = first-below (s .pre .1 .1 .1 .1 .0) (lit< tt) (c .operand-at .ensures) in
-    (operand-falls (s .pre .0) lt (lit< tt), (s .pre .1 .0, (s .pre .1 .1 .0, lt-trans lt (s .pre .1 .1 .1 .0))))
+    let lt = first-below (s .pre .1 .1 .1 .0) (lit< tt) (c .operand-at .ensures) in
+    (operand-falls (s .pre .0) lt (lit< tt), (s .pre .1 .0, lt-trans lt (s .pre .1 .1 .0)))
 
 settled-since-from-now-requires : (t : ℕ) → settled-since-lts.Need-from-now-requires (settled-since-calls t) (settled-since-at t) settled-since.Post
 settled-since-from-now-requires t c κs = search needs
 
 settled-since-covers-at-requires : (t : ℕ) → settled-since-lts.Need-covers-at-requires (settled-since-calls t) (settled-since-at t) settled-since.Post
-settled-since-covers-at-requires t c κs = let s = (c .before .before .before) in below-128 (s .pre .1 .0) (s .pre .1 .1 .1 .0)
+settled-since-covers-at-requires t c κs = let s = (c .before .before .before) in (below-128 (s .pre .1 .0) (s .pre .1 .1 .0), s .pre .1 .1 .1 .1 .1)
 
 settled-since-settled-left-requires : (t : ℕ) → settled-since-lts.Need-settled-left-requires (settled-since-calls t) (settled-since-at t) settled-since.Post
 settled-since-settled-left-requires t c κs = search needs
@@ -338,22 +339,22 @@ settled-since-is-open-requires : (t : ℕ) → settled-since-lts.Need-is-open-re
 settled-since-is-open-requires t c κs = search needs
 
 settled-since-add-operand-at : (t : ℕ) → settled-since-lts.Need-add-operand-at (settled-since-calls t) (settled-since-at t) settled-since.Post
-settled-since-add-operand-at t c = let s = (c .before .before .before .before .before .before .before .before) in omega (arith, s .pre .1 .1 .1 .1 .0 .inside)
+settled-since-add-operand-at t c = let s = (c .before .before .before .before .before .before .before .before) in omega (arith, s .pre .1 .1 .1 .0 .inside)
 
 settled-since-operand-at-requires-2 : (t : ℕ) → settled-since-lts.Need-operand-at-requires-2 (settled-since-calls t) (settled-since-at t) settled-since.Post
-settled-since-operand-at-requires-2 t c κs = let s = (c .before .before .before .before .before .before .before .before) in omega (arith, s .pre .1 .1 .1 .1 .0 .inside)
+settled-since-operand-at-requires-2 t c κs = let s = (c .before .before .before .before .before .before .before .before) in omega (arith, s .pre .1 .1 .1 .0 .inside)
 
 settled-since-settled-requires-2 : (t : ℕ) → settled-since-lts.Need-settled-requires-2 (settled-since-calls t) (settled-since-at t) settled-since.Post
 settled-since-settled-requires-2 t c κs =
     let s = (c .before .before .before .before .before .before .before .before .before) in
-    let lt = second-below (s .pre .1 .1 .1 .1 .0) (lit< tt) (c .operand-at2 .ensures) in
-    (operand-falls (s .pre .0) lt (lit< tt), (s .pre .1 .0, (s .pre .1 .1 .0, lt-trans lt (s .pre .1 .1 .1 .0))))
+    let lt = second-below (s .pre .1 .1 .1 .0) (lit< tt) (c .operand-at2 .ensures) in
+    (operand-falls (s .pre .0) lt (lit< tt), (s .pre .1 .0, lt-trans lt (s .pre .1 .1 .0)))
 
 settled-since-from-now-requires-2 : (t : ℕ) → settled-since-lts.Need-from-now-requires-2 (settled-since-calls t) (settled-since-at t) settled-since.Post
 settled-since-from-now-requires-2 t c κs = search needs
 
 settled-since-gone-at-requires : (t : ℕ) → settled-since-lts.Need-gone-at-requires (settled-since-calls t) (settled-since-at t) settled-since.Post
-settled-since-gone-at-requires t c κs = let s = (c .before .before .before .before .before .before .before .before .before .before .before) in below-128 (s .pre .1 .0) (s .pre .1 .1 .1 .0)
+settled-since-gone-at-requires t c κs = let s = (c .before .before .before .before .before .before .before .before .before .before .before) in (below-128 (s .pre .1 .0) (s .pre .1 .1 .0), s .pre .1 .1 .1 .1 .1)
 
 settled-since-settled-once-requires : (t : ℕ) → settled-since-lts.Need-settled-once-requires (settled-since-calls t) (settled-since-at t) settled-since.Post
 settled-since-settled-once-requires t c κs = search needs
@@ -364,7 +365,7 @@ settled-since-returns t c =
     let right = c .before .before .before .settled2 in
     c .settled-once .ensures
     ∙ ap₂ (λ z n. settledOnce z n (right .result)) (since-zero s (c .before .before .from-now2 .ensures)) (c .before .gone-at .ensures)
-    ∙ ap (λ x. settledOnce (fromNow (since-range s)) (goneIn (s .args .facts .now) (s .args .row)) x) (right .ensures ∙ ap (answers s) (c .before .before .before .before .operand-at2 .ensures))
+    ∙ ap (λ x. settledOnce (fromNow (since-range s)) (goneIn (s .args .monitor .now) (s .args .row)) x) (right .ensures ∙ ap (answers s) (c .before .before .before .before .operand-at2 .ensures))
     ∙ sym (since-right _ _ (since-range s) _ _ (ap isOpen (sym (left-is t (c .before .before .before .before .before .before .before .before))) ∙ sym (c .before .before .before .before .before .before .before .is-open .ensures) ∙ c .before .before .before .before .before .before .if1 .taken))
 
 settled-since-returns-2 : (t : ℕ) → settled-since-lts.Need-returns-2 (settled-since-calls t) (settled-since-at t) settled-since.Post
@@ -377,14 +378,14 @@ unfolding settledSoFar
 settled-walk-returns t c = rw (c .if1 .taken)
 
 settled-walk-operand-at-requires : (t : ℕ) → settled-walk-lts.Need-operand-at-requires (settled-walk-calls t) (settled-walk-at t) settled-walk.Post
-settled-walk-operand-at-requires t c κs = let s = (c .before) in omega (arith, s .pre .1 .1 .1 .inside, c .if1 .left)
+settled-walk-operand-at-requires t c κs = let s = (c .before) in omega (arith, s .pre .1 .1 .inside, c .if1 .left)
 
 settled-walk-settled-requires : (t : ℕ) → settled-walk-lts.Need-settled-requires (settled-walk-calls t) (settled-walk-at t) settled-walk.Post
 settled-walk-settled-requires t c κs =
     let s = (c .before .before) in
     let more = some-left (c .before .if1 .left) in
     let e = c .operand-at .ensures in
-    (operand-falls (s .pre .0) (above-first (s .args .monitor .now) (s .args .place) (s .args .left) more e) more, (s .pre .1 .0, (s .pre .1 .1 .0, first-below (s .pre .1 .1 .1) more e)))
+    (operand-falls (s .pre .0) (above-first (s .args .monitor .now) (s .args .place) (s .args .left) more e) more, (s .pre .1 .0, first-below (s .pre .1 .1) more e))
 
 settled-walk-decides-it-requires : (t : ℕ) → settled-walk-lts.Need-decides-it-requires (settled-walk-calls t) (settled-walk-at t) settled-walk.Post
 settled-walk-decides-it-requires t c κs = search needs
@@ -393,10 +394,10 @@ settled-walk-returns-2 : (t : ℕ) → settled-walk-lts.Need-returns-2 (settled-
 settled-walk-returns-2 t c =
     let s = (c .before .before .before .before .before) in
     settled-stop (s .args .any) (s .args .sofar) (c .before .before .settled .result) _ (sym (c .before .decides-it .ensures) ∙ c .if2 .taken)
-    ∙ ap (settledSoFar (s .args .any) (s .args .sofar)) (sym (walk-cons _ (s .pre .1 .0 .long) (s .pre .1 .1 .1) (some-left (c .before .before .before .before .if1 .left)) (c .before .before .before .operand-at .ensures) (c .before .before .settled .ensures)))
+    ∙ ap (settledSoFar (s .args .any) (s .args .sofar)) (sym (walk-cons _ (s .pre .1 .0 .long) (s .pre .1 .1) (some-left (c .before .before .before .before .if1 .left)) (c .before .before .before .operand-at .ensures) (c .before .before .settled .ensures)))
 
 settled-walk-add-settled-walk : (t : ℕ) → settled-walk-lts.Need-add-settled-walk (settled-walk-calls t) (settled-walk-at t) settled-walk.Post
-settled-walk-add-settled-walk t c = let s = (c .before .before .before .before .before) in omega (arith, s .pre .1 .1 .1 .inside)
+settled-walk-add-settled-walk t c = let s = (c .before .before .before .before .before) in omega (arith, s .pre .1 .1 .inside)
 
 settled-walk-sub-settled-walk : (t : ℕ) → settled-walk-lts.Need-sub-settled-walk (settled-walk-calls t) (settled-walk-at t) settled-walk.Post
 settled-walk-sub-settled-walk t c = some-left (c .before .before .before .before .if1 .left)
@@ -408,14 +409,14 @@ settled-walk-settled-walk-requires : (t : ℕ) → settled-walk-lts.Need-settled
 settled-walk-settled-walk-requires t c κs =
     let s = (c .before .before .before .before .before .before) in
     let more = some-left (c .before .before .before .before .before .if1 .left) in
-    (rest-falls (s .pre .0) (above-rest (s .args .monitor .now) (s .args .place) (s .args .left) more) more, (s .pre .1 .0, (s .pre .1 .1 .0, span-rest (s .pre .1 .1 .1) more)))
+    (rest-falls (s .pre .0) (above-rest (s .args .monitor .now) (s .args .place) (s .args .left) more) more, (s .pre .1 .0, span-rest (s .pre .1 .1) more))
 
 settled-walk-returns-3 : (t : ℕ) → settled-walk-lts.Need-returns-3 (settled-walk-calls t) (settled-walk-at t) settled-walk.Post
 settled-walk-returns-3 t c =
     let s = (c .before .before .before .before .before .before .before) in
     c .settled-walk .ensures
     ∙ settled-on (s .args .any) (s .args .sofar) (c .before .before .before .before .settled .result) _ (sym (c .before .before .before .decides-it .ensures) ∙ c .before .before .if2 .left) (c .before .taken-in .ensures)
-    ∙ ap (settledSoFar (s .args .any) (s .args .sofar)) (sym (walk-cons _ (s .pre .1 .0 .long) (s .pre .1 .1 .1) (some-left (c .before .before .before .before .before .before .if1 .left)) (c .before .before .before .before .before .operand-at .ensures) (c .before .before .before .before .settled .ensures)))
+    ∙ ap (settledSoFar (s .args .any) (s .args .sofar)) (sym (walk-cons _ (s .pre .1 .0 .long) (s .pre .1 .1) (some-left (c .before .before .before .before .before .before .if1 .left)) (c .before .before .before .before .before .operand-at .ensures) (c .before .before .before .before .settled .ensures)))
 
 pub +settled+settled-since+settled-walk-spec : {M : Type 1} → statement M
 +settled+settled-since+settled-walk-spec =

@@ -13,10 +13,10 @@ use Rattle.pmtl.specs.Early.{earlyRule, fromNow}
 use Rattle.memory.specs.Memory.{rowCount, rangeAt, operandAt}
 use Rattle.book.specs.Rows.{rowFrom, countOf}
 use Rattle.memory.specs.Kept.{BookKept}
-use Rattle.row_answers.specs.Facts.{valuationOf}
+use Rattle.row_answers.specs.Told.{earlyTold}
 use Rattle.row_answers.specs.Private.{earlySoFar, earlyHistorically, earlyOnce, earlyCovered}
 use Rattle.memory.proofs.Rows.{Read, first-below, second-below, span-rest, walk-cons, below-128}
-use Rattle.row_answers.proofs.Answers.{read-words, zero-words, span-as, answer-read, answer-one, answer-two, walk-falls, row-falls, operand-falls, rest-falls, above, above-most, above-first, above-rest, span-book, past-eight, some-left, first-inside, second-inside}
+use Rattle.row_answers.proofs.Answers.{read-words, zero-words, span-as, answer-read, answer-one, answer-two, walk-falls, row-falls, operand-falls, rest-falls, above, above-most, above-first, above-rest, span-book, past-eight, some-left, first-inside, second-inside, slot-as}
 use Rattle.row_answers.proofs.Earlies.{early-and, early-or, early-stop, early-on, implies-true, since-false, since-open, since-covered}
 use Prim.Native.Nat.{ℕ, _<_, _+_, _*_, _^_}
 use borrow.Fn.Kinds.{In}
@@ -47,13 +47,13 @@ use Rattle.row_answers.proofs.+valuation+valuation_since+valuation_walk
 use Rattle.row_answers.proofs.+valuation+valuation_since+valuation_walk.Tie.{close}
 
 abbrev μ-valuation : Measures 1 valuation-kinds.ps ℕ
-μ-valuation κs a = (a .1 .1 .0 + 1) * 2 ^ 64
+μ-valuation κs a = (a .1 .0 + 1) * 2 ^ 64
 
 abbrev μ-valuation-since : Measures 1 valuation-since-kinds.ps ℕ
-μ-valuation-since κs a = a .1 .1 .0 * 2 ^ 64 + 1
+μ-valuation-since κs a = a .1 .0 * 2 ^ 64 + 1
 
 abbrev μ-valuation-walk : Measures 1 valuation-walk-kinds.ps ℕ
-μ-valuation-walk κs a = above (a .0 .now) (a .1 .1 .0) (a .1 .1 .1 .0) * 2 ^ 64 + a .1 .1 .1 .0
+μ-valuation-walk κs a = above (a .0 .now) (a .1 .0) (a .1 .1 .0) * 2 ^ 64 + a .1 .1 .0
 
 abbrev valuation-at : ℕ → In 1 valuation-kinds.ps
 valuation-at t = and 1 valuation-kinds.ps (is 1 valuation-kinds.ps μ-valuation t) valuation.Pre
@@ -201,7 +201,7 @@ valuation-from-now-requires : (t : ℕ) → valuation-lts.Need-from-now-requires
 valuation-from-now-requires t c κs = search needs
 
 valuation-covers-at-requires : (t : ℕ) → valuation-lts.Need-covers-at-requires (valuation-calls t) (valuation-at t) valuation.Post
-valuation-covers-at-requires t c κs = below-128 (c .before .before .before .before .before .pre .1 .0) (c .before .before .before .before .before .pre .1 .1)
+valuation-covers-at-requires t c κs = slot-as (seen t (c .before .before .before .before)) (c .before .before .before .match .keys8) (lit≤ tt)
 
 valuation-early-historically-requires : (t : ℕ) → valuation-lts.Need-early-historically-requires (valuation-calls t) (valuation-at t) valuation.Post
 valuation-early-historically-requires t c κs = search needs
@@ -218,7 +218,7 @@ valuation-from-now-requires-2 : (t : ℕ) → valuation-lts.Need-from-now-requir
 valuation-from-now-requires-2 t c κs = search needs
 
 valuation-covers-at-requires-2 : (t : ℕ) → valuation-lts.Need-covers-at-requires-2 (valuation-calls t) (valuation-at t) valuation.Post
-valuation-covers-at-requires-2 t c κs = below-128 (c .before .before .before .before .before .pre .1 .0) (c .before .before .before .before .before .pre .1 .1)
+valuation-covers-at-requires-2 t c κs = slot-as (seen t (c .before .before .before .before)) (c .before .before .before .match .keys9) (lit≤ tt)
 
 valuation-early-once-requires : (t : ℕ) → valuation-lts.Need-early-once-requires (valuation-calls t) (valuation-at t) valuation.Post
 valuation-early-once-requires t c κs = search needs
@@ -228,7 +228,7 @@ unfolding countOf
 valuation-valuation-since-requires t c κs =
     let s = (c .before .before) in
     let e = seen t (c .before) in
-    (walk-falls (s .pre .0) (le-refl (s .args .row)) (lit≤ tt), (s .pre .1 .0, (s .pre .1 .1, (span-as e (past-eight e (c .match .rest)), c .before .row-at .ensures))))
+    (walk-falls (s .pre .0) (le-refl (s .args .row)) (lit≤ tt), (s .pre .1 .0, (s .pre .1 .1, (span-as e (past-eight e (c .match .rest)), (c .before .row-at .ensures, slot-as e (past-eight e (c .match .rest)) (lit≤ tt) .1)))))
 
 valuation-returns-2 : (t : ℕ) → valuation-lts.Need-returns-2 (valuation-calls t) (valuation-at t) valuation.Post
 unfolding earlyRule rowFrom countOf
@@ -287,10 +287,10 @@ module _ {t : ℕ} (s : valuation-since-lts.Start (valuation-since-calls t) (val
   since-range = rangeAt (s .args .monitor .now) (s .args .row)
 
   abbrev answers : ℕ → Answer
-  answers = valuationOf (s .args .monitor .now) (s .args .facts .now)
+  answers = earlyTold (s .args .monitor .now)
 
   since-zero : {z : Bool} → z ≡ eqb (s .args .words .lower) 0 → z ≡ fromNow since-range
-  since-zero = zero-words (s .args .monitor .now) (s .args .row) (s .pre .1 .1 .1 .1)
+  since-zero = zero-words (s .args .monitor .now) (s .args .row) (s .pre .1 .1 .1 .1 .0)
 
 -- right is false, or not
 right-is : (t : ℕ) (p : valuation-since-lts.After-is-false (valuation-since-calls t) (valuation-since-at t) valuation-since.Post) → let s = p .before .before .before .before in
@@ -320,7 +320,7 @@ valuation-since-returns t c =
     sym (since-false _ (since-range s) _ _ (sym (right-is t (c .before)) ∙ c .if1 .taken))
 
 valuation-since-covers-at-requires : (t : ℕ) → valuation-since-lts.Need-covers-at-requires (valuation-since-calls t) (valuation-since-at t) valuation-since.Post
-valuation-since-covers-at-requires t c κs = let s = (c .before .before .before .before .before) in below-128 (s .pre .1 .0) (s .pre .1 .1 .0)
+valuation-since-covers-at-requires t c κs = let s = (c .before .before .before .before .before) in (below-128 (s .pre .1 .0) (s .pre .1 .1 .0), s .pre .1 .1 .1 .1 .1)
 
 valuation-since-operand-at-requires-2 : (t : ℕ) → valuation-since-lts.Need-operand-at-requires-2 (valuation-since-calls t) (valuation-since-at t) valuation-since.Post
 valuation-since-operand-at-requires-2 t c κs = let s = (c .before .before .before .before .before .before .before) in omega (arith, s .pre .1 .1 .1 .0 .inside)

@@ -2,19 +2,29 @@
 use mathlib.Core.Path.{_∙_, sym}
 use Prim.Native.Nat.{_-_}
 use Rattle.text_reader.specs.Reads.{BytesRead}
-use Rattle.text_reader.proofs.Taking.{number, Turning, turn-start, turn-more, turn-stop, turn-done}
+use Rattle.text_reader.proofs.Taking.{number, Turning, turn-told, room-kept, turn-more, turn-stop, turn-done}
+use native.Mathlib.Omega.{arith}
 use borrow.Author.Needs.{needs}
 use Rattle.text_reader.proofs.bytes_into.Statement.{statement}
 use Rattle.text_reader.proofs.bytes_into.Tie as tie
 
 abbrev Inv-loop : tie.InvT-loop
-Inv-loop input cursor count bytes₀ from₀ i₀ bytes from i = Turning input cursor count bytes₀ bytes i from
+Inv-loop input cursor count bytes₀ i₀ from₀ bytes i from = Turning input cursor count bytes₀ bytes i from
 
 abbrev μ-loop : tie.MeasureT-loop
-μ-loop input cursor count bytes₀ from₀ i₀ bytes from i = count - i
+μ-loop input cursor count bytes₀ i₀ from₀ bytes i from = count - i
+
+bits-requires : tie.Need-bits-requires Inv-loop μ-loop
+bits-requires c κs = search needs
+
+mul-from : tie.Need-mul-from Inv-loop μ-loop
+mul-from c = let b = c .before .before .bits .ensures in omega (arith, b .within)
+
+add-from : tie.Need-add-from Inv-loop μ-loop
+add-from c = let b = c .before .before .bits .ensures in omega (arith, b .within)
 
 loop-holds : tie.Need-loop-holds Inv-loop μ-loop
-loop-holds c = turn-start _ _ _ _
+loop-holds c = turn-told (c .before .before .bits .ensures)
 
 next-short-requires : tie.Need-next-short-requires Inv-loop μ-loop
 next-short-requires c κs = search needs
@@ -48,7 +58,7 @@ loop-less : tie.Need-loop-less Inv-loop μ-loop
 loop-less c = search needs
 
 loop-again : tie.Need-loop-again Inv-loop μ-loop
-loop-again c = turn-more (c .before .before .before .before .before .before .loop .inv) (sym (c .before .before .before .before .next-short .ensures) ∙ c .before .before .r .given .1) (c .byte-of .ensures) (c .before .before .before .before .before .loop-test .taken) (c .before .before .before .before .before .before .before .before .before .pre)
+loop-again c = turn-more (c .before .before .before .before .before .before .loop .inv) (sym (c .before .before .before .before .next-short .ensures) ∙ c .before .before .r .given .1) (c .byte-of .ensures) (c .before .before .before .before .before .loop-test .taken) (room-kept (c .before .before .before .before .before .before .before .before .before .before .before .before .before .pre) (c .before .before .before .before .before .before .before .before .before .bits .kept .1 .1 .1 .0))
 
 same-length-2 : tie.Need-same-length-2 Inv-loop μ-loop
 same-length-2 c = search needs
@@ -63,6 +73,9 @@ bytes-into-spec =
     (tie.spec
     Inv-loop
     μ-loop
+    bits-requires
+    mul-from
+    add-from
     loop-holds
     next-short-requires
     enum-known-r

@@ -5,10 +5,10 @@ use Rattle.report.proofs.lines.put_call.Statement.{statement}
 use Rattle.report.proofs.lines.put_call.Tie as tie
 
 put-numbers-requires : tie.Need-put-numbers-requires
-put-numbers-requires c κs = search needs
+put-numbers-requires c κs = c .before .before .before .pre .1
 
 put-words-requires : tie.Need-put-words-requires
-put-words-requires c κs = let s = c .before .before .before .before .before .before .before in s .pre (c .before .if1 .taken)
+put-words-requires c κs = c .before .before .before .before .before .before .before .before .pre .0
 
 slice-aggregate-put-bytes : tie.Need-slice-aggregate-put-bytes
 slice-aggregate-put-bytes c = search needs
@@ -20,7 +20,7 @@ same-length : tie.Need-same-length
 same-length c = search needs
 
 returns : tie.Need-returns
-returns c = line-accepted _ _ _ (c .before .before .before .before .before .before .before .before .before .before .before .before .put-numbers .ensures) (c .before .before .before .before .before .before .before .before .before .if1 .taken) (c .before .before .before .before .before .before .before .put-words .ensures) (c .before .before .put-bytes .ensures)
+returns c = line-accepted _ _ _ ((c .before .before .before .before .before .before .before .before .before .before .before .before) .put-numbers .ensures) ((c .before .before .before .before .before .before .before .before .before) .if1 .taken) ((c .before .before .before .before .before .before .before) .put-words .ensures) ((c .before .before) .put-bytes .ensures)
 
 slice-aggregate-put-bytes-2 : tie.Need-slice-aggregate-put-bytes-2
 slice-aggregate-put-bytes-2 c = search needs
@@ -32,7 +32,7 @@ same-length-2 : tie.Need-same-length-2
 same-length-2 c = search needs
 
 returns-2 : tie.Need-returns-2
-returns-2 c = line-refused _ _ _ (c .before .before .before .before .before .before .before .before .put-numbers .ensures) (c .before .before .before .before .before .if1 .left) (c .before .before .put-bytes2 .ensures)
+returns-2 c = line-refused _ _ _ ((c .before .before .before .before .before .before .before .before) .put-numbers .ensures) ((c .before .before .before .before .before) .if1 .left) ((c .before .before) .put-bytes2 .ensures)
 
 pub put-call-spec : {M : Type 1} → statement M
 put-call-spec =

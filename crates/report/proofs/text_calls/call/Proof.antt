@@ -27,13 +27,13 @@ time-call-requires : tie.Need-time-call-requires
 time-call-requires c κs = search needs
 
 returns-2 : tie.Need-returns-2
-returns-2 c = turned-time _ _ (sym (c .before .before .before .before .before .before .before .next-short .ensures) ∙ c .before .before .before .before .before .r .given .1) _ _ _ _ (c .before .before .before .if1 .taken) (c .time-call .ensures)
+returns-2 c = turned-time _ _ (sym ((c .before .before .before .before .before .before) .next-short .ensures) ∙ (c .before .before .before .before) .r .given .1) _ _ _ ((c .before .before) .if1 .taken) (c .time-call .ensures)
 
 state-call-requires : tie.Need-state-call-requires
 state-call-requires c κs = search needs
 
 returns-3 : tie.Need-returns-3
-returns-3 c = turned-state _ _ (sym (c .before .before .before .before .before .before .before .before .before .next-short .ensures) ∙ c .before .before .before .before .before .before .before .r .given .1) _ _ _ _ (c .before .before .before .before .if2 .taken) (c .state-call .ensures)
+returns-3 c = turned-state _ _ (sym ((c .before .before .before .before .before .before .before .before) .next-short .ensures) ∙ (c .before .before .before .before .before .before) .r .given .1) _ _ _ ((c .before .before .before) .if2 .taken) (c .state-call .ensures)
 
 returns-4 : tie.Need-returns-4
 unfolding Turned

@@ -25,11 +25,11 @@ unfolding Turned
 returns c = let e = c .before .enum-told .given .1 in no-state _ _ _ (c .before .before .before .state .ensures) e (c .part-number .ensures ∙ sym (part-refused e))
 
 state-made-requires : tie.Need-state-made-requires
-state-made-requires c κs = let k = state-there _ _ _ (c .before .before .before .before .before .before .before .state .ensures) (c .before .before .before .before .before .p .given .1) in (c .before .before .before .before .before .before .before .before .before .before .pre, omega (arith, k .place))
+state-made-requires c κs = let k = state-there _ _ _ ((c .before .before .before .before .before .before) .state .ensures) ((c .before .before .before .before) .p .given .1) in ((c .before .before .before .before .before .before .before .before .before) .pre, omega (arith, k .place))
 
 returns-2 : tie.Need-returns-2
 unfolding Turned
-returns-2 c = stated _ _ (state-there _ _ _ (c .before .before .before .before .before .before .before .before .state .ensures) (c .before .before .before .before .before .before .p .given .1)) (c .state-made .ensures)
+returns-2 c = stated _ _ (state-there _ _ _ ((c .before .before .before .before .before .before .before) .state .ensures) ((c .before .before .before .before .before) .p .given .1)) (c .state-made .ensures)
 
 pub state-call-spec : {M : Type 1} → statement M
 state-call-spec =

@@ -5,14 +5,14 @@ use borrow.Author.Needs.{needs}
 use Rattle.report.proofs.text_calls.state_made.Statement.{statement}
 use Rattle.report.proofs.text_calls.state_made.Tie as tie
 
-slice-aggregate-update-state-here : tie.Need-slice-aggregate-update-state-here
-slice-aggregate-update-state-here c = sym (length-take-le _ _ (c .before .before .before .pre .1))
+slice-aggregate-update-state : tie.Need-slice-aggregate-update-state
+slice-aggregate-update-state c = sym (length-take-le _ _ (c .before .before .before .pre .1))
 
-update-state-here-requires : tie.Need-update-state-here-requires
-update-state-here-requires c κs = search needs
+update-state-requires : tie.Need-update-state-requires
+update-state-requires c κs = search needs
 
 returns : tie.Need-returns
 returns c = search needs
 
 pub state-made-spec : {M : Type 1} → statement M
-state-made-spec = tie.close (tie.spec slice-aggregate-update-state-here update-state-here-requires returns)
+state-made-spec = tie.close (tie.spec slice-aggregate-update-state update-state-requires returns)

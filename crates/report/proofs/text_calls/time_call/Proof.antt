@@ -23,12 +23,12 @@ returns : tie.Need-returns
 unfolding Turned
 returns c = let e = c .before .enum-told .given .1 in no-time _ _ (sym (c .before .before .before .next-word .ensures) ∙ e) (c .number-of .ensures ∙ sym (number e))
 
-update-time-here-requires : tie.Need-update-time-here-requires
-update-time-here-requires c κs = search needs
+update-time-requires : tie.Need-update-time-requires
+update-time-requires c κs = search needs
 
 returns-2 : tie.Need-returns-2
 unfolding Turned
-returns-2 c = timed _ _ (sym (c .before .before .before .before .before .before .next-word .ensures) ∙ c .before .before .before .before .r .given .1) (c .update-time-here .ensures)
+returns-2 c = timed _ _ (sym ((c .before .before .before .before .before) .next-word .ensures) ∙ (c .before .before .before) .r .given .1) (c .update-time .ensures)
 
 pub time-call-spec : {M : Type 1} → statement M
 time-call-spec =
@@ -39,5 +39,5 @@ time-call-spec =
     enum-told
     number-of-requires
     returns
-    update-time-here-requires
+    update-time-requires
     returns-2)

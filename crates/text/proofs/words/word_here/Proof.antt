@@ -3,7 +3,8 @@ use Rattle.text.proofs.Letters.{Going, start, within, more, fits, passe
 use Rattle.text.specs.Private.{kindAt}
 use Rattle.numbers.specs.Limits.{MAX}
 use lib.ListN.{length, drop}
-use mathlib.Core.Path.{_≡_}
+use mathlib.Core.Path.{_≡_, sym, _∙_}
+use borrow.Author.Tests.{ltb-true, ltb-false}
 use Prim.Native.Nat.{_-_, _≤_}
 use native.Mathlib.Omega.{arith}
 use borrow.Author.Needs.{needs}
@@ -31,20 +32,20 @@ kind-at-requires c κs = search needs
 loop-holds : tie.Need-loop-holds Inv-loop μ-loop
 loop-holds c = (start _ _, c .kind-at .ensures, omega arith)
 
-most-before-requires : tie.Need-most-before-requires Inv-loop μ-loop
-most-before-requires c κs = search needs
+passes-requires : tie.Need-passes-requires Inv-loop μ-loop
+passes-requires c κs = search needs
 
 returns-2 : tie.Need-returns-2 Inv-loop μ-loop
 returns-2 c =
     let l = c .before .before .before .loop in
     let t = c .before .before .loop-test .taken in
-    too-big _ _ _ _ _ (l .inv .0) (l .inv .1) t (passes _ _ t (rw (c .before .most-before .ensures) at (c .if2 .taken)))
+    too-big _ _ _ _ _ (l .inv .0) (l .inv .1) t (passes _ _ t (ltb-true _ _ (sym (c .before .passes .ensures) ∙ c .if2 .taken)))
 
 mul-n : tie.Need-mul-n Inv-loop μ-loop
-mul-n c = search needs
+mul-n c = let k = fits _ _ (c .before .before .loop-test .taken) (ltb-false _ _ (sym (c .before .passes .ensures) ∙ c .if2 .left)) in omega arith
 
 add-n : tie.Need-add-n Inv-loop μ-loop
-add-n c = search needs
+add-n c = let k = fits _ _ (c .before .before .loop-test .taken) (ltb-false _ _ (sym (c .before .passes .ensures) ∙ c .if2 .left)) in omega arith
 
 add-i : tie.Need-add-i Inv-loop μ-loop
 add-i c = let l = c .before .before .before .loop in omega (arith, within _ _ _ _ _ (l .inv .0) (l .inv .1) (c .before .before .loop-test .taken))
@@ -59,7 +60,7 @@ loop-again : tie.Need-loop-again Inv-loop μ-loop
 loop-again c =
     let l = c .before .before .before .before .loop in
     let t = c .before .before .before .loop-test .taken in
-    (more _ _ _ _ _ (l .inv .0) (l .inv .1) t, c .kind-at2 .ensures, fits _ _ t (rw (c .before .before .most-before .ensures) at (c .before .if2 .left)))
+    (more _ _ _ _ _ (l .inv .0) (l .inv .1) t, c .kind-at2 .ensures, fits _ _ t (ltb-false _ _ (sym (c .before .before .passes .ensures) ∙ c .before .if2 .left)))
 
 returns-3 : tie.Need-returns-3 Inv-loop μ-loop
 returns-3 c =
@@ -82,7 +83,7 @@ word-here-spec =
     returns
     kind-at-requires
     loop-holds
-    most-before-requires
+    passes-requires
     returns-2
     mul-n
     add-n

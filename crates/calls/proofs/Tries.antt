@@ -1,0 +1,82 @@
+-- One row tried: what the code finds of it is what the table's rules say. Assumes nothing.
+use Prim.Native.Nat.{ℕ, _+_, _≤_, _<_}
+use native.Mathlib.Omega.{arith}
+use mathlib.Core.Path.{_≡_, refl, sym, ap, ap₂, _∙_}
+use mathlib.Core.Bool.{Bool, true, false, cond, not, true≢false}
+use mathlib.Core.List.{List, []}
+use lib.ListN.{set}
+use lib.Dec.{eqb}
+use borrow.Author.Tests.{lt-leb, le-leb}
+use Rattle.numset.specs.Runs.{Runs, runs, has, fits}
+use Rattle.pmtl.specs.Answer.{bitOf}
+use Rattle.pmtl.specs.Book.{mapRow, start, stop}
+use Rattle.pmtl.specs.Monitor.{valueRule}
+use Rattle.memory.specs.Layout.{SET, VALUES}
+use Rattle.memory.specs.Memory.{rowCount, kindAt, slotAt, slotWords, rowOf, setOf, rangeAt}
+use Rattle.set_change.specs.Change.{changed}
+use Rattle.calls.specs.declared.RowPlan.{RowPlan}
+use Rattle.calls.specs.Private.{heldIn, atomsIn, setNext, modeAt, setAfter, rowPlan, modePut, RowTried, Timely, Slot}
+use Rattle.calls.proofs.Rules.{no-set, changed-set, set-of-slot, temporal-held}
+
+module _ {m : List ℕ} {c : ℕ} (timely : Timely m c) (atoms modes : List ℕ) {r : ℕ} (inside : r < rowCount m) {kind : ℕ} (ek : kind ≡ kindAt m r) where
+  -- ---- a row that is not temporal
+  module _ (plain : kind < 7) where
+    low : kindAt m r < 7
+    low = rw (← ek) plain
+
+    no-next : setNext m c r ≡ []
+    no-next = no-set c (setOf m r) (heldIn m) m r low
+
+    pub tried-plain : {v : Bool} → v ≡ valueRule (atomsIn m atoms) false (mapRow (heldIn m) (rowOf m r)) → {m′ : List ℕ} → m′ ≡ set m (VALUES + r) (bitOf v) → RowTried m c atoms modes r m′ modes true
+    unfolding has modePut
+    tried-plain ev em =
+        record {
+          room-is = sym (ap (fits SET) no-next);
+          value-put = λ z. em ∙ ap (λ (b : Bool). set m (VALUES + r) (bitOf b)) (ev ∙ sym (ap (λ (s : Runs). valueRule (atomsIn m atoms) (has s c) (mapRow (heldIn m) (rowOf m r))) no-next));
+          mode-put = λ z. sym (rw (lt-leb 7 (kindAt m r) low));
+          none = λ z. absurd (true≢false z);
+        }
+
+  -- ---- a temporal row
+  module _ (timed : 7 ≤ kind) {slot : ℕ} (es : slot ≡ slotAt m r) where
+    high : 7 ≤ kindAt m r
+    high = rw (← ek) timed
+
+    pub tried-slot : Slot m c slot r
+    tried-slot =
+        let row = timely .sound .book .rows r inside in
+        record { timely = timely; inside = rw es (row .slot high); owner = rw es (sym (row .owner high)) }
+
+    pub tried-inside : slot < 32
+    tried-inside = omega (arith, tried-slot .inside, timely .sound .book .temporal-few)
+
+    next-set : setNext m c r ≡ setAfter m c (modeAt m r) slot
+    next-set =
+        let row = timely .sound .book .rows r inside in
+        changed-set c (setOf m r) (heldIn m) m r high (row .kind)
+        ∙ ap (changed (modeAt m r) (start (rangeAt m r) c) (stop (rangeAt m r) c)) (set-of-slot m r high ∙ ap (λ (j : ℕ). runs (slotWords m j)) (sym es))
+        ∙ ap (λ (o : ℕ). changed (modeAt m r) (start (rangeAt m o) c) (stop (rangeAt m o) c) (runs (slotWords m slot))) (tried-slot .owner)
+
+    module _ {plan : RowPlan} (ep : plan ≡ rowPlan m c (modeAt m r) slot) where
+      room-right : plan .room ≡ fits SET (setNext m c r)
+      room-right = ap (λ (p : RowPlan). p .room) ep ∙ sym (ap (fits SET) next-set)
+
+      here-right : plan .here ≡ has (setNext m c r) c
+      here-right = ap (λ (p : RowPlan). p .here) ep ∙ sym (ap (λ (s : Runs). has s c) next-set)
+
+      pub tried-temporal : plan .room ≡ true → {v : Bool} → v ≡ cond (eqb kind 7) (not (plan .here)) (plan .here) → {m′ : List ℕ} → m′ ≡ set m (VALUES + r) (bitOf v) → RowTried m c atoms modes r m′ (set modes slot (plan .mode)) true
+      unfolding modePut
+      tried-temporal e ev em =
+          let row = timely .sound .book .rows r inside in
+          record {
+            room-is = sym e ∙ room-right;
+            value-put = λ z.
+                em ∙ ap (λ (b : Bool). set m (VALUES + r) (bitOf b))
+                (ev ∙ ap₂ (λ (k : ℕ) (b : Bool). cond (eqb k 7) (not b) b) ek here-right
+                ∙ sym (temporal-held (atomsIn m atoms) (has (setNext m c r) c) (heldIn m) m r high (row .kind)));
+            mode-put = λ z. ap₂ (λ (j k : ℕ). set modes j k) es (ap (λ (p : RowPlan). p .mode) ep) ∙ sym (rw (le-leb 7 (kindAt m r) high));
+            none = λ z. absurd (true≢false z);
+          }
+
+      pub tried-none : plan .room ≡ false → RowTried m c atoms modes r m modes false
+      tried-none e = record { room-is = sym e ∙ room-right; value-put = λ z. absurd (true≢false (sym z)); mode-put = λ z. absurd (true≢false (sym z)); none = λ z. refl }

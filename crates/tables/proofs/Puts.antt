@@ -1,0 +1,413 @@
+-- What a table that is worked out anew says, and that the others say what they said. Assumes nothing.
+use Prim.Native.Nat.{ℕ, zero, suc, _+_, _≤_, _<_}
+use native.Mathlib.Numerals.{add-one}
+use native.Mathlib.Omega.{arith}
+use mathlib.Core.Path.{_≡_, refl, sym, ap, ap₂, _∙_}
+use mathlib.Core.Bool.{Bool, true, false, cond, _&&_}
+use mathlib.Core.List.{List}
+use lib.ListN.{getD, set}
+use lib.Seq.{set-getD}
+use lib.Dec.{eqb}
+use borrow.Author.Tests.{eqb-true}
+use Rattle.lists.specs.Lists.{filledFrom}
+use Rattle.lists.proofs.Tests.{and-left, and-right}
+use Rattle.lists.proofs.Filled.{filledFrom-at, filledFrom-before, filledFrom-after, filledFrom-more}
+use Rattle.numset.specs.Runs.{runs}
+use Rattle.pmtl.specs.declared.Answer.{Answer}
+use Rattle.pmtl.specs.declared.Answer.the-variants.{Open}
+use Rattle.pmtl.specs.Answer.{bitOf, digitOf}
+use Rattle.pmtl.specs.Book.{Row, Rows, rowAt, mapRow, Below}
+use Rattle.pmtl.proofs.Table.{mapRow-local, answer-in}
+use Rattle.pmtl.specs.Monitor.{State, value}
+use Rattle.pmtl.specs.Early.{early}
+use Rattle.pmtl.specs.Settled.{settled}
+use Rattle.memory.specs.Layout.{VALUES, TOLD, EARLY, SETTLED, MOVES, PROPERTIES}
+use Rattle.memory.specs.Memory.{rowCount, clockOf, temporals, slotWords, propertyRow, valueAt, toldAt, earlyAt, settledAt, movesAt, rowOf, rowsOf, stateOf, isOne}
+use Rattle.memory.specs.Tables.{standing, valueOf, earlyOf, settledOf, propertyCount, moveRule, moves, Valued, Told, Moving, Unused, Tables}
+use Rattle.memory.specs.Kept.{Sound}
+use Rattle.memory.specs.Alike.{Alike}
+use Rattle.memory.proofs.Bits.{bit-back}
+use Rattle.memory.proofs.Rows.{rows-length, row-at, kept-ordered}
+use Rattle.memory.proofs.Alike.{alike-on, alike-filled, alike-sound, alike-rows, alike-state, alike-set}
+use Rattle.row_answers.specs.Told.{earlyTold}
+use Rattle.row_answers.proofs.Told.{told-early, told-settled, early-same, settled-same, alike-told}
+use Rattle.tables.specs.Puts.{bitIn, movesPut, valuesPut, standingAt, toldPut, toldAgain, earlyDigit, earlyPut, settledNow, settledDigit, settledPut}
+
+abbrev pub move-word : List ℕ → ℕ → ℕ
+move-word m r = bitOf (moves (rowsOf m) r)
+
+-- ---- counts
+module _ {m : List ℕ} (sound : Sound m) where
+  pub few-rows : rowCount m ≤ 128
+  few-rows = sound .book .few
+
+  pub few-sets : temporals m ≤ 32
+  few-sets = sound .book .temporal-few
+
+  pub few-properties : propertyCount m ≤ 32
+  few-properties = let a = sound .book .assumes-few in let g = sound .book .guarantees-few in omega arith
+
+-- ---- memories that differ in their tables alone
+module _ {m m′ : List ℕ} (sound : Sound m) (alike : Alike m m′) where
+  same-rows : rowCount m′ ≡ rowCount m
+  same-rows = alike .below 0 (omega arith)
+
+  same-sets : temporals m′ ≡ temporals m
+  same-sets = alike .below 4 (omega arith)
+
+  same-properties : propertyCount m′ ≡ propertyCount m
+  same-properties = ap₂ (λ (a g : ℕ). a + g) (alike .below 5 (omega arith)) (alike .below 6 (omega arith))
+
+  same-property : (i : ℕ) → i < 32 → propertyRow m′ i ≡ propertyRow m i
+  same-property i h = alike .below (PROPERTIES + i) (omega arith)
+
+  -- an answer of every row
+  pub answer-same : {A : Type 0} (f : Rows → State → ℕ → A) (r : ℕ) → f (rowsOf m′) (stateOf m′) r ≡ f (rowsOf m) (stateOf m) r
+  answer-same f r = rw (alike-rows sound alike, alike-state sound alike)
+
+  standing-same : (j : ℕ) → j < 32 → standingAt m′ j ≡ standingAt m j
+  standing-same j h = ap₂ (λ (c : ℕ) (ws : List ℕ). standing c (runs ws)) (alike .below 2 (omega arith)) (alike-set sound alike j h)
+
+  -- a table whose words are the same is right in both
+  pub valued-same : ((r : ℕ) → r < 128 → valueAt m′ r ≡ valueAt m r) → Valued m → Valued m′
+  valued-same same v =
+      let few = few-rows sound in
+      record { right = rw same-rows (λ r h. same r (omega arith) ∙ v .right r h ∙ sym (ap bitOf (answer-same value r))) }
+
+  pub told-same : ((j : ℕ) → j < 32 → toldAt m′ j ≡ toldAt m j) → Told m → Told m′
+  told-same same t =
+      let few = few-sets sound in
+      record { right = rw same-sets (λ j h. let p : j < 32 = omega arith in same j p ∙ t .right j h ∙ sym (standing-same j p)) }
+
+  pub moving-same : ((r : ℕ) → r < 128 → movesAt m′ r ≡ movesAt m r) → Moving m → Moving m′
+  moving-same same v =
+      let few = few-rows sound in
+      record { right = rw (same-rows, alike-rows sound alike) (λ r h. same r (omega arith) ∙ v .right r h) }
+
+  -- so are the words not in use, as far as they are the same
+  pub unused-same :
+      ((r : ℕ) → rowCount m ≤ r → r < 128 → valueAt m′ r ≡ valueAt m r)
+      → ((j : ℕ) → temporals m ≤ j → j < 32 → toldAt m′ j ≡ toldAt m j)
+      → ((i : ℕ) → propertyCount m ≤ i → i < 32 → earlyAt m′ i ≡ earlyAt m i)
+      → ((i : ℕ) → propertyCount m ≤ i → i < 32 → settledAt m′ i ≡ settledAt m i)
+      → ((r : ℕ) → rowCount m ≤ r → r < 128 → movesAt m′ r ≡ movesAt m r)
+      → Unused m → Unused m′
+  unused-same values told early settled moved u =
+      record {
+        values = rw same-rows (λ r p q. values r p q ∙ u .values r p q);
+        told = rw same-sets (λ j p q. told j p q ∙ u .told j p q);
+        early = rw same-properties (λ i p q. early i p q ∙ u .early i p q);
+        settled = rw same-properties (λ i p q. settled i p q ∙ u .settled i p q);
+        moves = rw same-rows (λ r p q. moved r p q ∙ u .moves r p q);
+      }
+
+-- ---- which rows move
+module _ {m : List ℕ} (sound : Sound m) where
+  -- as a loop finds it
+  module _ (n : ℕ) {m′ : List ℕ} (e : m′ ≡ filledFrom MOVES (move-word m) m n) where
+    moves-alike : Alike m m′
+    moves-alike = rw e (alike-filled m MOVES (move-word m) n (omega arith))
+
+    pub moves-sound : Sound m′
+    moves-sound = alike-sound sound moves-alike
+
+    pub moves-count : rowCount m′ ≡ rowCount m
+    moves-count = moves-alike .below 0 (omega arith)
+
+    pub moves-more : n < rowCount m → {v : Bool} → v ≡ moveRule (mapRow (bitIn m′ MOVES) (rowOf m′ n)) → {d w : ℕ} → d ≡ bitOf v → w ≡ d → set m′ (MOVES + n) w ≡ filledFrom MOVES (move-word m) m (n + 1)
+    moves-more h ev ed ew =
+        let few = few-rows sound in
+        let long = sound .book .long in
+        let h′ : n < rowCount m′ = rw moves-count h in
+        let row : rowOf m′ n ≡ rowOf m n = sym (row-at m′ n h′) ∙ ap (λ (b : Rows). rowAt b n) (alike-rows sound moves-alike) ∙ row-at m n h in
+        let low : Below n (rowOf m n) = rw (row-at m n h) at (kept-ordered (sound .book) n) in
+        let bits : (o : ℕ) → o < n → bitIn m′ MOVES o ≡ moves (rowsOf m) o =
+        λ o l. ap (λ (x : List ℕ). bitIn x MOVES o) e ∙ ap isOne (filledFrom-at MOVES (move-word m) m 0 n o l (omega arith)) ∙ bit-back (moves (rowsOf m) o) in
+        filledFrom-more MOVES (move-word m) m e
+        (ew ∙ ed ∙ ap bitOf (ev ∙ ap (λ (x : Row ℕ). moveRule (mapRow (bitIn m′ MOVES) x)) row ∙ ap moveRule (mapRow-local n (bitIn m′ MOVES) (moves (rowsOf m)) bits (rowOf m n) low)
+        ∙ sym (answer-in (rowsOf m) false (λ r x. moveRule x) (kept-ordered (sound .book)) n (rw rows-length h) ∙ ap (λ (x : Row ℕ). moveRule (mapRow (moves (rowsOf m)) x)) (row-at m n h))))
+
+  pub moves-put-alike : Alike m (movesPut m)
+  moves-put-alike = moves-alike (rowCount m) refl
+
+  pub moves-moving : Moving (movesPut m)
+  moves-moving =
+      let few = few-rows sound in
+      let long = sound .book .long in
+      record { right = rw (moves-count (rowCount m) refl, alike-rows sound moves-put-alike) (λ r h. filledFrom-at MOVES (move-word m) m 0 (rowCount m) r h (omega arith)) }
+
+  moves-before : (k : ℕ) → k < MOVES → getD (movesPut m) k 0 ≡ getD m k 0
+  moves-before k h = filledFrom-before MOVES (move-word m) m 0 (rowCount m) k h
+
+  pub moves-unused : Unused m → Unused (movesPut m)
+  moves-unused =
+      unused-same sound moves-put-alike
+      (λ r p q. moves-before (VALUES + r) (omega arith)) (λ j p q. moves-before (TOLD + j) (omega arith))
+      (λ i p q. moves-before (EARLY + i) (omega arith)) (λ i p q. moves-before (SETTLED + i) (omega arith))
+      (λ r p q. filledFrom-after MOVES (move-word m) m 0 (rowCount m) (MOVES + r) (omega arith))
+
+-- ---- the values
+module _ {m : List ℕ} (sound : Sound m) where
+  abbrev value-word : ℕ → ℕ
+  value-word r = bitOf (valueOf m r)
+
+  -- as a loop puts them
+  pub values-sound : (n : ℕ) {m′ : List ℕ} → m′ ≡ filledFrom VALUES value-word m n → Sound m′
+  values-sound n e = rw e (alike-sound sound (alike-filled m VALUES value-word n (omega arith)))
+
+  pub values-count : (n : ℕ) {m′ : List ℕ} → m′ ≡ filledFrom VALUES value-word m n → rowCount m′ ≡ rowCount m
+  values-count n e = rw e (filledFrom-before VALUES value-word m 0 n 0 (omega arith))
+
+  pub values-more : (n : ℕ) {m′ : List ℕ} → m′ ≡ filledFrom VALUES value-word m n → {v : Bool} → v ≡ valueOf m′ n → {d w : ℕ} → d ≡ bitOf v → w ≡ d
+      → set m′ (VALUES + n) w ≡ filledFrom VALUES value-word m (n + 1)
+  values-more n {m′} e ev ed ew =
+      filledFrom-more VALUES value-word m e
+      (ew ∙ ed ∙ ap bitOf (ev ∙ ap (λ (x : List ℕ). valueOf x n) e ∙ answer-same sound (alike-filled m VALUES value-word n (omega arith)) value n))
+
+  -- and what they then say
+  pub values-alike : Alike m (valuesPut m)
+  values-alike = alike-filled m VALUES value-word (rowCount m) (omega arith)
+
+  pub values-valued : Valued (valuesPut m)
+  values-valued =
+      let few = few-rows sound in
+      let long = sound .book .long in
+      record {
+        right = rw (values-count (rowCount m) refl) (λ r h.
+            filledFrom-at VALUES value-word m 0 (rowCount m) r h (omega arith) ∙ sym (ap bitOf (answer-same sound values-alike value r)));
+      }
+
+  values-after : (k : ℕ) → VALUES + rowCount m ≤ k → getD (valuesPut m) k 0 ≡ getD m k 0
+  values-after k h = filledFrom-after VALUES value-word m 0 (rowCount m) k h
+
+  pub values-unused : Unused m → Unused (valuesPut m)
+  values-unused =
+      let few = few-rows sound in
+      unused-same sound values-alike
+      (λ r p q. values-after (VALUES + r) (omega arith)) (λ j p q. values-after (TOLD + j) (omega arith))
+      (λ i p q. values-after (EARLY + i) (omega arith)) (λ i p q. values-after (SETTLED + i) (omega arith)) (λ r p q. values-after (MOVES + r) (omega arith))
+
+  pub values-moving : Moving m → Moving (valuesPut m)
+  values-moving = let few = few-rows sound in moving-same sound values-alike (λ r h. values-after (MOVES + r) (omega arith))
+
+-- ---- what the rows are told
+-- how far a loop has told them, and whether that is all as before
+pub record Telling (m : List ℕ) (n : ℕ) (m′ : List ℕ) (same : Bool) : Type 0 where
+  pub put : m′ ≡ filledFrom TOLD (standingAt m) m n
+  pub again : same ≡ toldAgain m n
+
+pub telling-start : (m : List ℕ) → Telling m 0 m true
+unfolding toldAgain
+telling-start m = record { put = refl; again = refl }
+
+-- where all is told again, nothing is new
+pub told-still : (m : List ℕ) (n : ℕ) → toldAgain m n ≡ true → filledFrom TOLD (standingAt m) m n ≡ m
+unfolding toldAgain
+told-still m zero e = refl
+told-still m (suc j) e =
+    let is = eqb-true (toldAt m j) (standingAt m j) (and-right (toldAgain m j) _ e) in
+    rw (told-still m j (and-left (toldAgain m j) _ e)) (ap (set m (TOLD + j)) (sym is) ∙ set-getD m (TOLD + j) 0)
+
+module _ {m : List ℕ} (sound : Sound m) where
+  module _ {n : ℕ} {m′ : List ℕ} {same : Bool} (t : Telling m n m′ same) where
+    alike : Alike m m′
+    alike = rw (t .put) (alike-filled m TOLD (standingAt m) n (omega arith))
+
+    pub telling-sound : Sound m′
+    telling-sound = alike-sound sound alike
+
+    pub telling-more : n < temporals m → {words : List ℕ} {clock old new : ℕ} {same′ : Bool} → clock ≡ clockOf m → words ≡ slotWords m′ n → new ≡ standing clock (runs words) → old ≡ toldAt m′ n
+        → same′ ≡ (same && eqb old new) → Telling m (n + 1) (set m′ (TOLD + n) new) same′
+    unfolding toldAgain
+    telling-more h {words} {clock} {old} {new} ec ew en eo es =
+        let few = few-sets sound in
+        let before : old ≡ toldAt m n = eo ∙ ap (λ (x : List ℕ). toldAt x n) (t .put) ∙ filledFrom-after TOLD (standingAt m) m 0 n (TOLD + n) (omega arith) in
+        let is : new ≡ standingAt m n = en ∙ ap₂ (λ (c : ℕ) (ws : List ℕ). standing c (runs ws)) ec (ew ∙ alike-set sound alike n (omega arith)) in
+        record {
+          put = filledFrom-more TOLD (standingAt m) m (t .put) is;
+          again = es ∙ rw (t .again, before, is, add-one);
+        }
+
+  pub told-alike : Alike m (toldPut m)
+  told-alike = alike-filled m TOLD (standingAt m) (temporals m) (omega arith)
+
+  pub told-told : Told (toldPut m)
+  told-told =
+      let few = few-sets sound in
+      let long = sound .book .long in
+      record {
+        right = rw (same-sets sound told-alike) (λ j h.
+            filledFrom-at TOLD (standingAt m) m 0 (temporals m) j h (omega arith) ∙ sym (standing-same sound told-alike j (omega arith)));
+      }
+
+  pub told-valued : Valued m → Valued (toldPut m)
+  told-valued = valued-same sound told-alike (λ r h. filledFrom-before TOLD (standingAt m) m 0 (temporals m) (VALUES + r) (omega arith))
+
+  told-after : (k : ℕ) → TOLD + temporals m ≤ k → getD (toldPut m) k 0 ≡ getD m k 0
+  told-after k h = filledFrom-after TOLD (standingAt m) m 0 (temporals m) k h
+
+  pub told-unused : Unused m → Unused (toldPut m)
+  told-unused =
+      let few = few-sets sound in
+      unused-same sound told-alike
+      (λ r p q. filledFrom-before TOLD (standingAt m) m 0 (temporals m) (VALUES + r) (omega arith)) (λ j p q. told-after (TOLD + j) (omega arith))
+      (λ i p q. told-after (EARLY + i) (omega arith)) (λ i p q. told-after (SETTLED + i) (omega arith)) (λ r p q. told-after (MOVES + r) (omega arith))
+
+  pub told-moving : Moving m → Moving (toldPut m)
+  told-moving = let few = few-sets sound in moving-same sound told-alike (λ r h. told-after (MOVES + r) (omega arith))
+
+-- ---- the digits, which are put by what was told
+module _ {m : List ℕ} (sound : Sound m) (a : ℕ) (f : ℕ → ℕ) (n : ℕ) (far : EARLY ≤ a) where
+  pub digits-alike : Alike m (filledFrom a f m n)
+  digits-alike = alike-filled m a f n (omega arith)
+
+  digits-told : (j : ℕ) → j < 32 → toldAt (filledFrom a f m n) j ≡ toldAt m j
+  digits-told j h = filledFrom-before a f m 0 n (TOLD + j) (omega arith)
+
+  digits-values : (r : ℕ) → r < 128 → valueAt (filledFrom a f m n) r ≡ valueAt m r
+  digits-values r h = filledFrom-before a f m 0 n (VALUES + r) (omega arith)
+
+  digits-early : (r : ℕ) → earlyTold (filledFrom a f m n) r ≡ earlyTold m r
+  digits-early = early-same m (filledFrom a f m n) (alike-rows sound digits-alike) (alike-told sound digits-alike digits-told)
+
+  digits-settled : (r : ℕ) → settledNow (filledFrom a f m n) r ≡ settledNow m r
+  digits-settled r = ap₂ (λ (w : ℕ) (x : Answer). cond (isOne w) x Open) (digits-alike .below 1 (omega arith)) (settled-same m (filledFrom a f m n) (alike-rows sound digits-alike) (alike-told sound digits-alike digits-told) r)
+
+  pub digits-row : (i : ℕ) → i < 32 → propertyRow (filledFrom a f m n) i ≡ propertyRow m i
+  digits-row = same-property sound digits-alike
+
+-- as a loop puts them: with any answer that tables leave as it is
+module _ {m : List ℕ} (sound : Sound m) (a : ℕ) (far : EARLY ≤ a) (ask : List ℕ → ℕ → Answer)
+    (stays : (f : ℕ → ℕ) (n r : ℕ) → ask (filledFrom a f m n) r ≡ ask m r)
+  where
+    abbrev digit-word : ℕ → ℕ
+    digit-word i = digitOf (ask m (propertyRow m i))
+
+    pub digits-sound : (n : ℕ) {m′ : List ℕ} → m′ ≡ filledFrom a digit-word m n → Sound m′
+    digits-sound n e = rw e (alike-sound sound (digits-alike sound a digit-word n far))
+
+    pub digits-inside : (n : ℕ) {m′ : List ℕ} → m′ ≡ filledFrom a digit-word m n → n < propertyCount m → {row : ℕ} → row ≡ propertyRow m′ n → row < rowCount m′
+    digits-inside n {m′} e h {row} er =
+        let few = few-properties sound in
+        let al = digits-alike sound a digit-word n far in
+        rw (er, e, digits-row sound a digit-word n far n (omega arith), same-rows sound al) (sound .book .properties n h)
+
+    pub digits-more : (n : ℕ) {m′ : List ℕ} → m′ ≡ filledFrom a digit-word m n → n < propertyCount m → {row : ℕ} → row ≡ propertyRow m′ n → {x : Answer} → x ≡ ask m′ row → {d w : ℕ} → d ≡ digitOf x → w ≡ d
+        → set m′ (a + n) w ≡ filledFrom a digit-word m (n + 1)
+    digits-more n {m′} e h {row} er ex ed ew =
+        let few = few-properties sound in
+        let row-is : row ≡ propertyRow m n = er ∙ ap (λ (l : List ℕ). propertyRow l n) e ∙ digits-row sound a digit-word n far n (omega arith) in
+        filledFrom-more a digit-word m e
+        (ew ∙ ed ∙ ap digitOf (ex ∙ ap₂ ask e row-is ∙ stays digit-word n (propertyRow m n)))
+
+pub early-stays : {m : List ℕ} → Sound m → (f : ℕ → ℕ) (n r : ℕ) → earlyTold (filledFrom EARLY f m n) r ≡ earlyTold m r
+early-stays sound f n = digits-early sound EARLY f n (omega arith)
+
+pub settled-stays : {m : List ℕ} → Sound m → (f : ℕ → ℕ) (n r : ℕ) → settledNow (filledFrom SETTLED f m n) r ≡ settledNow m r
+settled-stays sound f n = digits-settled sound SETTLED f n (omega arith)
+
+pub early-sound : {m : List ℕ} → Sound m → Sound (earlyPut m)
+early-sound {m} sound = alike-sound sound (digits-alike sound EARLY (earlyDigit m) (propertyCount m) (omega arith))
+
+-- ---- the tables are right once the digits are put where values and what was told are
+module _ {m : List ℕ} (sound : Sound m) (valued : Valued m) (told : Told m) (moving : Moving m) (unused : Unused m) where
+  abbrev early-put : List ℕ
+  early-put = earlyPut m
+
+  to-early : Alike m early-put
+  to-early = digits-alike sound EARLY (earlyDigit m) (propertyCount m) (omega arith)
+
+  sound₁ : Sound early-put
+  sound₁ = alike-sound sound to-early
+
+  count₁ : propertyCount early-put ≡ propertyCount m
+  count₁ = same-properties sound to-early
+
+  to-settled : Alike early-put (settledPut early-put)
+  to-settled = digits-alike sound₁ SETTLED (settledDigit early-put) (propertyCount early-put) (omega arith)
+
+  pub asked-alike : Alike m (settledPut early-put)
+  asked-alike = alike-on to-early to-settled
+
+  told₁ : Told early-put
+  told₁ = told-same sound to-early (digits-told sound EARLY (earlyDigit m) (propertyCount m) (omega arith)) told
+
+  told₂ : Told (settledPut early-put)
+  told₂ = told-same sound₁ to-settled (digits-told sound₁ SETTLED (settledDigit early-put) (propertyCount early-put) (omega arith)) told₁
+
+  valued₂ : Valued (settledPut early-put)
+  valued₂ =
+      valued-same sound₁ to-settled (digits-values sound₁ SETTLED (settledDigit early-put) (propertyCount early-put) (omega arith))
+      (valued-same sound to-early (digits-values sound EARLY (earlyDigit m) (propertyCount m) (omega arith)) valued)
+
+  early-word : (i : ℕ) → i < propertyCount m → earlyAt (settledPut early-put) i ≡ digitOf (earlyOf (settledPut early-put) (propertyRow (settledPut early-put) i))
+  early-word i h =
+      let few = few-properties sound in
+      let long = sound .book .long in
+      filledFrom-before SETTLED (settledDigit early-put) early-put 0 (propertyCount early-put) (EARLY + i) (omega arith)
+      ∙ filledFrom-at EARLY (earlyDigit m) m 0 (propertyCount m) i h (omega arith)
+      ∙ ap digitOf (told-early m sound (told .right) (propertyRow m i) ∙ sym (answer-same sound asked-alike early (propertyRow m i)) ∙ ap (earlyOf (settledPut early-put)) (sym (same-property sound asked-alike i (omega arith))))
+
+  settled-word : (i : ℕ) → i < propertyCount m → settledAt (settledPut early-put) i ≡ digitOf (settledOf (settledPut early-put) (propertyRow (settledPut early-put) i))
+  settled-word i h =
+      let few = few-properties sound in
+      let long = sound₁ .book .long in
+      let h₁ : i < propertyCount early-put = rw count₁ h in
+      filledFrom-at SETTLED (settledDigit early-put) early-put 0 (propertyCount early-put) i h₁ (omega (arith, count₁))
+      ∙ ap digitOf (told-settled early-put sound₁ (told₁ .right) (propertyRow early-put i) ∙ sym (answer-same sound₁ to-settled settled (propertyRow early-put i)) ∙ ap (settledOf (settledPut early-put)) (sym (same-property sound₁ to-settled i (omega arith))))
+
+  unused₂ : Unused (settledPut early-put)
+  unused₂ =
+      let few = few-properties sound in
+      let after₁ : (k : ℕ) → EARLY + propertyCount m ≤ k → getD early-put k 0 ≡ getD m k 0 = λ k h. filledFrom-after EARLY (earlyDigit m) m 0 (propertyCount m) k h in
+      let before₂ : (k : ℕ) → k < SETTLED → getD (settledPut early-put) k 0 ≡ getD early-put k 0 = λ k h. filledFrom-before SETTLED (settledDigit early-put) early-put 0 (propertyCount early-put) k h in
+      let before₁ : (k : ℕ) → k < EARLY → getD early-put k 0 ≡ getD m k 0 = λ k h. filledFrom-before EARLY (earlyDigit m) m 0 (propertyCount m) k h in
+      unused-same sound asked-alike
+      (λ r p q. before₂ (VALUES + r) (omega arith) ∙ before₁ (VALUES + r) (omega arith))
+      (λ j p q. before₂ (TOLD + j) (omega arith) ∙ before₁ (TOLD + j) (omega arith))
+      (λ i p q. before₂ (EARLY + i) (omega arith) ∙ after₁ (EARLY + i) (omega arith))
+      (λ i p q. filledFrom-after SETTLED (settledDigit early-put) early-put 0 (propertyCount early-put) (SETTLED + i) (omega (arith, count₁)) ∙ after₁ (SETTLED + i) (omega arith))
+      (λ r p q. filledFrom-after SETTLED (settledDigit early-put) early-put 0 (propertyCount early-put) (MOVES + r) (omega (arith, count₁)) ∙ after₁ (MOVES + r) (omega arith))
+      unused
+
+  moving₂ : Moving (settledPut early-put)
+  moving₂ =
+      let few = few-properties sound in
+      moving-same sound asked-alike (λ r h.
+      filledFrom-after SETTLED (settledDigit early-put) early-put 0 (propertyCount early-put) (MOVES + r) (omega (arith, count₁))
+      ∙ filledFrom-after EARLY (earlyDigit m) m 0 (propertyCount m) (MOVES + r) (omega arith)) moving
+
+  pub asked-tables : Tables (settledPut early-put)
+  asked-tables =
+      let count : propertyCount (settledPut early-put) ≡ propertyCount m = same-properties sound asked-alike in
+      record {
+        valued = valued₂;
+        told = told₂;
+        answered = record { early = rw count early-word; settled = rw count settled-word };
+        moving = moving₂;
+        unused = unused₂;
+      }
+
+-- ---- all of them, one after the other
+pub told-sound : {m : List ℕ} → Sound m → Sound (toldPut m)
+told-sound {m} sound = alike-sound sound (told-alike sound)
+
+pub values-put-sound : {m : List ℕ} → Sound m → Sound (valuesPut m)
+values-put-sound {m} sound = values-sound sound (rowCount m) refl
+
+pub moves-put-sound : {m : List ℕ} → Sound m → Sound (movesPut m)
+moves-put-sound {m} sound = alike-sound sound (moves-put-alike sound)
+
+pub worked-out : {m : List ℕ} → Sound m → Unused m
+    → Alike m (settledPut (earlyPut (toldPut (valuesPut (movesPut m))))) × Tables (settledPut (earlyPut (toldPut (valuesPut (movesPut m)))))
+worked-out {m} sound unused =
+    let sound₀ = moves-put-sound sound in
+    let unused₀ = moves-unused sound unused in
+    let sound₁ = values-put-sound sound₀ in
+    let sound₂ = told-sound sound₁ in
+    let valued₂ = told-valued sound₁ (values-valued sound₀) in
+    let told₂ = told-told sound₁ in
+    let moving₂ = told-moving sound₁ (values-moving sound₀ (moves-moving sound)) in
+    let unused₂ = told-unused sound₁ (values-unused sound₀ unused₀) in
+    let to₁ = alike-on (moves-put-alike sound) (values-alike sound₀) in
+    (alike-on to₁ (alike-on (told-alike sound₁) (asked-alike sound₂ valued₂ told₂ moving₂ unused₂)), asked-tables sound₂ valued₂ told₂ moving₂ unused₂)

@@ -1,0 +1,25 @@
+-- `tables::work_out` meets its contract. Assumes nothing.
+use Rattle.tables.proofs.Puts.{moves-put-sound, values-put-sound, told-sound, worked-out}
+use borrow.Author.Needs.{needs}
+use Rattle.tables.proofs.work_out.Statement.{statement}
+use Rattle.tables.proofs.work_out.Tie as tie
+
+fill-moves-requires : tie.Need-fill-moves-requires
+fill-moves-requires c κs = search needs
+
+fill-values-requires : tie.Need-fill-values-requires
+fill-values-requires c κs = rw ((c .before) .fill-moves .ensures) (moves-put-sound ((c .before .before .before) .pre .0))
+
+retell-requires : tie.Need-retell-requires
+retell-requires c κs = rw ((c .before) .fill-values .ensures, (c .before .before .before) .fill-moves .ensures) (values-put-sound (moves-put-sound ((c .before .before .before .before .before) .pre .0)))
+
+ask-requires : tie.Need-ask-requires
+ask-requires c κs = rw ((c .before) .retell .ensures .0, (c .before .before .before) .fill-values .ensures, (c .before .before .before .before .before) .fill-moves .ensures) (told-sound (values-put-sound (moves-put-sound ((c .before .before .before .before .before .before .before) .pre .0))))
+
+returns : tie.Need-returns
+returns c = let s = (c .before .before .before .before .before .before .before .before) in rw (c .ask .ensures, (c .before .before) .retell .ensures .0, (c .before .before .before .before) .fill-values .ensures, (c .before .before .before .before .before .before) .fill-moves .ensures) (worked-out (s .pre .0) (s .pre .1))
+
+pub work-out-spec : {M : Type 1} → statement M
+work-out-spec =
+    tie.close
+    (tie.spec fill-moves-requires fill-values-requires retell-requires ask-requires returns)

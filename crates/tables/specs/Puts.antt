@@ -1,0 +1,55 @@
+-- A memory with one of its tables worked out anew from the words before the tables, and the digits by what was told. Definitions only.
+use Prim.Native.Nat.{ℕ, zero, suc, _+_}
+use mathlib.Core.Bool.{Bool, true, cond, _&&_}
+use mathlib.Core.List.{List}
+use lib.ListN.{getD}
+use lib.Dec.{eqb}
+use Rattle.lists.specs.Lists.{filledFrom}
+use Rattle.numset.specs.Runs.{runs}
+use Rattle.pmtl.specs.declared.Answer.{Answer}
+use Rattle.pmtl.specs.declared.Answer.the-variants.{Open}
+use Rattle.pmtl.specs.Answer.{bitOf, digitOf}
+use Rattle.memory.specs.Layout.{VALUES, TOLD, EARLY, SETTLED, MOVES}
+use Rattle.memory.specs.Memory.{rowCount, begunWord, clockOf, temporals, slotWords, propertyRow, toldAt, isOne, rowsOf}
+use Rattle.memory.specs.Tables.{standing, moves, valueOf, propertyCount}
+use Rattle.row_answers.specs.Told.{earlyTold, settledTold}
+
+-- what a table of bits has of row o
+abbrev pub bitIn : List ℕ → ℕ → ℕ → Bool
+bitIn m table o = isOne (getD m (table + o) 0)
+
+-- of each row whether it moves with the clock
+abbrev pub movesPut : List ℕ → List ℕ
+movesPut m = filledFrom MOVES (λ r. bitOf (moves (rowsOf m) r)) m (rowCount m)
+
+-- each row's value
+abbrev pub valuesPut : List ℕ → List ℕ
+valuesPut m = filledFrom VALUES (λ r. bitOf (valueOf m r)) m (rowCount m)
+
+-- what is so of each set
+abbrev pub standingAt : List ℕ → ℕ → ℕ
+standingAt m j = standing (clockOf m) (runs (slotWords m j))
+
+abbrev pub toldPut : List ℕ → List ℕ
+toldPut m = filledFrom TOLD (standingAt m) m (temporals m)
+
+-- and whether that is what was told of the first n
+unfoldable pub toldAgain : List ℕ → ℕ → Bool
+toldAgain m zero = true
+toldAgain m (suc j) = toldAgain m j && eqb (toldAt m j) (standingAt m j)
+
+-- the digit of each property's early answer, of its settled answer
+abbrev pub earlyDigit : List ℕ → ℕ → ℕ
+earlyDigit m i = digitOf (earlyTold m (propertyRow m i))
+
+abbrev pub earlyPut : List ℕ → List ℕ
+earlyPut m = filledFrom EARLY (earlyDigit m) m (propertyCount m)
+
+abbrev pub settledNow : List ℕ → ℕ → Answer
+settledNow m r = cond (isOne (begunWord m)) (settledTold m r) Open
+
+abbrev pub settledDigit : List ℕ → ℕ → ℕ
+settledDigit m i = digitOf (settledNow m (propertyRow m i))
+
+abbrev pub settledPut : List ℕ → List ℕ
+settledPut m = filledFrom SETTLED (settledDigit m) m (propertyCount m)

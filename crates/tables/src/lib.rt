@@ -1,0 +1,200 @@
+// The tables of a monitor's memory, worked out from the book, the clock, the atoms and the sets.
+ghost use mathlib.Core.Path.{_≡_};
+ghost use mathlib.Core.Bool.{Bool, true, cond, _&&_};
+ghost use mathlib.Core.List.{map};
+ghost use Prim.Native.Nat.{_+_, _≤_, _<_};
+ghost use lib.Dec.{eqb};
+ghost use Rattle.numset.specs.Runs.{Good, runs};
+ghost use Rattle.pmtl.specs.Sets.{gone};
+ghost use Rattle.numbers.specs.Limits.{MOST-ROWS};
+ghost use Rattle.pmtl.specs.Book.{mapRow};
+ghost use Rattle.memory.specs.Layout.{MOVES, SIZE};
+ghost use Rattle.memory.specs.Memory.{rowCount, begunWord, temporals, operandsFrom, rowOf, isOne};
+ghost use Rattle.memory.specs.Tables.{standing, moveRule, Unused, Tables};
+ghost use Rattle.memory.specs.Kept.{BookKept, Span, Sound};
+ghost use Rattle.memory.specs.Alike.{Alike};
+ghost use Rattle.row_answers.specs.Told.{settledTold};
+ghost use Rattle.row_answers.specs.Private.{joined};
+ghost use Rattle.tables.specs.Puts.{bitIn, movesPut, valuesPut, toldPut, earlyPut, settledPut, toldAgain};
+use book::HISTORICALLY;
+use memory::COVERS;
+use memory::EARLY;
+use memory::GONE;
+use memory::MOVES;
+use memory::NEITHER;
+use memory::SETTLED;
+use memory::SIZE;
+use memory::TOLD;
+use memory::VALUES;
+use pmtl::Answer;
+
+// And, which stops at a false, or Or, which stops at a true, of what a table has of `left` operands from `place` on.
+pub fn joined_at(monitor: &[u64; SIZE], table: usize, place: usize, left: usize, stop: bool) -> bool
+    requires { ⌜ BookKept (now monitor) × (table + MOST-ROWS ≤ SIZE) ⌝ }
+    requires { ⌜ Span (now monitor) (rowCount (now monitor)) place left ⌝ }
+    ensures { λ r. ⌜ r ≡ joined stop (map (bitIn (now (monitor .entry)) table) (operandsFrom (now (monitor .entry)) place left)) ⌝ }
+{
+    let mut at = place;
+    let mut rest = left;
+    while rest != 0 {
+        if (memory::word(monitor, table + memory::operand_at(monitor, at)) == 1) == stop {
+            return stop;
+        }
+        at += 1;
+        rest -= 1;
+    }
+    !stop
+}
+
+// Whether a row moves with the clock, where it is known of its operands.
+fn moves_here(monitor: &[u64; SIZE], row: usize) -> bool
+    requires { ⌜ Sound (now monitor) ⌝ }
+    requires { ⌜ row < rowCount (now monitor) ⌝ }
+    ensures { λ r. ⌜ r ≡ moveRule (mapRow (bitIn (now (monitor .entry)) MOVES) (rowOf (now (monitor .entry)) row)) ⌝ }
+{
+    let words = memory::row_at(monitor, row);
+    if words.kind < HISTORICALLY {
+        let count = book::check::taken_by(words.kind, words.arg as u64);
+        return joined_at(monitor, MOVES, words.start, count, true);
+    }
+    true
+}
+
+// Of each row, from row 0 upward, whether it moves with the clock.
+fn fill_moves(monitor: &mut [u64; SIZE])
+    requires { ⌜ Sound (now monitor) ⌝ }
+    ensures { λ _. ⌜ now (monitor .exit) ≡ movesPut (now (monitor .entry)) ⌝ }
+{
+    let count = memory::row_count(monitor);
+    let mut row = 0;
+    while row < count {
+        let moves = moves_here(monitor, row);
+        monitor[MOVES + row] = lists::wide(pmtl::bit(moves));
+        row += 1;
+    }
+}
+
+// Each row's value, by the walk down from it.
+pub fn fill_values(monitor: &mut [u64; SIZE])
+    requires { ⌜ Sound (now monitor) ⌝ }
+    ensures { λ _. ⌜ now (monitor .exit) ≡ valuesPut (now (monitor .entry)) ⌝ }
+{
+    let count = memory::row_count(monitor);
+    let mut row = 0;
+    while row < count {
+        let value = row_answers::output(monitor, row);
+        monitor[VALUES + row] = lists::wide(pmtl::bit(value));
+        row += 1;
+    }
+}
+
+// Whether a set has no instant at or after the clock: there is no run, or the newest ends before.
+fn gone(set: &[u64], clock: u64) -> bool
+    requires { ⌜ Good (now set) ⌝ }
+    ensures { λ r. ⌜ r ≡ gone clock (runs (now (set .entry))) ⌝ }
+{
+    let count = set[0] as usize;
+    if count == 0 {
+        return true;
+    }
+    set[2 * count] < clock
+}
+
+// What is so of a set.
+fn standing(set: &[u64], clock: u64) -> u64
+    requires { ⌜ Good (now set) ⌝ }
+    ensures { λ r. ⌜ r ≡ standing clock (runs (now (set .entry))) ⌝ }
+{
+    if numset::covers(set, clock) {
+        return COVERS;
+    }
+    if gone(set, clock) {
+        return GONE;
+    }
+    NEITHER
+}
+
+// Whether all is as before, and this is, too.
+fn still(same: bool, old: u64, new: u64) -> bool
+    ensures { λ r. ⌜ r ≡ (same && eqb old new) ⌝ }
+{
+    if old == new { same } else { false }
+}
+
+// Tells the rows anew what is so of their sets. Whether that is all as before.
+pub fn retell(monitor: &mut [u64; SIZE]) -> bool
+    requires { ⌜ Sound (now monitor) ⌝ }
+    ensures { λ r. ⌜ (now (monitor .exit) ≡ toldPut (now (monitor .entry))) × (r ≡ toldAgain (now (monitor .entry)) (temporals (now (monitor .entry)))) ⌝ }
+{
+    let clock = memory::clock(monitor);
+    let count = memory::temporal_count(monitor);
+    let mut same = true;
+    let mut slot = 0;
+    while slot < count {
+        let new = standing(memory::set_at(monitor, slot), clock);
+        same = still(same, memory::told_at(monitor, slot), new);
+        monitor[TOLD + slot] = new;
+        slot += 1;
+    }
+    same
+}
+
+// Asks every property for its early answer, by what the rows were told.
+fn ask_early(monitor: &mut [u64; SIZE])
+    requires { ⌜ Sound (now monitor) ⌝ }
+    ensures { λ _. ⌜ now (monitor .exit) ≡ earlyPut (now (monitor .entry)) ⌝ }
+{
+    let count = memory::property_count(monitor);
+    let mut i = 0;
+    while i < count {
+        let answer = row_answers::valuation(monitor, memory::property_row(monitor, i));
+        monitor[EARLY + i] = lists::wide(pmtl::digit(answer));
+        i += 1;
+    }
+}
+
+// A row's settled answer: open before the first accepted call.
+fn settled_now(monitor: &[u64; SIZE], row: usize) -> Answer
+    requires { ⌜ BookKept (now monitor) ⌝ }
+    requires { ⌜ row < rowCount (now monitor) ⌝ }
+    ensures { λ r. ⌜ r ≡ cond (isOne (begunWord (now (monitor .entry)))) (settledTold (now (monitor .entry)) row) Answer.Open ⌝ }
+{
+    if memory::begun(monitor) == 1 {
+        return row_answers::settled(monitor, row);
+    }
+    Answer::Open
+}
+
+// Asks every property for its settled answer.
+fn ask_settled(monitor: &mut [u64; SIZE])
+    requires { ⌜ Sound (now monitor) ⌝ }
+    ensures { λ _. ⌜ now (monitor .exit) ≡ settledPut (now (monitor .entry)) ⌝ }
+{
+    let count = memory::property_count(monitor);
+    let mut i = 0;
+    while i < count {
+        let answer = settled_now(monitor, memory::property_row(monitor, i));
+        monitor[SETTLED + i] = lists::wide(pmtl::digit(answer));
+        i += 1;
+    }
+}
+
+// The digits of every property, by what the rows were told.
+pub fn ask(monitor: &mut [u64; SIZE])
+    requires { ⌜ Sound (now monitor) ⌝ }
+    ensures { λ _. ⌜ now (monitor .exit) ≡ settledPut (earlyPut (now (monitor .entry))) ⌝ }
+{
+    ask_early(monitor);
+    ask_settled(monitor);
+}
+
+// All tables of a memory whose unused words are 0.
+pub fn work_out(monitor: &mut [u64; SIZE])
+    requires { ⌜ Sound (now monitor) × Unused (now monitor) ⌝ }
+    ensures { λ _. ⌜ Alike (now (monitor .entry)) (now (monitor .exit)) × Tables (now (monitor .exit)) ⌝ }
+{
+    fill_moves(monitor);
+    fill_values(monitor);
+    retell(monitor);
+    ask(monitor);
+}

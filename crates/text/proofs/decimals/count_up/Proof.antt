@@ -1,0 +1,55 @@
+-- `text::decimals::count_up` meets its contract. Assumes nothing.
+use mathlib.Core.Path.{refl}
+use native.Mathlib.Omega.{arith}
+use Rattle.text.proofs.Digits.{one-more, anew}
+use borrow.Author.Needs.{needs}
+use Rattle.text.proofs.decimals.count_up.Statement.{statement}
+use Rattle.text.proofs.decimals.count_up.Tie as tie
+
+slice-read-if1 : tie.Need-slice-read-if1
+slice-read-if1 c = search needs
+
+slice-read-scratch : tie.Need-slice-read-scratch
+slice-read-scratch c = search needs
+
+add-scratch : tie.Need-add-scratch
+add-scratch c = search needs
+
+slice-write-scratch : tie.Need-slice-write-scratch
+slice-write-scratch c = search needs
+
+same-length : tie.Need-same-length
+same-length c = search needs
+
+returns : tie.Need-returns
+returns c = one-more (c .before .before .before .before .pre .0) _ refl (c .before .if1 .taken)
+
+add-write-last : tie.Need-add-write-last
+add-write-last c = search needs
+
+write-last-requires : tie.Need-write-last-requires
+write-last-requires c κs = search needs
+
+same-length-2 : tie.Need-same-length-2
+same-length-2 c = search needs
+
+returns-2 : tie.Need-returns-2
+returns-2 c =
+    let asked = c .before .before .before .before .before .before .before .pre in
+    let w = c .before .before .write-last in
+    anew _ _ _ _ (omega (arith, asked .1)) (asked .0 .size) (w .kept .1 .0) (w .ensures .0) (w .ensures .1)
+
+pub count-up-spec : {M : Type 1} → statement M
+count-up-spec =
+    tie.close
+    (tie.spec
+    slice-read-if1
+    slice-read-scratch
+    add-scratch
+    slice-write-scratch
+    same-length
+    returns
+    add-write-last
+    write-last-requires
+    same-length-2
+    returns-2)
