@@ -6,6 +6,7 @@ pub mod Words
 pub mod Packs
 pub mod Looking
 pub mod Moves
+pub mod Kept
 pub mod Walk
 pub mod Place
 pub mod Last

@@ -43,6 +43,18 @@ pub record Spanned (m : List ℕ) (l u s e low up : ℕ) : Type 0 where
   pub ended : Ended m u e
   pub met : Met m l u s e low up
 
+-- the k oldest runs are those that end before t
+pub record Lapsed (m : List ℕ) (t k : ℕ) : Type 0 where
+  pub few : k ≤ getD m 0 0
+  pub before : (j : ℕ) → j < k → hi m j < t
+  pub after : (j : ℕ) → k ≤ j → j < getD m 0 0 → t ≤ hi m j
+
+-- m′ is m without its k oldest runs, of n
+pub record Dropped (m m′ : List ℕ) (k n : ℕ) : Type 0 where
+  pub count : getD m′ 0 0 ≡ n - k
+  pub moved : (d : ℕ) → d < 2 * (n - k) → getD m′ (1 + d) 0 ≡ getD m (2 * k + 1 + d) 0
+  pub zeros : (i : ℕ) → 2 * (n - k) < i → getD m′ i 0 ≡ 0
+
 -- m with the run l ..= u as run s, and n as the number of runs
 abbrev pub withRun : List ℕ → ℕ → ℕ → ℕ → ℕ → List ℕ
 withRun m s l u n = set (set (set m (2 * s + 1) l) (2 * s + 2) u) 0 n

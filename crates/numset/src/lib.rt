@@ -9,8 +9,8 @@ ghost use mathlib.Core.List.{[]};
 ghost use mathlib.Core.Logic.{_↔_};
 ghost use Prim.Native.Nat.{_+_, _*_, _-_, _<_, _≤_, min, max};
 ghost use lib.ListN.{length, getD, replicate};
-ghost use Rattle.numset.specs.Runs.{Good, Covers, emptyNumber, runs, has, lo, hi, union, fits, pack, addNumber, addWords, setToNumber, setToWords};
-ghost use Rattle.numset.specs.Private.{Shifted, Cleared, Replaced, Ended, Spanned, withRun};
+ghost use Rattle.numset.specs.Runs.{Good, Covers, emptyNumber, runs, has, lo, hi, kept, union, fits, pack, addNumber, addWords, setToNumber, setToWords};
+ghost use Rattle.numset.specs.Private.{Shifted, Cleared, Replaced, Ended, Spanned, Lapsed, Dropped, withRun};
 
 mod by_value; // by_value.rt: a set of 64 runs by value
 
@@ -300,6 +300,58 @@ pub fn has_room(set: &[u64], lower: u64, upper: u64) -> bool
         return false;
     }
     true
+}
+
+// How many runs end before `t`. They are the oldest, so that the first which does not ends the look.
+fn lapsed(set: &[u64], t: u64) -> usize
+    requires { ⌜ Good (now set) ⌝ }
+    ensures { λ r. ⌜ Lapsed (now (set .entry)) t r ⌝ }
+{
+    let n = set[0] as usize;
+    let mut run = 0;
+    while run < n {
+        if t <= upper_at(set, run) {
+            return run;
+        }
+        run += 1;
+    }
+    run
+}
+
+// Drops the `count` oldest runs; what is left moves once, and the words that become free are wiped.
+fn drop_oldest(set: &mut [u64], count: usize)
+    requires { ⌜ Good (now set) ⌝ }
+    requires { ⌜ count ≤ getD (now set) 0 0 ⌝ }
+    ensures { λ _. ⌜ Dropped (now (set .entry)) (now (set .exit)) count (getD (now (set .entry)) 0 0) ⌝ }
+{
+    let n = set[0] as usize;
+    let left = n - count;
+    move_down(set, 2 * count + 1, 1, 2 * left);
+    wipe(set, 2 * left + 1, 2 * n + 1);
+    set[0] = left as u64;
+}
+
+// Drops the runs that end before `t`. Where there is none, only the oldest run is looked at.
+pub fn drop_before(set: &mut [u64], t: u64)
+    requires { ⌜ Good (now set) ⌝ }
+    ensures { λ _. ⌜ now (set .exit) ≡ pack (length (now (set .entry))) (kept t (runs (now (set .entry)))) ⌝ }
+{
+    let count = lapsed(set, t);
+    if count == 0 {
+        return;
+    }
+    drop_oldest(set, count);
+}
+
+// Whether there is room to add `lower ..= upper` once the runs that end before `t` are dropped: one that is dropped makes it.
+pub fn will_have_room(set: &[u64], t: u64, lower: u64, upper: u64) -> bool
+    requires { ⌜ Good (now set) ⌝ }
+    ensures { λ r. ⌜ r ≡ fits (length (now (set .entry))) (union lower upper (kept t (runs (now (set .entry))))) ⌝ }
+{
+    if 0 < lapsed(set, t) {
+        return true;
+    }
+    has_room(set, lower, upper)
 }
 
 // Empties the set. Only the words in use are touched.
