@@ -1,5 +1,4 @@
 -- `numset::will_have_room` meets its contract. Assumes nothing.
-use mathlib.Core.Path.{sym, ap, _∙_}
 use native.Mathlib.Omega.{arith}
 use Rattle.numset.proofs.Kept.{kept-all, room-made}
 use borrow.Author.Needs.{needs}
