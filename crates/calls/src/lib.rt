@@ -137,7 +137,7 @@ fn plan_row(monitor: &[u64; SIZE], clock: u64, slot: usize, row: usize) -> RowPl
     if mode == set_change::STAYS {
         return RowPlan {
             mode,
-            here: numset::contains(set, clock),
+            here: numset::contains_from_oldest(set, clock),
             room: true,
         };
     }

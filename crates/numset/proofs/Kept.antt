@@ -2,15 +2,16 @@
 use Prim.Native.Nat.{ℕ, zero, suc, _+_, _*_, _-_, _^_, _≤_, _<_, min, max}
 use mathlib.Core.Path.{_≡_, refl, sym, ap, _∙_, subst}
 use mathlib.Core.Logic.{⊎-elim}
-use mathlib.Core.Bool.{Bool, true, _||_}
+use mathlib.Core.Bool.{Bool, true, false, _||_}
 use mathlib.Core.List.{List, [], _∷_}
 use native.Mathlib.Omega.{arith}
 use lib.ListN.{length, getD, set}
 use lib.Seq.{getD-set-other}
-use borrow.Author.Tests.{lt-ltb, le-ltb}
+use lib.Dec.{ltb}
+use borrow.Author.Tests.{lt-ltb, le-ltb, ltb-true, ltb-false}
 use Rattle.numset.specs.Runs.{run, Runs, Under, Canonical, within, has, lo, hi, runsTo, runs, Good, kept, insert, union, fits, pack}
-use Rattle.numset.specs.Private.{Shifted, Cleared, Lapsed, Dropped}
-use Rattle.lists.proofs.Tests.{lt-or-ge}
+use Rattle.numset.specs.Private.{Shifted, Cleared, oldestLapsed, Lapsed, Dropped}
+use Rattle.lists.proofs.Tests.{lt-or-ge, and-left, and-right}
 use Rattle.numset.proofs.Laws.{outside-below, under-mono, canonical, topOf, under-topOf}
 use Rattle.numset.proofs.Union.{insert-over, insert-past, insert-join, union-none, union-some}
 use Rattle.numset.proofs.Words.{at, runs-suc, length-runs}
@@ -78,7 +79,7 @@ pub union-length : (l u : ℕ) (rs : Runs) → length (union l u rs) ≤ suc (le
 union-length l u rs = ⊎-elim (λ p. rw (union-none l u rs p) (omega arith)) (λ p. rw (union-some l u rs p) (insert-length l u rs)) (lt-or-ge u l)
 
 -- ---- upper ends rise
-upper-below : (top : ℕ) (m : List ℕ) (n j : ℕ) → Under top (runsTo m n) → j < n → hi m j + 1 < top
+pub upper-below : (top : ℕ) (m : List ℕ) (n j : ℕ) → Under top (runsTo m n) → j < n → hi m j + 1 < top
 unfolding Under runsTo
 upper-below top m zero j w h = absurd (omega arith)
 upper-below top m (suc n) j w h =
@@ -124,9 +125,49 @@ module _ {m : List ℕ} {t k : ℕ} (w : Lapsing m t k) where
   pub lapsing-end : getD m 0 0 ≤ k → Lapsed m t k
   lapsing-end h = record { few = w .few; before = w .before; after = λ j p q. absurd (omega arith) }
 
+-- ---- the oldest run alone
+module _ (m : List ℕ) (t : ℕ) where
+  pub oldest-missing : getD m 0 0 ≡ 0 → false ≡ oldestLapsed m t
+  unfolding oldestLapsed
+  oldest-missing z = rw (le-ltb 0 (getD m 0 0) (omega arith))
+
+  pub oldest-is : 0 < getD m 0 0 → ltb (hi m 0) t ≡ oldestLapsed m t
+  unfolding oldestLapsed
+  oldest-is h = rw (lt-ltb 0 (getD m 0 0) h)
+
+-- where it did not lapse, none did
+pub none-lapses : {m : List ℕ} {t : ℕ} → Good m → oldestLapsed m t ≡ false → Lapsed m t 0
+none-lapses {m} {t} g e =
+    ⊎-elim
+    (λ h. lapsing-stop (lapsing-start m t) g (ltb-false _ _ (oldest-is m t h ∙ e)))
+    (λ h. lapsing-end (lapsing-start m t) h)
+    (lt-or-ge 0 (getD m 0 0))
+
+-- where it did, there are fewer left
+fewer-left : (t : ℕ) (m : List ℕ) (i : ℕ) → hi m 0 < t → length (kept t (runsTo m (suc i))) ≤ i
+unfolding runsTo
+fewer-left t m zero h = rw (kept-out t (lo m 0) (hi m 0) (runsTo m 0) h) (kept-length t (runsTo m 0))
+fewer-left t m (suc i) h =
+    let k = fewer-left t m i h in
+    ⊎-elim
+    (λ p. rw (kept-out t (lo m (suc i)) (hi m (suc i)) (runsTo m (suc i)) p) (omega arith))
+    (λ p. rw (kept-in t (lo m (suc i)) (hi m (suc i)) (runsTo m (suc i)) p) (omega arith))
+    (lt-or-ge (hi m (suc i)) t)
+
+-- and so there is room
+pub room-made : (m : List ℕ) (t l u : ℕ) → Good m → oldestLapsed m t ≡ true → true ≡ fits (length m) (union l u (kept t (runs m)))
+unfolding oldestLapsed
+room-made m t l u g e =
+    let h : 0 < getD m 0 0 = ltb-true 0 (getD m 0 0) (and-left _ (ltb (hi m 0) t) e) in
+    let n : getD m 0 0 ≡ suc (getD m 0 0 - 1) = omega arith in
+    let a = fewer-left t m (getD m 0 0 - 1) (ltb-true (hi m 0) t (and-right (ltb 0 (getD m 0 0)) _ e)) in
+    let b = union-length l u (kept t (runs m)) in
+    let c : length (kept t (runs m)) ≤ getD m 0 0 - 1 = rw (ap (runsTo m) n) a in
+    sym (lt-ltb (2 * length (union l u (kept t (runs m)))) (length m) (omega (arith, g .room)))
+
 -- ---- what is kept where the k oldest runs lapsed
 module _ {m : List ℕ} {t k : ℕ} (w : Lapsed m t k) where
-  oldest-out : (i : ℕ) → i ≤ k → kept t (runsTo m i) ≡ []
+  pub oldest-out : (i : ℕ) → i ≤ k → kept t (runsTo m i) ≡ []
   unfolding kept runsTo
   oldest-out zero h = refl
   oldest-out (suc i) h = kept-out t (lo m i) (hi m i) (runsTo m i) (w .before i (omega arith)) ∙ oldest-out i (omega arith)
@@ -159,13 +200,6 @@ module _ {m : List ℕ} {t k : ℕ} (w : Lapsed m t k) where
 
     pub kept-all : kept t (runs m) ≡ runs m
     kept-all = all-to (getD m 0 0) (omega arith)
-
-  -- one that lapsed makes room
-  pub room-made : (l u : ℕ) → Good m → 0 < k → true ≡ fits (length m) (union l u (kept t (runs m)))
-  room-made l u g h =
-      let a = union-length l u (kept t (runs m)) in
-      let b = kept-left in
-      sym (lt-ltb (2 * length (union l u (kept t (runs m)))) (length m) (omega (arith, g .room, w .few)))
 
 -- ---- what the stores of `drop_oldest` and `drop_before` leave
 pub dropped : {m m₁ m₂ m′ : List ℕ} {k : ℕ} → Shifted m m₁ (2 * k + 1) 1 (2 * (getD m 0 0 - k)) → Cleared m₁ m₂ (2 * (getD m 0 0 - k) + 1) (2 * getD m 0 0 + 1)

@@ -55,12 +55,12 @@ pub fn will_have(set: &[u64], mode: u8, lower: u64, upper: u64, clock: u64) -> b
     ensures { λ r. ⌜ r ≡ has (changed mode lower upper clock (runs (now (set .entry)))) clock ⌝ }
 {
     match mode {
-        STAYS => numset::contains(set, clock),
+        STAYS => numset::contains_from_oldest(set, clock),
         STAYS_AND_ADDS => {
             if inside(lower, upper, clock) {
                 return true;
             }
-            numset::contains(set, clock)
+            numset::contains_from_oldest(set, clock)
         }
         DROPPED => false,
         _ => inside(lower, upper, clock),
