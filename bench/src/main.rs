@@ -194,11 +194,11 @@ fn measure_all() {
     print_growth(&all, &measured);
 }
 
-/// What 64 runs in each set cost against 1, for each side.
+/// What a call costs where 64 runs were made in each set against one where 1 was, for each side.
 fn print_growth(all: &[Workload], measured: &[(Measures, Option<Measures>)]) {
     let at = |name: &str| &measured[all.iter().position(|w| w.name == name).expect("a workload of this name")];
     let ((one, one_counts), (many, many_counts)) = (at(ONE_RUN), at(MANY_RUNS));
-    println!("\nA call with 64 runs in each set against one with 1 run:\n");
+    println!("\nA call after 64 runs were made in each set against one after 1 run was:\n");
     println!("| side | times | instructions |\n|---|---|---|");
     for (side, name) in ["ours", "Rust"].into_iter().enumerate() {
         let counts = one_counts.as_ref().zip(many_counts.as_ref());

@@ -20,6 +20,7 @@ pub fn workloads() -> Vec<Workload> {
         Workload { name: MANY_RUNS, case: runs(RUNS_APART, [0, HALF_THE_RUNS]) },
         Workload { name: "clock at the newest of 64", case: runs(RUNS_APART, [NEXT, NEXT]) },
         Workload { name: "clock behind all 64", case: runs(RUNS_APART, [FAR_AHEAD, FAR_AHEAD]) },
+        Workload { name: "one of 64 lapses in every call", case: lapsing() },
     ]
 }
 
@@ -126,7 +127,7 @@ fn nested() -> Case {
     while rows.0.len() < 128 {
         top = rows.plain(NOT, vec![top]);
     }
-    // The atom turns every 50 rounds: no set comes to have more than 64 runs.
+    // The atom turns every 50 rounds, so that no set comes to have many runs.
     let calls = (0..2000).flat_map(|i| [Call::State(vec![i / 50 % 2]), Call::Time(i + 1)]).collect();
     rows.case(vec![], vec![top], calls)
 }
@@ -158,7 +159,7 @@ fn wide() -> Case {
     rows.case(vec![not], vec![], calls)
 }
 
-/// 64 steps that leave one run in each set, or 64 runs, up to the same clock.
+/// 64 steps that make one run in each set, or 64 runs, up to the same clock.
 const RUNS_IN_ONE: (u64, u64) = (1063, 1);
 const RUNS_APART: (u64, u64) = (1000, 2);
 
@@ -168,20 +169,43 @@ const NEXT: u64 = 1;
 const HALF_THE_RUNS: u64 = 63;
 const FAR_AHEAD: u64 = 4000;
 
-/// 32 Once rows over an instant, half of them at one distance from the clock, half at another. At 0 the clock is what a
-/// call adds, so that no set is searched. After the runs are made: 2000 equal times, then 2000 steps of one.
-fn runs((start, step): (u64, u64), distances: [u64; 2]) -> Case {
+const ONCES: u64 = 32;
+
+/// Once rows over an instant, half of them at one distance from the clock, half at another. At 0 the clock is what a
+/// call adds, so that no set is searched.
+fn onces(distances: [u64; 2], calls: Vec<Call>) -> Case {
     let mut rows = Rows::default();
     let mut properties = Vec::new();
-    for number in 0..32 {
+    for number in 0..ONCES {
         let atom = rows.atom(number);
         let distance = distances[number as usize % 2];
         properties.push(rows.temporal(ONCE, vec![atom], distance, distance));
     }
     let guarantees = properties.split_off(16);
-    let mut calls = vec![Call::Time(start), Call::State(vec![1; 32])];
+    rows.case(properties, guarantees, calls)
+}
+
+/// All atoms of the Once rows hold.
+fn all_hold() -> Call {
+    Call::State(vec![1; ONCES as usize])
+}
+
+/// After the runs are made: 2000 equal times, then 2000 steps of one.
+fn runs((start, step): (u64, u64), distances: [u64; 2]) -> Case {
+    let mut calls = vec![Call::Time(start), all_hold()];
     calls.extend((1..64).map(|i| Call::Time(start + i * step)));
     calls.extend((0..2000).map(|_| Call::Time(1127)));
     calls.extend((1..=2000).map(|i| Call::Time(1127 + i)));
-    rows.case(properties, guarantees, calls)
+    onces(distances, calls)
+}
+
+/// With calls this far apart an instant that is 63 calls ahead leaves 64 runs that are not over.
+const APART: u64 = 2;
+const SIXTY_THREE_CALLS: u64 = 63 * APART;
+
+/// Each call adds a run to every set, and from the 65th on the oldest has ended just before it: 64 are kept.
+fn lapsing() -> Case {
+    let mut calls = vec![all_hold()];
+    calls.extend((1..=4064).map(|i| Call::Time(i * APART)));
+    onces([SIXTY_THREE_CALLS, SIXTY_THREE_CALLS], calls)
 }

@@ -37,6 +37,8 @@ pub enum Bounds {
     Small,
     /// Mostly unbounded.
     Open,
+    /// Late and short, so that many runs lie ahead of the clock.
+    Late,
     Mixed,
     NearH,
 }
@@ -81,13 +83,13 @@ impl Style {
         }
     }
 
-    /// A few temporal rows with short ranges, whose sets can come to have many runs.
+    /// A few temporal rows with short ranges, whose sets come to have many runs, one after the other or at a time.
     pub fn with_many_runs(chance: &mut Chance) -> Self {
         Self {
             rows: 2 + chance.below(8),
             weights: TEMPORAL,
             atoms: 1 + chance.below(2) as u64,
-            bounds: Bounds::Small,
+            bounds: chance.among(&[Bounds::Small, Bounds::Late, Bounds::Late]),
             ..Self::drawn(chance, 1)
         }
     }
@@ -199,6 +201,7 @@ fn properties(chance: &mut Chance, mut free: Vec<usize>) -> (Vec<usize>, Vec<usi
 fn bounds(chance: &mut Chance, style: Bounds) -> (u64, u64) {
     let lower = match style {
         Bounds::Small | Bounds::Open => chance.among(&[0, 0, 0, 1, 2, 3, 5]),
+        Bounds::Late => chance.among(&[0, 120, 126, 127, 128, 129, 150, 200, 300]),
         Bounds::Mixed => {
             let any = chance.word() & H;
             let shift = chance.below(63);
@@ -212,6 +215,7 @@ fn bounds(chance: &mut Chance, style: Bounds) -> (u64, u64) {
     let upper = match style {
         Bounds::Small => chance.among(&[MAX, lower, lower + small, lower + small, lower + 20]),
         Bounds::Open => chance.among(&[MAX, MAX, MAX, lower + small]),
+        Bounds::Late => chance.among(&[lower, lower, lower, lower + 1, lower + small]),
         Bounds::Mixed => chance.among(&[MAX, lower, lower.saturating_add(small), lower.saturating_add(any >> shift), H]),
         Bounds::NearH => chance.among(&[MAX, lower, lower.saturating_add(small), H - 1, H]),
     };

@@ -17,46 +17,60 @@ const NEAR: u64 = 1000;
 pub fn decided(text: &[u8]) -> Sentences {
     let mut seen = Seen::default();
     report(text, &mut seen).expect("original and rules agree");
-    seen.0
+    seen.sentences
 }
 
 #[derive(Default)]
-struct Seen(Sentences);
+struct Seen {
+    sentences: Sentences,
+    /// Of each row, whether its set got an instant and was not dropped whole since: where it is empty, it has lapsed.
+    filled: Vec<bool>,
+}
 
 impl Watch for Seen {
     fn book(&mut self, number: u64) {
-        self.0.insert(format!("book {number}"));
+        self.sentences.insert(format!("book {number}"));
     }
 
     fn call(&mut self, number: u64, monitor: &Monitor) {
-        self.0.insert(format!("call {number}"));
+        self.sentences.insert(format!("call {number}"));
         if number == ACCEPTED {
+            self.fill(monitor);
             self.rows(monitor);
         }
     }
 
     fn stop(&mut self, number: u64) {
-        self.0.insert(format!("stop {number}"));
+        self.sentences.insert(format!("stop {number}"));
     }
 }
 
 impl Seen {
+    fn fill(&mut self, monitor: &Monitor) {
+        self.filled.resize(monitor.book.rows.len(), false);
+        for (number, row) in monitor.book.rows.iter().enumerate() {
+            let stays = !matches!(row, Row::Since(left, ..) if !monitor.values[*left]);
+            self.filled[number] = (self.filled[number] && stays) || !monitor.sets[number].list().is_empty();
+        }
+    }
+
     fn rows(&mut self, monitor: &Monitor) {
         let (early, settled) = (monitor.early(), monitor.settled());
         for number in monitor.book.properties() {
             let (row, value, set) = (&monitor.book.rows[number], monitor.values[number], &monitor.sets[number]);
-            self.0.insert(format!("{} value {}", name(row), u8::from(value)));
+            self.sentences.insert(format!("{} value {}", name(row), u8::from(value)));
             for (rule, answers) in [("early", &early), ("settled", &settled)] {
-                self.0.insert(format!("{} {rule} {}", name(row), told(answers[number])));
-                self.0.extend(operands(row, answers).map(|operands| format!("{} {rule} of {operands}", name(row))));
+                self.sentences.insert(format!("{} {rule} {}", name(row), told(answers[number])));
+                self.sentences.extend(operands(row, answers).map(|operands| format!("{} {rule} of {operands}", name(row))));
             }
             if let Some(range) = range(row) {
-                self.0.insert(format!("{} over {} value {}", name(row), range_kind(range), u8::from(value)));
+                self.sentences.insert(format!("{} over {} value {}", name(row), range_kind(range), u8::from(value)));
                 let lower = if range.lower == 0 { "lower 0" } else { "lower over 0" };
                 let covers = if set.covers(monitor.clock) { "covers" } else { "does not cover" };
                 let (told_early, told_settled) = (operands(row, &early).unwrap_or_default(), operands(row, &settled).unwrap_or_default());
-                self.0.insert(format!("{} early: {told_early}, {lower}, {covers}", name(row)));
-                self.0.insert(format!("{} settled: {told_settled}, {lower}, {}", name(row), set_kind(set, monitor.clock)));
+                self.sentences.insert(format!("{} early: {told_early}, {lower}, {covers}", name(row)));
+                let set = set_kind(set, self.filled[number], monitor.clock);
+                self.sentences.insert(format!("{} settled: {told_settled}, {lower}, {set}", name(row)));
             }
         }
     }
@@ -122,14 +136,14 @@ fn range_kind(range: &Range) -> String {
     format!("[{lower}, {upper}]")
 }
 
-fn set_kind(set: &Runs, clock: u64) -> &'static str {
+fn set_kind(set: &Runs, filled: bool, clock: u64) -> &'static str {
     if set.covers(clock) {
         "covers"
-    } else if set.list().is_empty() {
-        "empty"
-    } else if set.gone(clock) {
+    } else if !set.list().is_empty() {
+        "does not cover"
+    } else if filled {
         "lapsed"
     } else {
-        "does not cover"
+        "empty"
     }
 }

@@ -74,34 +74,55 @@ fn p12_once_historically() {
 }
 
 #[test]
-fn a_lapsed_rule_stays_open() {
+fn a_lapsed_rule_settles() {
     let book = format!("3 2 0 0 0 7 1 0 {MAX} 8 1 0 5 2 0 1 0 1 2");
-    assert_eq!(words(&book, &["1 1 1", "1 1 0", "0 6"])[2], "002");
+    assert_eq!(words(&book, &["1 1 1", "1 1 0", "0 5", "0 6"])[2..], ["102", "000"]);
+}
+
+/// A call at every second instant, from 2 to the last.
+fn every_second(last: u64) -> Vec<String> {
+    (1..=last / 2).map(|i| format!("0 {}", 2 * i)).collect()
+}
+
+#[test]
+fn old_runs_give_their_room_back() {
+    let steps = every_second(1000);
+    let mut calls = vec!["1 1 1"];
+    calls.extend(steps.iter().map(String::as_str));
+    let lines = lines("2 2 0 0 0 8 1 0 0 1 0 0 1 1", &calls);
+    assert!(lines[..501].iter().all(|l| l.ends_with(" 0 122")), "{lines:?}");
+}
+
+#[test]
+fn a_thousand_episodes_of_ten_minutes() {
+    let times: Vec<[String; 2]> = (0..1000).map(|n| [1000 * n, 1000 * n + 601].map(|time| format!("0 {time}"))).collect();
+    let calls: Vec<&str> = times.iter().flat_map(|[start, end]| [start, "1 1 1", "1 1 0", end]).collect();
+    assert_eq!(values("2 2 0 0 0 8 1 0 600 1 0 0 1 1", &calls), "0110".repeat(1000));
 }
 
 #[test]
 fn sixty_four_runs() {
-    let book = "2 2 0 0 0 8 1 0 0 1 0 0 1 1";
-    let steps: Vec<String> = (1..=63).map(|i| format!("0 {}", 2 * i)).collect();
+    // Each call adds one instant, 128 ahead: at 128 none of the 64 runs is over, at 129 the oldest is.
+    let steps = every_second(126);
     let mut calls = vec!["1 1 1"];
     calls.extend(steps.iter().map(String::as_str));
-    calls.extend(["0 128", "0 127", "0 128"]);
-    let lines = lines(book, &calls);
-    assert!(lines[..64].iter().all(|l| l.ends_with(" 0 122")), "{lines:?}");
-    assert_eq!(lines[64..], ["65 11", "66 0 122", "67 0 122", "end"]);
+    calls.extend(["0 128", "0 128", "0 129"]);
+    let lines = lines("2 2 0 0 0 8 1 128 128 1 0 0 1 1", &calls);
+    assert!(lines[..64].iter().all(|l| l.ends_with(" 0 022")), "{lines:?}");
+    assert_eq!(lines[64..], ["65 11", "66 11", "67 0 022", "end"]);
 }
 
 #[test]
 fn a_full_row_leaves_the_rows_below_as_they_were() {
     // Row 1 counts calls without b, row 3 those with a. Row 3 is full at t128, so row 1 must not get 129 from that call.
-    let book = "4 2 1 0 0 7 1 1 1 2 0 0 0 8 1 0 0 2 0 2 0 2 1 3";
-    let steps: Vec<String> = (1..=63).map(|i| format!("0 {}", 2 * i)).collect();
+    let book = "4 2 1 0 0 7 1 1 1 2 0 0 0 8 1 128 128 2 0 2 0 2 1 3";
+    let steps = every_second(126);
     let mut calls = vec!["1 2 1 1"];
     calls.extend(steps.iter().map(String::as_str));
     calls.extend(["1 2 1 0", "0 128", "0 127", "1 2 0 1", "0 129"]);
     let lines = lines(book, &calls);
     assert_eq!(lines[65], "66 11");
-    assert_eq!(lines[66], "67 0 022 122");
+    assert_eq!(lines[66], "67 0 022 022");
     assert_eq!(lines[68], "69 0 122 022");
 }
 

@@ -28,12 +28,6 @@ pub struct Monitor {
     pub values: Vec<bool>,
 }
 
-/// What a call does to a row's set.
-enum Change {
-    Stays,
-    Becomes(Runs),
-}
-
 impl Monitor {
     pub fn new(book: Book) -> Self {
         let rows = book.rows.len();
@@ -69,21 +63,16 @@ impl Monitor {
     /// Re-evaluates every row at this clock and these atoms; nothing changes if one of the sets has no room.
     fn step(&mut self, clock: u64, atoms: Vec<bool>) -> u64 {
         let mut values = Vec::with_capacity(self.book.rows.len());
-        let mut changes = Vec::with_capacity(self.book.rows.len());
+        let mut sets = Vec::with_capacity(self.book.rows.len());
         for (row, old) in self.book.rows.iter().zip(&self.sets) {
-            let change = change(row, &values, old, clock);
-            let set = if let Change::Becomes(new) = &change { new } else { old };
+            let set = changed(row, &values, old.kept(clock), clock);
             if set.list().len() > MOST_RUNS {
                 return NO_ROOM;
             }
-            values.push(rules::value(row, &values, set, &atoms, clock));
-            changes.push(change);
+            values.push(rules::value(row, &values, &set, &atoms, clock));
+            sets.push(set);
         }
-        for (set, change) in self.sets.iter_mut().zip(changes) {
-            if let Change::Becomes(new) = change {
-                *set = new;
-            }
-        }
+        self.sets = sets;
         self.clock = clock;
         self.atoms = atoms;
         self.values = values;
@@ -101,22 +90,68 @@ impl Monitor {
     }
 }
 
-/// The call's part in a row's set: Once counts calls after which the argument held, Historically those after which it
-/// failed, Since those after which right held, as long as left holds after each later call.
-fn change(row: &Row, values: &[bool], old: &Runs, clock: u64) -> Change {
-    let with = |set: &Runs, range: &Range| {
+/// A row's set after the call, from what is left of it at the new clock: Once counts calls after which the argument held,
+/// Historically those after which it failed, Since those after which right held, as long as left holds after each later
+/// call.
+fn changed(row: &Row, values: &[bool], kept: Runs, clock: u64) -> Runs {
+    let with = |set: Runs, range: &Range| {
         let (lower, upper) = range.counted_from(clock);
-        Change::Becomes(set.with(lower, upper))
+        set.with(lower, upper)
     };
     match row {
-        Row::Once(argument, range) if values[*argument] => with(old, range),
-        Row::Historically(argument, range) if !values[*argument] => with(old, range),
-        Row::Since(left, right, range) => match (values[*left], values[*right]) {
-            (true, true) => with(old, range),
-            (true, false) => Change::Stays,
-            (false, true) => with(&Runs::default(), range),
-            (false, false) => Change::Becomes(Runs::default()),
-        },
-        _ => Change::Stays,
+        Row::Once(argument, range) if values[*argument] => with(kept, range),
+        Row::Historically(argument, range) if !values[*argument] => with(kept, range),
+        Row::Since(left, right, range) => {
+            let stays = if values[*left] { kept } else { Runs::default() };
+            if values[*right] {
+                with(stays, range)
+            } else {
+                stays
+            }
+        }
+        _ => kept,
+    }
+}
+
+#[cfg(test)]
+mod tests {
+    use super::*;
+    use crate::book;
+    use crate::text::Reader;
+
+    fn monitor(book: &str) -> Monitor {
+        Monitor::new(book::judge(&book::read(&mut Reader::new(book.as_bytes())).unwrap()).unwrap())
+    }
+
+    /// Once[0,5] a0 in row 1, after a state in which a0 holds, at 0.
+    fn once_to_5() -> Monitor {
+        let mut monitor = monitor("2 2 0 0 0 8 1 0 5 1 0 0 1 1");
+        assert_eq!(monitor.state_call(&[1]), ACCEPTED);
+        monitor
+    }
+
+    #[test]
+    fn a_run_that_ends_at_the_clock_stays() {
+        let mut monitor = once_to_5();
+        monitor.state_call(&[0]);
+        monitor.time_call(5);
+        assert_eq!(monitor.sets[1].list(), [(0, 5)]);
+        monitor.time_call(6);
+        assert_eq!(monitor.sets[1].list(), []);
+    }
+
+    #[test]
+    fn a_run_that_is_over_is_not_joined() {
+        let mut monitor = once_to_5();
+        monitor.time_call(6);
+        assert_eq!(monitor.sets[1].list(), [(6, 11)]);
+    }
+
+    #[test]
+    fn a_refused_call_drops_nothing() {
+        let mut monitor = once_to_5();
+        monitor.state_call(&[0]);
+        assert_eq!(monitor.time_call(H + 1), TIME_ABOVE_H);
+        assert_eq!(monitor.sets[1].list(), [(0, 5)]);
     }
 }

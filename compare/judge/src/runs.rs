@@ -24,6 +24,11 @@ impl Runs {
         self.0.iter().any(|&(first, last)| first <= t && last == u64::MAX)
     }
 
+    /// The runs that end at t or after it.
+    pub fn kept(&self, t: u64) -> Runs {
+        Runs(self.0.iter().copied().filter(|&(_, last)| last >= t).collect())
+    }
+
     /// The union with lower..=upper.
     pub fn with(&self, lower: u64, upper: u64) -> Runs {
         if lower > upper {
@@ -90,6 +95,16 @@ mod tests {
                 }
             }
         }
+    }
+
+    #[test]
+    fn what_is_over_is_dropped() {
+        let set = Runs(vec![(0, 1), (3, 5), (7, 7)]);
+        assert_eq!(set.kept(1), set);
+        assert_eq!(set.kept(2).0, [(3, 5), (7, 7)]);
+        assert_eq!(set.kept(5).0, [(3, 5), (7, 7)]);
+        assert_eq!(set.kept(6).0, [(7, 7)]);
+        assert_eq!(set.kept(8).0, []);
     }
 
     #[test]

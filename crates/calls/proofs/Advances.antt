@@ -133,7 +133,7 @@ module _ {m : List ℕ} {c : ℕ} {atoms m₁ modes : List ℕ} (sound : Sound m
       let o : ownerAt m₁ j ≡ ownerAt m j = alike .below (OWNERS + j) (omega arith) in
       let range : rangeAt m₁ (ownerAt m j) ≡ rangeAt m (ownerAt m j) =
       ap₂ (λ (l u : ℕ). record { lower = l; upper = u }) (alike .below (ROWS + ROW * ownerAt m j + 2) (omega arith)) (alike .below (ROWS + ROW * ownerAt m j + 3) (omega arith)) in
-      ap₂ (λ (g : Range) (ws : List ℕ). changed mode (start g c) (stop g c) (runs ws)) (ap (rangeAt m₁) o ∙ range) (alike-set sound alike j (omega arith))
+      ap₂ (λ (g : Range) (ws : List ℕ). changed mode (start g c) (stop g c) c (runs ws)) (ap (rangeAt m₁) o ∙ range) (alike-set sound alike j (omega arith))
 
   set-planned : (j : ℕ) → j < temporals m → setAfter m₁ c (getD modes j 0) j ≡ setAt (stepOf m c atoms) (ownerAt m j)
   set-planned j h = after-same (getD modes j 0) j h ∙ planned .sets refl j h
@@ -163,7 +163,7 @@ module _ {m : List ℕ} {c : ℕ} {atoms m₁ modes : List ℕ} (sound : Sound m
         let l : j < temporals m₁ = rw slots-same lt in
         let g : Range = rangeAt m₁ (ownerAt m₁ j) in
         good-pack SET (after j) (room-is (after j) (fitting .room j l))
-        (changed-under (2 ^ 64 + 1) (getD modes j 0) (start g c) (stop g c) (runs (slotWords m₁ j)) (sound₁ .sets j (omega arith) .apart)
+        (changed-under (2 ^ 64 + 1) (getD modes j 0) (start g c) (stop g c) c (runs (slotWords m₁ j)) (sound₁ .sets j (omega arith) .apart)
         (stop-fits g c small (b .rows (ownerAt m₁ j) (b .owned j l) .upper)))
 
     value-word : (r : ℕ) → r < rowCount m → valueAt (clocked m₂ c) r ≡ valueAfter m c atoms r

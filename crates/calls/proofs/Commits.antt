@@ -8,10 +8,10 @@ use native.Mathlib.Omega.{arith}
 use lib.ListN.{length, getD, take, drop, List·getD-append}
 use lib.Seq.{getD-append-add, getD-take, getD-drop, length-take-le, take-at, drop-at}
 use borrow.Author.Tests.{ltb-true}
-use borrow.Rule.Slice.PartMut.{putMid, put-same, same-len-mid}
-use Rattle.numset.specs.Runs.{Runs, runs, Good, fits, pack}
+use borrow.Rule.Slice.PartMut.{putMid, same-len-mid}
+use Rattle.numset.specs.Runs.{Runs, runs, Good, fits, pack, kept}
 use Rattle.lists.proofs.Tests.{lt-or-ge}
-use Rattle.numset.proofs.Packs.{length-pack, packed}
+use Rattle.numset.proofs.Packs.{length-pack}
 use Rattle.pmtl.specs.Book.{Range, start, stop}
 use Rattle.memory.specs.Layout.{ROWS, ROW, OWNERS, SET, SIZE}
 use Rattle.lists.specs.Lists.{part}
@@ -19,7 +19,7 @@ use Rattle.memory.specs.Memory.{temporals, lowerAt, upperAt, ownerAt, setStart,
 use Rattle.lists.proofs.Parts.{word-at, part-length, part-same}
 use Rattle.set_change.specs.Change.{changed}
 use Rattle.set_change.proofs.Changes.{changed-0}
-use Rattle.calls.specs.Private.{setAfter, Roomy, Fit, Fitting, Written}
+use Rattle.calls.specs.Private.{setAfter, Held, Roomy, Fit, Fitting, Written}
 
 -- ---- a part of a memory put anew
 module _ (b k : ℕ) (xs ys : List ℕ) (hb : b + k ≤ length xs) (hk : length ys ≡ k) where
@@ -62,34 +62,41 @@ set-long m j e h = part-length (setStart j) SET m (omega arith)
 pub room-is : (s : Runs) → fits SET s ≡ true → 2 * length s < SET
 room-is s e = ltb-true (2 * length s) SET e
 
-module _ {m : List ℕ} {mode s t j : ℕ} (f : Roomy m mode s t j) {p : List ℕ} (e : p ≡ slotWords m j) where
+module _ {m : List ℕ} {mode s t c j : ℕ} (f : Roomy m mode s t c j) {p : List ℕ} (e : p ≡ slotWords m j) where
   set-size : length (slotWords m j) ≡ SET
   set-size = set-long m j (f .long) (f .inside)
 
   pub roomy-good : Good p
   roomy-good = rw e (f .good)
 
-  pub roomy-room : fits (length p) (changed mode s t (runs p)) ≡ true
+  pub roomy-room : fits (length p) (changed mode s t c (runs p)) ≡ true
   roomy-room = rw (e, set-size) (f .room)
 
-  pub roomy-done : {ys : List ℕ} → ys ≡ pack (length p) (changed mode s t (runs p)) → ys ≡ pack SET (changed mode s t (runs (slotWords m j)))
+  pub roomy-done : {ys : List ℕ} → ys ≡ pack (length p) (changed mode s t c (runs p)) → ys ≡ pack SET (changed mode s t c (runs (slotWords m j)))
   roomy-done h = h ∙ rw (e, set-size)
 
-module _ {m : List ℕ} {c mode j : ℕ} (f : Fit m c mode j) where
-  long : length (slotWords m j) ≡ SET
-  long = set-long m j (f .bounded .long) (f .inside)
+module _ {m : List ℕ} {j : ℕ} (f : Held m j) {p : List ℕ} (e : p ≡ slotWords m j) where
+  pub held-good : Good p
+  held-good = rw e (f .good)
 
-  pub commit-none : mode ≡ 0 → m ≡ putMid (setStart j) SET m (pack SET (setAfter m c mode j))
-  commit-none e =
+  pub held-done : (c : ℕ) {ys : List ℕ} → ys ≡ pack (length p) (kept c (runs p)) → ys ≡ pack SET (kept c (runs (slotWords m j)))
+  held-done c h = h ∙ rw (e, set-long m j (f .long) (f .inside))
+
+module _ {m : List ℕ} {c mode j : ℕ} (f : Fit m c mode j) where
+  pub fit-held : Held m j
+  fit-held = record { long = f .bounded .long; inside = f .inside; good = f .good }
+
+  -- where the set stays and nothing is added
+  pub commit-stays : {m′ : List ℕ} → mode ≡ 0 → m′ ≡ putMid (setStart j) SET m (pack SET (kept c (runs (slotWords m j)))) → m′ ≡ putMid (setStart j) SET m (pack SET (setAfter m c mode j))
+  commit-stays e h =
       let g : Range = rangeAt m (ownerAt m j) in
-      let p : slotWords m j ≡ pack SET (runs (slotWords m j)) = packed (slotWords m j) (f .good) ∙ ap (λ (k : ℕ). pack k (runs (slotWords m j))) long in
-      sym (ap (λ (s : Runs). putMid (setStart j) SET m (pack SET s)) (changed-0 (start g c) (stop g c) (runs (slotWords m j)) mode e) ∙ ap (putMid (setStart j) SET m) (sym p) ∙ put-same (setStart j) SET m)
+      h ∙ sym (ap (λ (s : Runs). putMid (setStart j) SET m (pack SET s)) (changed-0 (start g c) (stop g c) c (runs (slotWords m j)) mode e))
 
   module _ {s t : ℕ} (es : s ≡ start (rangeAt m (ownerAt m j)) c) (et : t ≡ stop (rangeAt m (ownerAt m j)) c) where
-    pub fit-roomy : Roomy m mode s t j
+    pub fit-roomy : Roomy m mode s t c j
     fit-roomy = record { long = f .bounded .long; inside = f .inside; good = f .good; room = rw (es, et) (f .room) }
 
-    pub fit-done : {m′ : List ℕ} → m′ ≡ putMid (setStart j) SET m (pack SET (changed mode s t (runs (slotWords m j)))) → m′ ≡ putMid (setStart j) SET m (pack SET (setAfter m c mode j))
+    pub fit-done : {m′ : List ℕ} → m′ ≡ putMid (setStart j) SET m (pack SET (changed mode s t c (runs (slotWords m j)))) → m′ ≡ putMid (setStart j) SET m (pack SET (setAfter m c mode j))
     fit-done h = h ∙ rw (es, et)
 
 -- ---- one after the other
@@ -136,7 +143,7 @@ module _ {m : List ℕ} {c : ℕ} {modes : List ℕ} (fitting : Fitting m c mode
   set-same = w .old n (omega arith) under
 
   after-same : (mode : ℕ) → setAfter m₁ c mode n ≡ setAfter m c mode n
-  after-same mode = ap₂ (λ (g : Range) (s : Runs). changed mode (start g c) (stop g c) s) range-same (ap runs set-same)
+  after-same mode = ap₂ (λ (g : Range) (s : Runs). changed mode (start g c) (stop g c) c s) range-same (ap runs set-same)
 
   pub commit-fit : Fit m₁ c (getD modes n 0) n
   commit-fit =

@@ -28,7 +28,7 @@ use Rattle.memory.specs.Alike.{Alike}
 use Rattle.memory.proofs.Rows.{rows-length, row-at, kept-ordered}
 use Rattle.memory.proofs.Alike.{alike-filled, alike-sound, alike-rows, alike-state}
 use Rattle.set_change.specs.Change.{changed, modeIn}
-use Rattle.set_change.proofs.Changes.{changed-0, room-else}
+use Rattle.set_change.proofs.Changes.{room-else, will-0}
 use Rattle.calls.specs.Private.{snapOf, stepOf, heldIn, atomsIn, setNext, valueNext, modeAt, setAfter, rowPlan, modePut, RowTried, valueAfter, Planned, Bounded, Slot}
 use Rattle.calls.proofs.Rules.{no-set, changed-set, set-at, set-of-slot}
 use Rattle.memory.proofs.Bits.{bit-back}
@@ -75,7 +75,7 @@ module _ (m : List ℕ) (kept : BookKept m) (c : ℕ) (atoms : List ℕ) where
       let row = mapRow (value (rowsOf m) (stepOf m c atoms)) (rowOf m r) in
       set-now r l
       ∙ changed-set c (setOf m r) (value (rowsOf m) (stepOf m c atoms)) m r k (kept .rows r l .kind)
-      ∙ ap (changed (modeIn row) (start (rangeAt m r) c) (stop (rangeAt m r) c))
+      ∙ ap (changed (modeIn row) (start (rangeAt m r) c) (stop (rangeAt m r) c) c)
       (set-of-slot m r k ∙ ap (λ (i : ℕ). runs (slotWords m i)) (kept .slots j h))
 
   -- every set has room, or one has not
@@ -197,9 +197,9 @@ module _ {m : List ℕ} {c : ℕ} {atoms : List ℕ} (sound : Sound m) where
           let k : 7 ≤ kindAt m n = rw (← e) (sound .book .temporals-are j l) in
           let row = sound .book .rows n h in
           let s = own-slot (sound .book) n j h k l e in
-          ap₂ (λ (r : ℕ) (x : List ℕ). changed (modeAt m′ n) (start (rangeAt m r) c) (stop (rangeAt m r) c) (runs x)) e (ap (slotWords m) s)
-          ∙ ap (changed (modeAt m′ n) (start (rangeAt m n) c) (stop (rangeAt m n) c)) (sym (set-of-slot m n k))
-          ∙ ap₂ (λ (row : Row ℕ) (s : Runs). changed (modeIn (mapRow (heldIn m′) row)) (start (rangeAt m n) c) (stop (rangeAt m n) c) s) row-now refl
+          ap₂ (λ (r : ℕ) (x : List ℕ). changed (modeAt m′ n) (start (rangeAt m r) c) (stop (rangeAt m r) c) c (runs x)) e (ap (slotWords m) s)
+          ∙ ap (changed (modeAt m′ n) (start (rangeAt m n) c) (stop (rangeAt m n) c) c) (sym (set-of-slot m n k))
+          ∙ ap₂ (λ (row : Row ℕ) (s : Runs). changed (modeIn (mapRow (heldIn m′) row)) (start (rangeAt m n) c) (stop (rangeAt m n) c) c s) row-now refl
           ∙ sym (changed-set c (setOf m n) (heldIn m′) m n k (row .kind))
           ∙ ap (setRule c (setOf m n)) operands-right
           ∙ sym (set-now m (sound .book) c atoms n h)
@@ -321,10 +321,10 @@ module _ {m : List ℕ} {c j r : ℕ} (slot : Slot m c j r) where
 
     pub plan-made :
         {mode s t : ℕ} {room here : Bool} → s ≡ start (rangeAt m r) c → t ≡ stop (rangeAt m r) c
-        → room ≡ fits (length p) (changed mode s t (runs p)) → here ≡ has (changed mode s t (runs p)) c → {wanted : ℕ} → mode ≡ wanted
+        → room ≡ fits (length p) (changed mode s t c (runs p)) → here ≡ has (changed mode s t c (runs p)) c → {wanted : ℕ} → mode ≡ wanted
         → record { mode = mode; here = here; room = room } ≡ rowPlan m c wanted j
     plan-made {mode} {s} {t} {room} {here} es et er eh {wanted} em =
-        let q : changed mode s t (runs p) ≡ setAfter m c wanted j = rw (em, es, et, e, slot .owner) in
+        let q : changed mode s t c (runs p) ≡ setAfter m c wanted j = rw (em, es, et, e, slot .owner) in
         let er′ : room ≡ fits SET (setAfter m c wanted j) = er ∙ ap₂ (λ (n : ℕ) (rs : Runs). fits n rs) long q in
         let eh′ : here ≡ has (setAfter m c wanted j) c = eh ∙ ap (λ (rs : Runs). has rs c) q in
         λ i. record { mode = em i; here = eh′ i; room = er′ i }
@@ -334,5 +334,4 @@ module _ {m : List ℕ} {c j r : ℕ} (slot : Slot m c j r) where
         {mode : ℕ} {here : Bool} → mode ≡ 0 → here ≡ has (runs p) c → {wanted : ℕ} → mode ≡ wanted → record { mode = mode; here = here; room = true } ≡ rowPlan m c wanted j
     plan-stays {mode} {here} z eh {wanted} em =
         let g = rangeAt m r in
-        let still : changed mode (start g c) (stop g c) (runs p) ≡ runs p = changed-0 (start g c) (stop g c) (runs p) mode z in
-        plan-made refl refl (room-else mode (start g c) (stop g c) slot-good slot-long (λ one. omega arith)) (eh ∙ sym (ap (λ (rs : Runs). has rs c) still)) em
+        plan-made refl refl (room-else mode (start g c) (stop g c) c slot-good slot-long (λ one. omega arith)) (will-0 mode (start g c) (stop g c) c (runs p) eh z) em

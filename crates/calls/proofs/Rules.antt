@@ -9,7 +9,7 @@ use lib.Dec.{eqb}
 use borrow.Author.Tests.{le-leb, lt-leb}
 use Rattle.numset.specs.Runs.{Runs, runs}
 use Rattle.pmtl.specs.Book.{start, stop, mapRow}
-use Rattle.pmtl.specs.Sets.{setRule}
+use Rattle.pmtl.specs.Sets.{setRuleBy, setRule}
 use Rattle.pmtl.specs.Monitor.{setAt, valueRule}
 use Rattle.memory.specs.Memory.{rowCount, kindAt, argAt, lowerAt, upperAt, startAt, slotAt, operandsOf, slotWords, rowOf, setOf, stateOf, rangeAt}
 use Rattle.book.specs.Rows.{rowFrom}
@@ -20,7 +20,7 @@ use Rattle.set_change.proofs.Changes.{set-historically, set-once, set-since}
 -- ---- sets
 -- a row that is not temporal has none
 no-set-from : (c : ℕ) (s : Runs) (f : ℕ → Bool) (kind arg lower upper : ℕ) (os : List ℕ) → kind < 7 → setRule c s (mapRow f (rowFrom kind arg lower upper os)) ≡ []
-unfolding rowFrom setRule
+unfolding rowFrom setRuleBy
 no-set-from c s f zero arg lower upper os h = refl
 no-set-from c s f (suc zero) arg lower upper os h = refl
 no-set-from c s f (suc (suc zero)) arg lower upper os h = refl
@@ -33,7 +33,7 @@ no-set-from c s f (suc (suc (suc (suc (suc (suc (suc k))))))) arg lower upper os
 -- a temporal row's set changes by its mode
 changed-from : (c : ℕ) (s : Runs) (f : ℕ → Bool) (k arg lower upper : ℕ) (os : List ℕ) → k ≤ 2
     → setRule c s (mapRow f (rowFrom (suc (suc (suc (suc (suc (suc (suc k))))))) arg lower upper os))
-    ≡ changed (modeIn (mapRow f (rowFrom (suc (suc (suc (suc (suc (suc (suc k))))))) arg lower upper os))) (start (record { lower = lower; upper = upper }) c) (stop (record { lower = lower; upper = upper }) c) s
+    ≡ changed (modeIn (mapRow f (rowFrom (suc (suc (suc (suc (suc (suc (suc k))))))) arg lower upper os))) (start (record { lower = lower; upper = upper }) c) (stop (record { lower = lower; upper = upper }) c) c s
 unfolding rowFrom
 changed-from c s f zero arg lower upper os h = set-historically c s _ _
 changed-from c s f (suc zero) arg lower upper os h = set-once c s _ _
@@ -45,11 +45,11 @@ module _ (c : ℕ) (s : Runs) (f : ℕ → Bool) (m : List ℕ) (r : ℕ) where
   unfolding rowOf
   no-set h = no-set-from c s f (kindAt m r) _ _ _ _ h
 
-  pub changed-set : 7 ≤ kindAt m r → kindAt m r ≤ 9 → setRule c s (mapRow f (rowOf m r)) ≡ changed (modeIn (mapRow f (rowOf m r))) (start (rangeAt m r) c) (stop (rangeAt m r) c) s
+  pub changed-set : 7 ≤ kindAt m r → kindAt m r ≤ 9 → setRule c s (mapRow f (rowOf m r)) ≡ changed (modeIn (mapRow f (rowOf m r))) (start (rangeAt m r) c) (stop (rangeAt m r) c) c s
   unfolding rowOf
   changed-set h k =
       let e : kindAt m r ≡ suc (suc (suc (suc (suc (suc (suc (kindAt m r - 7))))))) = omega arith in
-      subst⁻¹ (λ (kind : ℕ). let row = mapRow f (rowFrom kind (argAt m r) (lowerAt m r) (upperAt m r) (drop (startAt m r) (operandsOf m))) in setRule c s row ≡ changed (modeIn row) (start (rangeAt m r) c) (stop (rangeAt m r) c) s) e
+      subst⁻¹ (λ (kind : ℕ). let row = mapRow f (rowFrom kind (argAt m r) (lowerAt m r) (upperAt m r) (drop (startAt m r) (operandsOf m))) in setRule c s row ≡ changed (modeIn row) (start (rangeAt m r) c) (stop (rangeAt m r) c) c s) e
       (changed-from c s f (kindAt m r - 7) _ _ _ _ (omega arith))
 
 -- ---- the sets that a memory holds

@@ -54,8 +54,8 @@ module _ {m : List ℕ} {c : ℕ} (timely : Timely m c) (atoms modes : List ℕ)
     next-set =
         let row = timely .sound .book .rows r inside in
         changed-set c (setOf m r) (heldIn m) m r high (row .kind)
-        ∙ ap (changed (modeAt m r) (start (rangeAt m r) c) (stop (rangeAt m r) c)) (set-of-slot m r high ∙ ap (λ (j : ℕ). runs (slotWords m j)) (sym es))
-        ∙ ap (λ (o : ℕ). changed (modeAt m r) (start (rangeAt m o) c) (stop (rangeAt m o) c) (runs (slotWords m slot))) (tried-slot .owner)
+        ∙ ap (changed (modeAt m r) (start (rangeAt m r) c) (stop (rangeAt m r) c) c) (set-of-slot m r high ∙ ap (λ (j : ℕ). runs (slotWords m j)) (sym es))
+        ∙ ap (λ (o : ℕ). changed (modeAt m r) (start (rangeAt m o) c) (stop (rangeAt m o) c) c (runs (slotWords m slot))) (tried-slot .owner)
 
     module _ {plan : RowPlan} (ep : plan ≡ rowPlan m c (modeAt m r) slot) where
       room-right : plan .room ≡ fits SET (setNext m c r)

@@ -57,7 +57,7 @@ modeAt m r = modeIn (mapRow (heldIn m) (rowOf m r))
 
 -- the set of slot j, changed by a mode at clock c
 abbrev pub setAfter : List ℕ → ℕ → ℕ → ℕ → Runs
-setAfter m c mode j = changed mode (start (rangeAt m (ownerAt m j)) c) (stop (rangeAt m (ownerAt m j)) c) (runs (slotWords m j))
+setAfter m c mode j = changed mode (start (rangeAt m (ownerAt m j)) c) (stop (rangeAt m (ownerAt m j)) c) c (runs (slotWords m j))
 
 -- what is planned for slot j: the mode, whether the set will contain the clock, and whether there is room
 abbrev pub rowPlan : List ℕ → ℕ → ℕ → ℕ → RowPlan
@@ -150,12 +150,18 @@ pub record Slot (m : List ℕ) (c j r : ℕ) : Type 0 where
   pub inside : j < temporals m
   pub owner : r ≡ ownerAt m j
 
--- words whose set of slot j has room for a change by a start and a stop
-pub record Roomy (m : List ℕ) (mode s t j : ℕ) : Type 0 where
+-- words with a set in slot j
+pub record Held (m : List ℕ) (j : ℕ) : Type 0 where
   pub long : length m ≡ SIZE
   pub inside : j < MOST-TEMPORALS
   pub good : Good (slotWords m j)
-  pub room : fits SET (changed mode s t (runs (slotWords m j))) ≡ true
+
+-- words whose set of slot j has room for a change by a start and a stop at clock c
+pub record Roomy (m : List ℕ) (mode s t c j : ℕ) : Type 0 where
+  pub long : length m ≡ SIZE
+  pub inside : j < MOST-TEMPORALS
+  pub good : Good (slotWords m j)
+  pub room : fits SET (changed mode s t c (runs (slotWords m j))) ≡ true
 
 -- a slot whose set has room for a change, and modes that every set has room for
 pub record Fit (m : List ℕ) (c mode j : ℕ) : Type 0 where

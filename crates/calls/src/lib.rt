@@ -6,7 +6,7 @@ ghost use Prim.Native.Nat.{_+_, _≤_, _<_};
 ghost use lib.ListN.{length, getD, set};
 ghost use lib.Dec.{ltb, eqb};
 ghost use borrow.Rule.Slice.PartMut.{putMid};
-ghost use Rattle.numset.specs.Runs.{pack, runs};
+ghost use Rattle.numset.specs.Runs.{kept, pack, runs};
 ghost use Rattle.pmtl.specs.Answer.{bitOf};
 ghost use Rattle.pmtl.specs.Book.{start, stop, some, mapRow};
 ghost use Rattle.pmtl.specs.Monitor.{valueRule};
@@ -17,7 +17,7 @@ ghost use Rattle.memory.specs.Tables.{Tables};
 ghost use Rattle.memory.specs.Kept.{BookKept, Kept};
 ghost use Rattle.memory.specs.Alike.{Alike};
 ghost use Rattle.set_change.specs.Change.{changed};
-ghost use Rattle.calls.specs.Private.{atomsFor, heldIn, atomsIn, Named, modeAt, setAfter, rowPlan, RowTried, clocked, Bounded, Slot, Planned, Timely, Roomy, Fit, Fitting, Written, Atoms, Tried, Due};
+ghost use Rattle.calls.specs.Private.{atomsFor, heldIn, atomsIn, Named, modeAt, setAfter, rowPlan, RowTried, clocked, Bounded, Slot, Planned, Timely, Held, Roomy, Fit, Fitting, Written, Atoms, Tried, Due};
 ghost use Rattle.calls.specs.Called.{Called};
 ghost use Rattle.book.specs.Rows.{HISTORICALLY};
 ghost use Rattle.numbers.specs.Limits.{LAST-TIME, MOST-ATOMS, MOST-ROWS, MOST-TEMPORALS};
@@ -137,13 +137,13 @@ fn plan_row(monitor: &[u64; SIZE], clock: u64, slot: usize, row: usize) -> RowPl
     if mode == set_change::STAYS {
         return RowPlan {
             mode,
-            here: numset::contains(set, clock),
+            here: numset::contains_from_oldest(set, clock),
             room: true,
         };
     }
     let start = start_of(monitor, clock, row);
     let stop = stop_of(monitor, clock, row);
-    let room = set_change::room_for(set, mode, start, stop);
+    let room = set_change::room_for(set, mode, start, stop, clock);
     let here = set_change::will_have(set, mode, start, stop, clock);
     RowPlan { mode, here, room }
 }
@@ -233,28 +233,39 @@ fn plan_call(
     true
 }
 
-// Changes the set of a slot among a monitor's words, by a range's start and stop. No part can be taken of an array.
-fn change_set(words: &mut [u64], slot: usize, mode: u8, start: u64, stop: u64)
-    requires { ⌜ Roomy (now words) mode start stop slot ⌝ }
-    ensures { λ _. ⌜ now (words .exit) ≡ putMid (setStart slot) SET (now (words .entry)) (pack SET (changed mode start stop (runs (slotWords (now (words .entry)) slot)))) ⌝ }
+// Changes the set of a slot among a monitor's words, by a range's start and stop and the clock. No part can be taken of an array.
+fn change_set(words: &mut [u64], slot: usize, mode: u8, start: u64, stop: u64, clock: u64)
+    requires { ⌜ Roomy (now words) mode start stop clock slot ⌝ }
+    ensures { λ _. ⌜ now (words .exit) ≡ putMid (setStart slot) SET (now (words .entry)) (pack SET (changed mode start stop clock (runs (slotWords (now (words .entry)) slot)))) ⌝ }
 {
     let from = memory::SETS + memory::SET * slot;
     let to = from + memory::SET;
-    set_change::change(&mut words[from..to], mode, start, stop);
+    set_change::change(&mut words[from..to], mode, start, stop, clock);
 }
 
-// Changes one set.
+// Drops from the set of a slot what ended before the clock: all that is left to do where the set stays and nothing is added.
+fn drop_from(words: &mut [u64], slot: usize, clock: u64)
+    requires { ⌜ Held (now words) slot ⌝ }
+    ensures { λ _. ⌜ now (words .exit) ≡ putMid (setStart slot) SET (now (words .entry)) (pack SET (kept clock (runs (slotWords (now (words .entry)) slot)))) ⌝ }
+{
+    let from = memory::SETS + memory::SET * slot;
+    let to = from + memory::SET;
+    numset::drop_before(&mut words[from..to], clock);
+}
+
+// Changes one set. One that stays loses what ended before the clock, so no slot is passed over.
 fn commit_slot(monitor: &mut [u64; SIZE], clock: u64, slot: usize, mode: u8)
     requires { ⌜ Fit (now monitor) clock mode slot ⌝ }
     ensures { λ _. ⌜ now (monitor .exit) ≡ putMid (setStart slot) SET (now (monitor .entry)) (pack SET (setAfter (now (monitor .entry)) clock mode slot)) ⌝ }
 {
     if mode == set_change::STAYS {
+        drop_from(monitor, slot, clock);
         return;
     }
     let row = memory::owner_at(monitor, slot);
     let start = start_of(monitor, clock, row);
     let stop = stop_of(monitor, clock, row);
-    change_set(monitor, slot, mode, start, stop);
+    change_set(monitor, slot, mode, start, stop, clock);
 }
 
 // Changes the sets as planned.

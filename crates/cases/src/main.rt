@@ -21,7 +21,7 @@ use play::time;
 use show::text;
 use words::Words;
 
-// A run at every second instant from 0 up to this one makes a full set.
+// A run for every second instant from 0 up to this one makes a full set.
 const FULL: u64 = 126;
 
 fn whole_case() {
@@ -114,13 +114,13 @@ fn lapsed_later() {
     time(&mut monitor, 6);
 }
 
-// Once[0,0] a0: a run for each instant at which a0 held.
-fn now_or_never() -> Words
+// Once a0 over a range.
+fn once_over(lower: u64, upper: u64) -> Words
     ensures { λ r. ⌜ Held r ⌝ }
 {
     Words::of(2)
         .row(ATOM, 0, 0, 0)
-        .row(ONCE, 1, 0, 0)
+        .row(ONCE, 1, lower, upper)
         .section(&[0])
         .section(&[])
         .section(&[1])
@@ -138,22 +138,51 @@ fn fill(monitor: &mut [u64; SIZE])
     }
 }
 
-// A full set refuses one more run, and joins what touches a run.
-fn full() {
-    text(b"Once[0,0] a0, up to 64 runs\n");
+// Each call adds the instant at which it is made, and at the next call that is over.
+fn over() {
+    text(b"Once[0,0] a0, a run for each of 65 calls and more\n");
     let mut monitor = [0u64; SIZE];
-    load(&mut monitor, now_or_never());
+    load(&mut monitor, once_over(0, 0));
     state(&mut monitor, &[1]);
     fill(&mut monitor);
     time(&mut monitor, 128);
     time(&mut monitor, 127);
+    time(&mut monitor, 1000);
+}
+
+// Each call adds an instant that is ahead of all calls up to 128: there a full set refuses one more run. At 129 the oldest run is over.
+fn full() {
+    text(b"Once[128,128] a0, up to 64 runs\n");
+    let mut monitor = [0u64; SIZE];
+    load(&mut monitor, once_over(128, 128));
+    state(&mut monitor, &[1]);
+    fill(&mut monitor);
     time(&mut monitor, 128);
+    time(&mut monitor, 128);
+    time(&mut monitor, 129);
+    time(&mut monitor, 130);
+}
+
+// The run from 0 to 5 is there at 5 and over at 6. That from 6 to 11 is over at 12, where one begins that touches it.
+fn touched() {
+    text(b"Once[0,5] a0, at the ends of its runs\n");
+    let mut monitor = [0u64; SIZE];
+    load(&mut monitor, once_over(0, 5));
+    state(&mut monitor, &[1]);
+    state(&mut monitor, &[0]);
+    time(&mut monitor, 5);
+    time(&mut monitor, 6);
+    state(&mut monitor, &[1]);
+    time(&mut monitor, 12);
+    state(&mut monitor, &[0]);
+    time(&mut monitor, 17);
+    time(&mut monitor, 18);
 }
 
 fn last_time() {
     text(b"Once[0,0] a0, at the last time\n");
     let mut monitor = [0u64; SIZE];
-    load(&mut monitor, now_or_never());
+    load(&mut monitor, once_over(0, 0));
     state(&mut monitor, &[1]);
     time(&mut monitor, LAST_TIME);
     time(&mut monitor, LAST_TIME + 1);
@@ -301,7 +330,9 @@ fn main() {
     lapsed_historically();
     lapsed_since();
     lapsed_later();
+    over();
     full();
+    touched();
     last_time();
     refused_calls();
     refused_book();

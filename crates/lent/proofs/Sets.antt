@@ -1,11 +1,12 @@
--- What both walks say of a set: its machine value, that memory can hold it, and the claim of the contracts.
+-- What the walks say of a set: its machine value, that memory can hold it, and the claims of the contracts.
 use mathlib.Core.Path.{_≡_}
 use mathlib.Core.List.{[], _∷_}
 use Prim.Native.Nat.{ℕ}
 use mir.Val.{Val}
 use denote.Laws.{Is}
 use denote.Struct.Laws as LL
-use Rattle.numset.specs.Runs.{addNumber, addWords}
+use lib.ListN.{length}
+use Rattle.numset.specs.Runs.{runs, kept, pack, addNumber, addWords}
 use Rattle.numset.specs.declared.by_value.NumSet.{NumSet}
 use Rattle.numset.proofs.by_value.NumSet as T
 use Rattle.numset.proofs.by_value.NumSet.Laws as T′
@@ -19,3 +20,7 @@ Typed h = Is T.the-row h (set-val h ∷ [])
 -- r and z are the number of adding l ..= u to h, and the set that it leaves
 abbrev pub Says : NumSet → ℕ → ℕ → ℕ → NumSet → Type 0
 Says h l u r z = (r ≡ addNumber (h .words) l u) × (z .words ≡ addWords (h .words) l u)
+
+-- z is what dropping before t leaves of h
+abbrev pub Leaves : NumSet → ℕ → NumSet → Type 0
+Leaves h t z = z .words ≡ pack (length (h .words)) (kept t (runs (h .words)))

@@ -1,8 +1,9 @@
-// The set lent whole: an addition alters the lent set itself, and hands back only its number.
+// The set lent whole: an addition alters the lent set itself, and hands back only its number; dropping what is over alters it, too.
 use numset::Added;
 use numset::NumSet;
 ghost use mathlib.Core.Path.{_≡_};
-ghost use Rattle.numset.specs.Runs.{Good, addNumber, addWords};
+ghost use lib.ListN.{length};
+ghost use Rattle.numset.specs.Runs.{Good, runs, kept, pack, addNumber, addWords};
 
 pub fn add(set: &mut NumSet, lower: u64, upper: u64) -> u64
     requires { ⌜ Good (now set .words) ⌝ }
@@ -21,4 +22,23 @@ pub fn added(set: NumSet, lower: u64, upper: u64) -> Added
     let mut lent = set;
     let number = add(&mut lent, lower, upper);
     Added { number, set: lent }
+}
+
+// Drops the runs that end before `t`.
+pub fn drop_before(set: &mut NumSet, t: u64)
+    requires { ⌜ Good (now set .words) ⌝ }
+    ensures { λ _. ⌜ now (set .exit) .words ≡ pack (length (now (set .entry) .words)) (kept t (runs (now (set .entry) .words))) ⌝ }
+{
+    let left = (*set).drop_before(t);
+    *set = left;
+}
+
+// The same on a set by value, as `added` is of `add`.
+pub fn dropped(set: NumSet, t: u64) -> NumSet
+    requires { ⌜ Good (set .words) ⌝ }
+    ensures { λ r. ⌜ r .words ≡ pack (length (set .words)) (kept t (runs (set .words))) ⌝ }
+{
+    let mut lent = set;
+    drop_before(&mut lent, t);
+    lent
 }

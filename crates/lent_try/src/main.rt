@@ -1,4 +1,4 @@
-// Additions to a set that is lent, printed and compared with a stored output: P1 to P5, and a full set.
+// Additions to a set that is lent, printed and compared with a stored output: P1 to P5, a full set, and what lapses.
 use numbers::MOST_RUNS;
 use numset::Added;
 use numset::NumSet;
@@ -33,6 +33,28 @@ fn add(set: NumSet, lower: u64, upper: u64) -> NumSet
     text(b": ");
     number(sum.number);
     text(b" ");
+    runs(&words);
+    after
+}
+
+// The drop itself, of which only this is needed here: it gives a set again.
+fn dropped(set: NumSet, t: u64) -> NumSet
+    requires { ⌜ Good (set .words) ⌝ }
+    ensures { λ r. ⌜ Good (r .words) ⌝ }
+{
+    lent::dropped(set, t)
+}
+
+// Drops what ends before `t`, and prints the set that came back.
+fn drop_before(set: NumSet, t: u64) -> NumSet
+    requires { ⌜ Good (set .words) ⌝ }
+    ensures { λ r. ⌜ Good (r .words) ⌝ }
+{
+    let after = dropped(set, t);
+    let words = after.words;
+    text(b"  drop before ");
+    number(t);
+    text(b": ");
     runs(&words);
     after
 }
@@ -84,8 +106,18 @@ fn limit() {
     add(set, 127, 129);
 }
 
+// What ends before an instant goes; what ends at it stays.
+fn lapses() {
+    text(b"lapses\n");
+    let two = add(start(), 10, 20);
+    drop_before(two, 1);
+    let one = drop_before(two, 20);
+    drop_before(one, 21);
+}
+
 fn main() {
     first_examples();
     last_examples();
     limit();
+    lapses();
 }

@@ -6,8 +6,11 @@ pub mod Words
 pub mod Packs
 pub mod Looking
 pub mod Moves
+pub mod Kept
+pub mod Oldest
 pub mod Walk
 pub mod Place
+pub mod Newest
 pub mod Last
 pub mod Changes
 pub mod Resets

@@ -1,8 +1,10 @@
 -- Steps of the private functions: what they do to words, and what they find. No public contract cites these. Definitions only.
 use Prim.Native.Nat.{ℕ, _+_, _*_, _-_, _^_, _≤_, _<_}
 use mathlib.Core.Path.{_≡_}
+use mathlib.Core.Bool.{Bool, _&&_}
 use mathlib.Core.List.{List, _∷_}
 use lib.ListN.{getD, set}
+use lib.Dec.{leb, ltb}
 use Rattle.numset.specs.Runs.{run, lo, hi, runsTo, Under, insert}
 
 -- m′ is m with its `count` words from `src` on also at `dst` on
@@ -42,6 +44,26 @@ pub record Met (m : List ℕ) (l u s e low up : ℕ) : Type 0 where
 pub record Spanned (m : List ℕ) (l u s e low up : ℕ) : Type 0 where
   pub ended : Ended m u e
   pub met : Met m l u s e low up
+
+-- there is an oldest run, and it ends before t
+unfoldable pub oldestLapsed : List ℕ → ℕ → Bool
+oldestLapsed m t = ltb 0 (getD m 0 0) && ltb (hi m 0) t
+
+-- the k oldest runs are those that end before t
+pub record Lapsed (m : List ℕ) (t k : ℕ) : Type 0 where
+  pub few : k ≤ getD m 0 0
+  pub before : (j : ℕ) → j < k → hi m j < t
+  pub after : (j : ℕ) → k ≤ j → j < getD m 0 0 → t ≤ hi m j
+
+-- m′ is m without its k oldest runs, of n
+pub record Dropped (m m′ : List ℕ) (k n : ℕ) : Type 0 where
+  pub count : getD m′ 0 0 ≡ n - k
+  pub moved : (d : ℕ) → d < 2 * (n - k) → getD m′ (1 + d) 0 ≡ getD m (2 * k + 1 + d) 0
+  pub zeros : (i : ℕ) → 2 * (n - k) < i → getD m′ i 0 ≡ 0
+
+-- there is a newest run, it begins at or before l, and l is at most next to its end
+unfoldable pub takesIn : List ℕ → ℕ → Bool
+takesIn m l = ltb 0 (getD m 0 0) && (leb (lo m (getD m 0 0 - 1)) l && leb (l - hi m (getD m 0 0 - 1)) 1)
 
 -- m with the run l ..= u as run s, and n as the number of runs
 abbrev pub withRun : List ℕ → ℕ → ℕ → ℕ → ℕ → List ℕ

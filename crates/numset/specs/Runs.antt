@@ -46,6 +46,11 @@ insert l u (run a b ∷ rs) =
 unfoldable pub union : ℕ → ℕ → Runs → Runs
 union l u rs = cond (ltb u l) rs (insert l u rs)
 
+-- what is kept of the set from t on: the runs that end at or after t
+unfoldable pub kept : ℕ → Runs → Runs
+kept t [] = []
+kept t (run l u ∷ rs) = cond (ltb u t) (kept t rs) (run l u ∷ kept t rs)
+
 -- no run is empty, each ends at least two before the one above it begins, and all end before top - 1
 unfoldable pub Under : ℕ → Runs → Type 0
 Under top [] = Unit {0}

@@ -3,7 +3,8 @@ ghost use mathlib.Core.Path.{_≡_};
 ghost use mathlib.Core.Bool.{true};
 ghost use mathlib.Core.List.{[]};
 ghost use mathlib.Core.Logic.{_↔_};
-ghost use Rattle.numset.specs.Runs.{SET-WORDS, Good, Covers, runs, has, union, pack, addNumber, addWords};
+ghost use lib.ListN.{length};
+ghost use Rattle.numset.specs.Runs.{SET-WORDS, Good, Covers, runs, has, kept, union, pack, addNumber, addWords};
 use numbers::MOST_RUNS;
 
 // The words of a set with room for the most runs: how many there are, and two for each.
@@ -44,6 +45,16 @@ impl NumSet {
         let number = crate::add(&mut words, lower, upper);
         let set = Self { words };
         Added { number, set }
+    }
+
+    // The set without the runs that end before `t`.
+    pub fn drop_before(self, t: u64) -> Self
+        requires { ⌜ Good (self .words) ⌝ }
+        ensures { λ r. ⌜ r .words ≡ pack (length (self .words)) (kept t (runs (self .words))) ⌝ }
+    {
+        let mut words = self.words;
+        crate::drop_before(&mut words, t);
+        Self { words }
     }
 
     pub fn contains(self, t: u64) -> bool

@@ -9,8 +9,8 @@ ghost use mathlib.Core.List.{[]};
 ghost use mathlib.Core.Logic.{_↔_};
 ghost use Prim.Native.Nat.{_+_, _*_, _-_, _<_, _≤_, min, max};
 ghost use lib.ListN.{length, getD, replicate};
-ghost use Rattle.numset.specs.Runs.{Good, Covers, emptyNumber, runs, has, lo, hi, union, fits, pack, addNumber, addWords, setToNumber, setToWords};
-ghost use Rattle.numset.specs.Private.{Shifted, Cleared, Replaced, Ended, Spanned, withRun};
+ghost use Rattle.numset.specs.Runs.{Good, Covers, emptyNumber, runs, has, lo, hi, kept, union, fits, pack, addNumber, addWords, setToNumber, setToWords};
+ghost use Rattle.numset.specs.Private.{Shifted, Cleared, Replaced, Ended, Spanned, oldestLapsed, Lapsed, Dropped, takesIn, withRun};
 
 mod by_value; // by_value.rt: a set of 64 runs by value
 
@@ -186,8 +186,8 @@ fn join(set: &[u64], end: usize, lower: u64, upper: u64) -> Span
     }
 }
 
-// The runs that `lower ..= upper` joins. The last run is looked at first: what touches or follows it, as whatever
-// a clock adds, takes no search.
+// The runs that `lower ..= upper` joins. The newest run is looked at first: what follows it, as most of what a clock adds anew,
+// takes no search.
 fn find_span(set: &[u64], lower: u64, upper: u64) -> Span
     requires { ⌜ Good (now set) ⌝ }
     requires { ⌜ lower ≤ upper ⌝ }
@@ -202,12 +202,7 @@ fn find_span(set: &[u64], lower: u64, upper: u64) -> Span
             upper,
         };
     }
-    let low = lower_at(set, n - 1);
-    if lower < low {
-        return join(set, end_of(set, upper), lower, upper);
-    }
-    let high = upper_at(set, n - 1);
-    if ADJACENT < gap(high, lower) {
+    if ADJACENT < gap(upper_at(set, n - 1), lower) {
         return Span {
             start: n,
             end: n,
@@ -215,12 +210,7 @@ fn find_span(set: &[u64], lower: u64, upper: u64) -> Span
             upper,
         };
     }
-    Span {
-        start: n - 1,
-        end: n,
-        lower: low,
-        upper: greater(upper, high),
-    }
+    join(set, end_of(set, upper), lower, upper)
 }
 
 // Makes `lower ..= upper` run `s`, and `n` the number of runs.
@@ -257,15 +247,40 @@ fn put_over(set: &mut [u64], s: usize, e: usize, lower: u64, upper: u64)
     store(set, s, lower, upper, m);
 }
 
-// Adds `lower ..= upper`, in place. The answer is 0, or 11 where there is no room: then the set is as it was.
-pub fn add(set: &mut [u64], lower: u64, upper: u64) -> u64
+// Whether the newest run takes in what begins at `lower`: it begins no later, and ends next to it or further on.
+fn takes_in(set: &[u64], lower: u64) -> bool
     requires { ⌜ Good (now set) ⌝ }
+    ensures { λ r. ⌜ r ≡ takesIn (now (set .entry)) lower ⌝ }
+{
+    let n = set[0] as usize;
+    if n == 0 {
+        return false;
+    }
+    if lower < lower_at(set, n - 1) {
+        return false;
+    }
+    gap(upper_at(set, n - 1), lower) <= ADJACENT
+}
+
+// Adds `lower ..= upper` to a set whose newest run takes it in: that run alone may become longer.
+fn lengthen(set: &mut [u64], lower: u64, upper: u64) -> u64
+    requires { ⌜ Good (now set) ⌝ }
+    requires { ⌜ (lower ≤ upper) × (takesIn (now set) lower ≡ true) ⌝ }
     ensures { λ r. ⌜ (r ≡ addNumber (now (set .entry)) lower upper) × (now (set .exit) ≡ addWords (now (set .entry)) lower upper) ⌝ }
 {
-    // Skip if empty range
-    if upper < lower {
-        return ACCEPTED;
-    }
+    let n = set[0] as usize;
+    let low = lower_at(set, n - 1);
+    let high = upper_at(set, n - 1);
+    store(set, n - 1, low, greater(upper, high), n);
+    ACCEPTED
+}
+
+// Adds `lower ..= upper` wherever it belongs.
+fn put(set: &mut [u64], lower: u64, upper: u64) -> u64
+    requires { ⌜ Good (now set) ⌝ }
+    requires { ⌜ lower ≤ upper ⌝ }
+    ensures { λ r. ⌜ (r ≡ addNumber (now (set .entry)) lower upper) × (now (set .exit) ≡ addWords (now (set .entry)) lower upper) ⌝ }
+{
     let n = set[0] as usize;
     let joined = find_span(set, lower, upper);
     let start = joined.start;
@@ -281,12 +296,31 @@ pub fn add(set: &mut [u64], lower: u64, upper: u64) -> u64
     ACCEPTED
 }
 
+// Adds `lower ..= upper`, in place. The answer is 0, or 11 where there is no room: then the set is as it was. Nearly all that a clock
+// adds is taken in by the newest run, so that is tried first.
+pub fn add(set: &mut [u64], lower: u64, upper: u64) -> u64
+    requires { ⌜ Good (now set) ⌝ }
+    ensures { λ r. ⌜ (r ≡ addNumber (now (set .entry)) lower upper) × (now (set .exit) ≡ addWords (now (set .entry)) lower upper) ⌝ }
+{
+    // Skip if empty range
+    if upper < lower {
+        return ACCEPTED;
+    }
+    if takes_in(set, lower) {
+        return lengthen(set, lower, upper);
+    }
+    put(set, lower, upper)
+}
+
 // Whether there is room to add `lower ..= upper`: only a run that joins no other takes more.
 pub fn has_room(set: &[u64], lower: u64, upper: u64) -> bool
     requires { ⌜ Good (now set) ⌝ }
     ensures { λ r. ⌜ r ≡ fits (length (now (set .entry))) (union lower upper (runs (now (set .entry)))) ⌝ }
 {
     if upper < lower {
+        return true;
+    }
+    if takes_in(set, lower) {
         return true;
     }
     let n = set[0] as usize;
@@ -300,6 +334,81 @@ pub fn has_room(set: &[u64], lower: u64, upper: u64) -> bool
         return false;
     }
     true
+}
+
+// Whether the oldest run ends before `t`. Where it does not, none does.
+fn oldest_lapsed(set: &[u64], t: u64) -> bool
+    requires { ⌜ Good (now set) ⌝ }
+    ensures { λ r. ⌜ r ≡ oldestLapsed (now (set .entry)) t ⌝ }
+{
+    if set[0] == 0 {
+        return false;
+    }
+    upper_at(set, 0) < t
+}
+
+// How many runs end before `t`. They are the oldest, so that the first which does not ends the look.
+fn lapsed(set: &[u64], t: u64) -> usize
+    requires { ⌜ Good (now set) ⌝ }
+    ensures { λ r. ⌜ Lapsed (now (set .entry)) t r ⌝ }
+{
+    let n = set[0] as usize;
+    let mut run = 0;
+    while run < n {
+        if t <= upper_at(set, run) {
+            return run;
+        }
+        run += 1;
+    }
+    run
+}
+
+// Whether `t` is in the set, as `contains` says, but the oldest run first: for a clock, which ends few runs at a time and may have
+// many ahead of it. The first run that does not end before `t` decides, since every newer one begins later still.
+pub fn contains_from_oldest(set: &[u64], t: u64) -> bool
+    requires { ⌜ Good (now set) ⌝ }
+    ensures { λ r. ⌜ r ≡ has (runs (now (set .entry))) t ⌝ }
+{
+    let run = lapsed(set, t);
+    if run < set[0] as usize {
+        return lower_at(set, run) <= t;
+    }
+    false
+}
+
+// Drops the `count` oldest runs; what is left moves once, and the words that become free are wiped.
+fn drop_oldest(set: &mut [u64], count: usize)
+    requires { ⌜ Good (now set) ⌝ }
+    requires { ⌜ count ≤ getD (now set) 0 0 ⌝ }
+    ensures { λ _. ⌜ Dropped (now (set .entry)) (now (set .exit)) count (getD (now (set .entry)) 0 0) ⌝ }
+{
+    let n = set[0] as usize;
+    let left = n - count;
+    move_down(set, 2 * count + 1, 1, 2 * left);
+    wipe(set, 2 * left + 1, 2 * n + 1);
+    set[0] = left as u64;
+}
+
+// Drops the runs that end before `t`. Where there is none, only the oldest run is looked at.
+pub fn drop_before(set: &mut [u64], t: u64)
+    requires { ⌜ Good (now set) ⌝ }
+    ensures { λ _. ⌜ now (set .exit) ≡ pack (length (now (set .entry))) (kept t (runs (now (set .entry)))) ⌝ }
+{
+    if oldest_lapsed(set, t) {
+        let count = lapsed(set, t);
+        drop_oldest(set, count);
+    }
+}
+
+// Whether there is room to add `lower ..= upper` once the runs that end before `t` are dropped: one that is dropped makes it.
+pub fn will_have_room(set: &[u64], t: u64, lower: u64, upper: u64) -> bool
+    requires { ⌜ Good (now set) ⌝ }
+    ensures { λ r. ⌜ r ≡ fits (length (now (set .entry))) (union lower upper (kept t (runs (now (set .entry))))) ⌝ }
+{
+    if oldest_lapsed(set, t) {
+        return true;
+    }
+    has_room(set, lower, upper)
 }
 
 // Empties the set. Only the words in use are touched.

@@ -1,4 +1,5 @@
-// What the set of instants does, printed and compared with a stored output: P1 to P5, the limit, the edges, and the set by value.
+// What the set of instants does, printed and compared with a stored output: P1 to P5, the limit, the edges, what lapses, and
+// the set by value.
 mod print; // print.rt: a call, and what it gave, on one line
 
 use numbers::ACCEPTED;
@@ -13,8 +14,12 @@ use print::added;
 use print::ask;
 use print::ask_cover;
 use print::ask_room;
+use print::ask_room_from;
 use print::ask_value;
 use print::clear;
+use print::drop_before;
+use print::drop_of_many;
+use print::drop_value;
 use print::set_to;
 use print::tally;
 use show::text;
@@ -211,6 +216,54 @@ fn joined(set: &mut [u64])
     add(set, 0, 1000);
 }
 
+// What ends before an instant goes; what ends at it, or later, stays whole.
+fn lapses(set: &mut [u64])
+    requires { ⌜ Good (now set) ⌝ }
+    ensures { λ _. ⌜ Good (now (set .exit)) ⌝ }
+{
+    text(b"lapses\n");
+    set_to(set, 0, 1);
+    add(set, 4, 6);
+    add(set, 10, 20);
+    drop_before(set, 1);
+    drop_before(set, 2);
+    drop_before(set, 6);
+    drop_before(set, 15);
+    drop_before(set, 21);
+    drop_before(set, MAX);
+}
+
+// Several lapse at once; and a run to MAX never does.
+fn lapses_together(set: &mut [u64])
+    requires { ⌜ Good (now set) ⌝ }
+    ensures { λ _. ⌜ Good (now (set .exit)) ⌝ }
+{
+    text(b"lapse together\n");
+    set_to(set, 0, 1);
+    add(set, 4, 6);
+    add(set, 10, 20);
+    add(set, 30, MAX);
+    drop_before(set, 10);
+    drop_before(set, MAX);
+}
+
+// 64 runs, of which one lapses: that makes room for one more.
+fn room_again(set: &mut [u64])
+    requires { ⌜ Good (now set) ⌝ }
+    ensures { λ _. ⌜ Good (now (set .exit)) ⌝ }
+{
+    text(b"room again\n");
+    fill(set);
+    ask_room_from(set, 0, 128, 128);
+    ask_room_from(set, 1, 128, 128);
+    drop_of_many(set, 0);
+    drop_of_many(set, 1);
+    add_to_many(set, 128, 128);
+    add_to_many(set, 130, 130);
+    drop_of_many(set, 127);
+    drop_of_many(set, 129);
+}
+
 // Words for no run.
 fn no_run(set: &mut [u64])
     requires { ⌜ Good (now set) ⌝ }
@@ -263,6 +316,8 @@ fn by_value() {
     add_value(NumSet::from_interval(10, MAX), 0, 3);
     ask_value(NumSet::from_interval(10, MAX), 9);
     ask_value(NumSet::from_interval(10, MAX), 10);
+    drop_value(NumSet::from_interval(3, 5), 5);
+    drop_value(NumSet::from_interval(3, 5), 6);
 }
 
 fn examples(set: &mut [u64])
@@ -288,6 +343,15 @@ fn edges(set: &mut [u64])
     joined(set);
 }
 
+fn old_runs(set: &mut [u64])
+    requires { ⌜ Good (now set) ⌝ }
+    ensures { λ _. ⌜ Good (now (set .exit)) ⌝ }
+{
+    lapses(set);
+    lapses_together(set);
+    room_again(set);
+}
+
 // The words may hold anything at first.
 fn show_all(set: &mut [u64]) {
     if numset::empty(set) != ACCEPTED {
@@ -295,6 +359,7 @@ fn show_all(set: &mut [u64]) {
     }
     examples(set);
     edges(set);
+    old_runs(set);
     small();
     by_value();
 }

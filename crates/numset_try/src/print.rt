@@ -75,6 +75,37 @@ pub fn clear(set: &mut [u64])
     runs(set);
 }
 
+// The set's own `drop_before`, of which only this is needed here: it gives a set again.
+fn dropped(set: &mut [u64], t: u64)
+    requires { ⌜ Good (now set) ⌝ }
+    ensures { λ _. ⌜ Good (now (set .exit)) ⌝ }
+{
+    numset::drop_before(set, t);
+}
+
+pub fn drop_before(set: &mut [u64], t: u64)
+    requires { ⌜ Good (now set) ⌝ }
+    ensures { λ _. ⌜ Good (now (set .exit)) ⌝ }
+{
+    text(b"  drop before ");
+    instant(t);
+    dropped(set, t);
+    text(b": ");
+    runs(set);
+}
+
+// Drops, where the set is too long to print whole.
+pub fn drop_of_many(set: &mut [u64], t: u64)
+    requires { ⌜ Good (now set) ⌝ }
+    ensures { λ _. ⌜ Good (now (set .exit)) ⌝ }
+{
+    text(b"  drop before ");
+    instant(t);
+    dropped(set, t);
+    text(b": ");
+    tally(set);
+}
+
 pub fn ask(set: &[u64], t: u64)
     requires { ⌜ Good (now set) ⌝ }
 {
@@ -97,6 +128,16 @@ pub fn ask_room(set: &[u64], lower: u64, upper: u64)
     text(b"  has room for ");
     interval(lower, upper);
     answer(numset::has_room(set, lower, upper));
+}
+
+pub fn ask_room_from(set: &[u64], t: u64, lower: u64, upper: u64)
+    requires { ⌜ Good (now set) ⌝ }
+{
+    text(b"  once dropped before ");
+    instant(t);
+    text(b" has room for ");
+    interval(lower, upper);
+    answer(numset::will_have_room(set, t, lower, upper));
 }
 
 // The number of runs, with the first and the last.
@@ -129,6 +170,18 @@ pub fn add_value(set: NumSet, lower: u64, upper: u64)
     text(b"  add ");
     interval(lower, upper);
     result(sum.number, &words);
+}
+
+// What is left of a set by value.
+pub fn drop_value(set: NumSet, t: u64)
+    requires { ⌜ Good (set .words) ⌝ }
+{
+    let left = set.drop_before(t);
+    let words = left.words;
+    text(b"  drop before ");
+    instant(t);
+    text(b": ");
+    runs(&words);
 }
 
 pub fn ask_value(set: NumSet, t: u64)

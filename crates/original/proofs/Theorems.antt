@@ -12,7 +12,7 @@ use Rattle.pmtl.specs.Book.{Rows, Book, AllBelow}
 use Rattle.pmtl.specs.Monitor.{Snap, State, initial, value}
 use Rattle.pmtl.specs.Early.{early}
 use Rattle.pmtl.specs.Calls.{Call, time, state, call, after, History, nowOf, accepted}
-use Rattle.pmtl.specs.Past.{run as state-after}
+use Rattle.pmtl.specs.Past.{runBy, run as state-after}
 use Rattle.pmtl.proofs.History.{now-run}
 use Rattle.pmtl.proofs.Values.{values-mean}
 use Rattle.pmtl.proofs.Theorems.{after-is}
@@ -48,7 +48,7 @@ map-below n g f k e (x ∷ xs) w = ap₂ _∷_ (e x (w .0)) (map-below n g f k e
 
 -- ---- the original after a history
 reached-is : (b : Rows) (h : History) → reached b h ≡ state-after b h
-unfolding reached state-after
+unfolding reached runBy
 reached-is b [] = refl
 reached-is b (s ∷ h) = rw (reached-is b h)
 

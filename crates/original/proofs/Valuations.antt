@@ -21,7 +21,6 @@ use Rattle.pmtl.specs.Calls.{History, nowOf}
 use Rattle.pmtl.specs.Meaning.{Fact, meaning}
 use Rattle.pmtl.proofs.Table.{by-rows}
 use Rattle.pmtl.proofs.Answers.{early-fix}
-use Rattle.pmtl.proofs.Seams.{horizon-now}
 use Rattle.pmtl.specs.Past.{run as state-after}
 use Rattle.pmtl.proofs.History.{Legal, now-run, run-canonical}
 use Rattle.pmtl.proofs.Values.{sets-mean}
@@ -186,14 +185,14 @@ module _ (b : Rows) (w : Ordered b) (fit : Fits b) (h : History) (l : Clocks b h
   clock : ℕ
   clock = nowOf b h .clock
 
-  -- as the set that our monitor keeps covers
+  -- as the set that our monitor keeps covers: both have the same instants from the clock on, and the original all before it, too
   covers-same : (r : ℕ) → contains-unbounded-interval (setOf b h r) clock ≡ covers (state-after b h .now .clock) (setAt (state-after b h) r)
   unfolding clock
   covers-same r =
       let row : Row Fact = mapRow (meaning b) (rowAt b r) in
       row-unbounded b h l (meaning b) clock (rowAt b r) (fit r)
       ∙ covers-alike clock (runs-of row h) (setAt (state-after b h) r) (runs-canonical row h) (run-canonical b h r) (omega (arith, clock-small b h l))
-      (λ t near. runs-has row h t ∙ sym (sets-mean b w r h (legal b h l) t (omega (arith, horizon-now clock))))
+      (λ t near. runs-has row h t ∙ sym (sets-mean b w r h (legal b h l) t near))
       ∙ ap (λ (s : Snap). covers (s .clock) (setAt (state-after b h) r)) (sym (now-run b h))
 
   pub valuation-grown : (r : ℕ) → r < length b → valuation (grown b h r) (nowOf b h .clock) ≡ optionOf (early b (state-after b h) r)

@@ -11,8 +11,8 @@ use Rattle.numset.specs.Runs.{Runs, has, covers}
 use Rattle.pmtl.specs.declared.Answer.the-variants.{Open}
 use Rattle.pmtl.specs.Book.{Row, mapRow, Rows, rowAt, Ordered, table, answer}
 use Rattle.pmtl.specs.Book.Row.{never}
-use Rattle.pmtl.specs.Sets.{gone, setRule}
-use Rattle.pmtl.specs.Monitor.{Snap, State, setAt, valueRule, Cell, setIn, valueIn, noCell, cellRule, step, value}
+use Rattle.pmtl.specs.Sets.{gone, Renew, renewed, setRuleBy, setRule}
+use Rattle.pmtl.specs.Monitor.{Snap, State, setAt, valueRule, Cell, setIn, valueIn, noCell, cellRuleBy, cellRule, stepBy, step, value}
 use Rattle.pmtl.specs.Early.{earlyRule, early}
 use Rattle.pmtl.specs.Settled.{settledRule, settled}
 use Rattle.pmtl.proofs.Table.{answer-in, answer-out, answer-made, answer-fix, answer-only, mapRow-mapRow, mapRow-local, table-length, by-rows}
@@ -40,32 +40,44 @@ module _ (b : Rows) (st : State) where
       either-open true = refl
       either-open false = refl
 
-module _ (b : Rows) (st : State) (now : Snap) where
+-- sets are renewed in any way
+module _ (renew : Renew) (b : Rows) (st : State) (now : Snap) where
   -- one set for each row
-  pub step-sets : length (step b st now .sets) ≡ length b
-  unfolding step
-  step-sets = length-map (table b noCell (cellRule st now) (length b)) setIn ∙ table-length b noCell (cellRule st now) (length b)
+  pub step-sets-by : length (stepBy renew b st now .sets) ≡ length b
+  unfolding stepBy
+  step-sets-by = length-map (table b noCell (cellRuleBy renew st now) (length b)) setIn ∙ table-length b noCell (cellRuleBy renew st now) (length b)
 
   -- a row's set after a call is its set before it, renewed by some values of its operands
-  pub set-made : (r : ℕ) → (row : Row Bool) × (setAt (step b st now) r ≡ setRule (now .clock) (setAt st r) row)
-  unfolding step answer setRule
-  set-made r = go (decLt r (length b))
+  pub set-made-by : (r : ℕ) → (row : Row Bool) × (setAt (stepBy renew b st now) r ≡ setRuleBy renew (now .clock) (setAt st r) row)
+  unfolding stepBy answer setRuleBy
+  set-made-by r = go (decLt r (length b))
     where
-      is : setAt (step b st now) r ≡ answer b noCell (cellRule st now) r .set
-      is = List·getD-map setIn (table b noCell (cellRule st now) (length b)) r noCell
+      is : setAt (stepBy renew b st now) r ≡ answer b noCell (cellRuleBy renew st now) r .set
+      is = List·getD-map setIn (table b noCell (cellRuleBy renew st now) (length b)) r noCell
 
-      go : Dec (r < length b) → (row : Row Bool) × (setAt (step b st now) r ≡ setRule (now .clock) (setAt st r) row)
-      go (yes l) = let m = answer-made b noCell (cellRule st now) r l in (mapRow valueIn (mapRow (m .0) (rowAt b r)), is ∙ ap setIn (m .1))
-      go (no l) = (never, is ∙ ap setIn (answer-out b noCell (cellRule st now) r (omega arith)))
+      go : Dec (r < length b) → (row : Row Bool) × (setAt (stepBy renew b st now) r ≡ setRuleBy renew (now .clock) (setAt st r) row)
+      go (yes l) = let m = answer-made b noCell (cellRuleBy renew st now) r l in (mapRow valueIn (mapRow (m .0) (rowAt b r)), is ∙ ap setIn (m .1))
+      go (no l) = (never, is ∙ ap setIn (answer-out b noCell (cellRuleBy renew st now) r (omega arith)))
 
   -- what a step leaves besides the sets
+  pub step-now-by : stepBy renew b st now .now ≡ now
+  unfolding stepBy
+  step-now-by = refl
+
+  pub step-begun-by : stepBy renew b st now .begun ≡ true
+  unfolding stepBy
+  step-begun-by = refl
+
+-- as the monitor does it
+module _ (b : Rows) (st : State) (now : Snap) where
+  pub step-sets : length (step b st now .sets) ≡ length b
+  step-sets = step-sets-by renewed b st now
+
   pub step-now : step b st now .now ≡ now
-  unfolding step
-  step-now = refl
+  step-now = step-now-by renewed b st now
 
   pub step-begun : step b st now .begun ≡ true
-  unfolding step
-  step-begun = refl
+  step-begun = step-begun-by renewed b st now
 
 module _ (b : Rows) (w : Ordered b) where
   module _ (st : State) where
@@ -85,45 +97,53 @@ module _ (b : Rows) (w : Ordered b) where
     unfolding settled
     settled-fix e r h = rw e (answer-in b Open (λ n row. settledRule (covers (st .now .clock) (setAt st n)) (gone (st .now .clock) (setAt st n)) row) w r h)
 
-  module _ (st : State) (now : Snap) where
+  module _ (renew : Renew) (st : State) (now : Snap) where
     -- what the call makes of a row
     cell : ℕ → Cell
-    cell = answer b noCell (cellRule st now)
+    cell = answer b noCell (cellRuleBy renew st now)
 
-    cell-fix : (r : ℕ) → cell r ≡ cellRule st now r (mapRow cell (rowAt b r))
-    unfolding cell setRule valueRule
-    cell-fix r = answer-fix b noCell (cellRule st now) w r refl
+    cell-fix : (r : ℕ) → cell r ≡ cellRuleBy renew st now r (mapRow cell (rowAt b r))
+    unfolding cell setRuleBy valueRule
+    cell-fix r = answer-fix b noCell (cellRuleBy renew st now) w r refl
 
-    cell-set : (r : ℕ) → setAt (step b st now) r ≡ cell r .set
-    unfolding cell answer step
-    cell-set r = List·getD-map setIn (table b noCell (cellRule st now) (length b)) r noCell
+    cell-set : (r : ℕ) → setAt (stepBy renew b st now) r ≡ cell r .set
+    unfolding cell answer stepBy
+    cell-set r = List·getD-map setIn (table b noCell (cellRuleBy renew st now) (length b)) r noCell
 
     vs : (r : ℕ) → Row Bool
     vs r = mapRow (λ o. cell o .value) (rowAt b r)
 
-    cell-sets : (r : ℕ) → cell r .set ≡ setRule (now .clock) (setAt st r) (vs r)
+    cell-sets : (r : ℕ) → cell r .set ≡ setRuleBy renew (now .clock) (setAt st r) (vs r)
     unfolding vs
-    cell-sets r = ap setIn (cell-fix r) ∙ ap (setRule (now .clock) (setAt st r)) (mapRow-mapRow valueIn cell (rowAt b r))
+    cell-sets r = ap setIn (cell-fix r) ∙ ap (setRuleBy renew (now .clock) (setAt st r)) (mapRow-mapRow valueIn cell (rowAt b r))
 
-    cell-values : (r : ℕ) → cell r .value ≡ valueRule (now .atoms) (has (setAt (step b st now) r) (now .clock)) (vs r)
+    cell-values : (r : ℕ) → cell r .value ≡ valueRule (now .atoms) (has (setAt (stepBy renew b st now) r) (now .clock)) (vs r)
     unfolding vs
     cell-values r = ap valueIn (cell-fix r)
         ∙ ap₂ (λ (s : Runs) row. valueRule (now .atoms) (has s (now .clock)) row) (sym (ap setIn (cell-fix r)) ∙ sym (cell-set r)) (mapRow-mapRow valueIn cell (rowAt b r))
 
     -- the values that the step works out are those of the walk
-    cell-value : (r : ℕ) → cell r .value ≡ value b (step b st now) r
-    unfolding value step vs valueRule
-    cell-value r = answer-only b false (λ k row. valueRule (now .atoms) (has (setAt (step b st now) k) (now .clock)) row) w (λ k. refl) (λ o. cell o .value) cell-values r
+    cell-value : (r : ℕ) → cell r .value ≡ value b (stepBy renew b st now) r
+    unfolding value stepBy vs valueRule
+    cell-value r = answer-only b false (λ k row. valueRule (now .atoms) (has (setAt (stepBy renew b st now) k) (now .clock)) row) w (λ k. refl) (λ o. cell o .value) cell-values r
 
     -- a row's set after a call, by its set before it and its operands' values after it
-    pub set-fix : (r : ℕ) → setAt (step b st now) r ≡ setRule (now .clock) (setAt st r) (mapRow (value b (step b st now)) (rowAt b r))
+    pub set-fix-by : (r : ℕ) → setAt (stepBy renew b st now) r ≡ setRuleBy renew (now .clock) (setAt st r) (mapRow (value b (stepBy renew b st now)) (rowAt b r))
     unfolding vs
-    set-fix r = cell-set r ∙ cell-sets r ∙ ap (λ (f : ℕ → Bool). setRule (now .clock) (setAt st r) (mapRow f (rowAt b r))) (fun-ext cell-value)
+    set-fix-by r = cell-set r ∙ cell-sets r ∙ ap (λ (f : ℕ → Bool). setRuleBy renew (now .clock) (setAt st r) (mapRow f (rowAt b r))) (fun-ext cell-value)
 
     -- a table of the values, worked out with the sets, is the walk
-    pub table-value : (r : ℕ) → getD (map valueIn (table b noCell (cellRule st now) (length b))) r false ≡ value b (step b st now) r
+    pub table-value-by : (r : ℕ) → getD (map valueIn (table b noCell (cellRuleBy renew st now) (length b))) r false ≡ value b (stepBy renew b st now) r
     unfolding cell answer
-    table-value r = List·getD-map valueIn (table b noCell (cellRule st now) (length b)) r noCell ∙ cell-value r
+    table-value-by r = List·getD-map valueIn (table b noCell (cellRuleBy renew st now) (length b)) r noCell ∙ cell-value r
+
+  -- as the monitor does it
+  module _ (st : State) (now : Snap) where
+    pub set-fix : (r : ℕ) → setAt (step b st now) r ≡ setRule (now .clock) (setAt st r) (mapRow (value b (step b st now)) (rowAt b r))
+    set-fix = set-fix-by renewed st now
+
+    pub table-value : (r : ℕ) → getD (map valueIn (table b noCell (cellRule st now) (length b))) r false ≡ value b (step b st now) r
+    table-value = table-value-by renewed st now
 
   -- a value looks at the atoms, and at whether the sets of its own row and of rows below contain the clock
   pub value-local : (st st′ : State) → st .now .atoms ≡ st′ .now .atoms → (r : ℕ)
@@ -138,7 +158,7 @@ module _ (b : Rows) (w : Ordered b) where
   -- a call row by row: in a state whose sets below r are already the new ones, row r's new set comes from its old one and the walk
   pub set-next : (st : State) (now : Snap) (mid : State) → mid .now ≡ now → (r : ℕ) → ((o : ℕ) → o < r → setAt mid o ≡ setAt (step b st now) o)
       → setAt (step b st now) r ≡ setRule (now .clock) (setAt st r) (mapRow (value b mid) (rowAt b r))
-  unfolding step
+  unfolding stepBy
   set-next st now mid n r same = set-fix st now r
       ∙ ap (setRule (now .clock) (setAt st r)) (mapRow-local r (value b (step b st now)) (value b mid)
       (λ o k. sym (value-local mid (step b st now) (ap (λ (s : Snap). s .atoms) n) o

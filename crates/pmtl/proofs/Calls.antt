@@ -11,8 +11,8 @@ use borrow.Author.Tests.{ltb-false, eqb-true, ne-eqb}
 use Rattle.numbers.specs.Limits.{LAST-TIME}
 use Rattle.pmtl.specs.Book.{Rows}
 use Rattle.pmtl.specs.Monitor.{Snap, State, step}
-use Rattle.pmtl.specs.Calls.{Call, time, state, turns, refusal, crowded, Outcome, play, call, after, History, nowOf, onto, accepted}
-use Rattle.pmtl.specs.Past.{run}
+use Rattle.pmtl.specs.Calls.{Call, time, state, turns, refusal, crowds, Outcome, play, call, after, History, nowOf, onto, accepted}
+use Rattle.pmtl.specs.Past.{runBy, run}
 use Rattle.pmtl.proofs.History.{Legal, now-run, small-clock}
 
 -- the state after snapshots in turn
@@ -28,7 +28,7 @@ data Either (old new : State) (o : Outcome) : Type 0 where
 played : (b : Rows) (old st : State) (ns : List Snap) → Either old (steps b st ns) (play b old st ns)
 unfolding play steps
 played b old st [] = moved refl refl
-played b old st (n ∷ ns) = go (crowded (step b st n)) (played b old (step b st n) ns)
+played b old st (n ∷ ns) = go (crowds b st n) (played b old (step b st n) ns)
   where
     go : (z : Bool) → Either old (steps b (step b st n) ns) (play b old (step b st n) ns)
         → Either old (steps b (step b st n) ns) (elim z [ true ↦ record { number = 11; state = old } | false ↦ play b old (step b st n) ns ])
@@ -61,7 +61,7 @@ refused-stays b st k n = go (called b st k .either)
 
 -- steps go on along the history
 steps-run : (b : Rows) (ns : List Snap) (h : History) → steps b (run b h) ns ≡ run b (onto ns h)
-unfolding steps onto run
+unfolding steps onto runBy
 steps-run b [] h = refl
 steps-run b (n ∷ ns) h = steps-run b ns (n ∷ h)
 
@@ -70,7 +70,7 @@ first-zero : (a : Bool) (n m : ℕ) → cond a (suc n) m ≡ 0 → (a ≡ false)
 first-zero true n m e = absurd (omega arith)
 first-zero false n m e = (refl, e)
 
-legal-call : (b : Rows) (h : History) → Legal b h → (k : Call) → refusal b (nowOf b h) k ≡ 0 → Legal b (onto (turns b (nowOf b h) k) h)
+pub legal-call : (b : Rows) (h : History) → Legal b h → (k : Call) → refusal b (nowOf b h) k ≡ 0 → Legal b (onto (turns b (nowOf b h) k) h)
 unfolding onto refusal
 legal-call b h l (time t) e =
     let p = first-zero (ltb t (nowOf b h .clock)) 6 (cond (ltb LAST-TIME t) 8 0) e in
@@ -85,7 +85,7 @@ pub record Trail (b : Rows) (ks : List Call) (h : History) : Type 0 where
   pub legal : Legal b h
 
 pub trail : (b : Rows) (ks : List Call) → Trail b ks (accepted b ks)
-unfolding after accepted run
+unfolding after accepted runBy
 trail b [] = record { is = refl; legal = tt }
 trail b (k ∷ ks) = go (trail b ks) (called b (after b ks) k .either) (called b (after b ks) k .sound)
   where

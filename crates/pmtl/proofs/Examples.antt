@@ -1,14 +1,14 @@
--- P1 to P12 of REFERENCE, computed by the definitions: one list, one statement.
-use Prim.Native.Nat.{ℕ}
+-- P1 to P12 of REFERENCE, and what lapses, computed by the definitions.
+use Prim.Native.Nat.{ℕ, zero, suc, _*_}
 use mathlib.Core.Path.{_≡_, refl}
 use mathlib.Core.List.{List, [], _∷_, map}
 use Rattle.numbers.specs.Limits.{MAX}
-use Rattle.numset.specs.Runs.{run, Runs, has, covers, insert, union}
+use Rattle.numset.specs.Runs.{run, Runs, has, covers, kept, insert, union}
 use Rattle.pmtl.specs.Answer.{bitOf, digitOf}
-use Rattle.pmtl.specs.Book.{Range, stop, Rows, widthOf, table, answer, every, some}
+use Rattle.pmtl.specs.Book.{Range, stop, Row, Rows, widthOf, table, answer, every, some}
 use Rattle.pmtl.specs.Book.Row.{never, always, atom, conj, disj, historically, once, since}
-use Rattle.pmtl.specs.Sets.{retained, gone, staysIf, addedIf, renewed, setRule}
-use Rattle.pmtl.specs.Monitor.{State, initial, valueRule, value, step}
+use Rattle.pmtl.specs.Sets.{gone, staysIf, addedIf, renewed, setRuleBy}
+use Rattle.pmtl.specs.Monitor.{State, setAt, initial, valueRule, value, stepBy}
 use Rattle.pmtl.specs.Early.{earlyRule, early}
 use Rattle.pmtl.specs.Settled.{settledTrue, settledFalse, settled}
 use Rattle.pmtl.specs.Calls.{Call, time, state, refusal, crowded, play, call, after}
@@ -91,5 +91,42 @@ examples =
 
 -- each gives what is stated
 pub P1-to-P12 : map foundIn examples ≡ map statedIn examples
-unfolding eachAfter has covers insert union stop widthOf table answer every some retained gone staysIf addedIf renewed setRule initial valueRule value step earlyRule early settledTrue settledFalse settled refusal crowded play call after
+unfolding eachAfter has covers insert union stop widthOf table answer every some kept gone staysIf addedIf renewed setRuleBy initial valueRule value stepBy earlyRule early settledTrue settledFalse settled refusal crowded play call after
 P1-to-P12 = refl
+
+-- ---- what lapses
+-- the set of row 1 of a book with one atom, after calls, the newest first
+abbrev pub setOf : Row ℕ → List Call → Result
+setOf row calls = let b : Rows = atom 0 ∷ row ∷ [] in set (setAt (after b calls) 1)
+
+abbrev pub lapses : List Example
+lapses =
+    -- Once[0,5] a; s1, s0, t5: the run ends at the clock, and stays. t6: it is over
+    (setOf (once (range 0 5) 0) (time 5 ∷ s0 ∷ s1 ∷ []) gives set (run 0 5 ∷ []))
+    ∷ (setOf (once (range 0 5) 0) (time 6 ∷ s0 ∷ s1 ∷ []) gives set [])
+    -- Once[0,4] a; s1, t5: what ended at 4 is dropped before [5,9] is added, which it touches
+    ∷ (setOf (once (range 0 4) 0) (time 5 ∷ s1 ∷ []) gives set (run 5 9 ∷ []))
+    -- Once[0,5] a; s1, t5: what ends at 5 is joined
+    ∷ (setOf (once (range 0 5) 0) (time 5 ∷ s1 ∷ []) gives set (run 0 10 ∷ []))
+    -- Historically[0,0] a; s0, s1, t3: dropped though the call adds nothing
+    ∷ (setOf (historically (range 0 0) 0) (time 3 ∷ s1 ∷ s0 ∷ []) gives set [])
+    ∷ []
+
+pub lapses-so : map foundIn lapses ≡ map statedIn lapses
+unfolding has covers insert union stop widthOf table answer every some kept gone staysIf addedIf renewed setRuleBy initial valueRule value stepBy earlyRule early settledTrue settledFalse settled refusal crowded play call after
+lapses-so = refl
+
+-- s1, then t2, t4 up to t126, the newest first
+unfoldable pub evens : ℕ → List Call
+evens zero = s1 ∷ []
+evens (suc n) = time (2 * suc n) ∷ evens n
+
+-- the number that a further time call hands back, where the rule is Once g a
+abbrev pub numberAt : Range → ℕ → ℕ
+numberAt g t = let b : Rows = atom 0 ∷ once g 0 ∷ [] in call b (after b (evens 63)) (time t) .number
+
+-- Once[0,0] a: every episode is over at the next. Once[127,127] a: the oldest is over at 128. Once[128,128] a: it is over at 129, and not yet at 128,
+-- where the 65th is refused
+pub room-again : numberAt (range 0 0) 128 ∷ numberAt (range 127 127) 128 ∷ numberAt (range 128 128) 128 ∷ numberAt (range 128 128) 129 ∷ [] ≡ 0 ∷ 0 ∷ 11 ∷ 0 ∷ []
+unfolding evens has covers insert union stop widthOf table answer every some kept gone staysIf addedIf renewed setRuleBy initial valueRule value stepBy earlyRule early settledTrue settledFalse settled refusal crowded play call after
+room-again = refl

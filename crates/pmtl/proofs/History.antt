@@ -7,21 +7,25 @@ use lib.Dec.{lit≤}
 use Rattle.numbers.specs.Limits.{MAX}
 use Rattle.numset.specs.Runs.{Canonical}
 use Rattle.pmtl.specs.Book.{Rows}
-use Rattle.pmtl.specs.Monitor.{setAt, initial, step}
+use Rattle.pmtl.specs.Sets.{Renew, renewed}
+use Rattle.pmtl.specs.Monitor.{setAt, initial, stepBy}
 use Rattle.pmtl.specs.Calls.{History, nowOf}
-use Rattle.pmtl.specs.Past.{run}
-use Rattle.pmtl.proofs.Answers.{set-made}
-use Rattle.pmtl.proofs.Renewed.{rule-canonical}
+use Rattle.pmtl.specs.Past.{runBy, run}
+use Rattle.pmtl.proofs.Answers.{set-made-by}
+use Rattle.pmtl.proofs.Renewed.{Lawful, renewed-lawful, rule-canonical}
 
 -- clocks never fall, and none is above MAX
 abbrev pub Legal : Rows → History → Type 0
 Legal b [] = Unit {0}
 Legal b (s ∷ h) = (nowOf b h .clock ≤ s .clock) × (s .clock ≤ MAX) × Legal b h
 
+pub now-run-by : (renew : Renew) (b : Rows) (h : History) → runBy renew b h .now ≡ nowOf b h
+unfolding runBy stepBy initial
+now-run-by renew b [] = refl
+now-run-by renew b (s ∷ h) = refl
+
 pub now-run : (b : Rows) (h : History) → run b h .now ≡ nowOf b h
-unfolding run step initial
-now-run b [] = refl
-now-run b (s ∷ h) = refl
+now-run = now-run-by renewed
 
 pub small-clock : (b : Rows) (h : History) → Legal b h → nowOf b h .clock ≤ MAX
 small-clock b [] l = lit≤ tt
@@ -37,8 +41,11 @@ pub initial-set : (b : Rows) (r : ℕ) → setAt (initial b) r ≡ []
 unfolding initial
 initial-set b r = getD-same (length b) r []
 
+pub run-canonical-by : (renew : Renew) {horizon : ℕ → ℕ} → Lawful renew horizon → (b : Rows) (h : History) (r : ℕ) → Canonical (setAt (runBy renew b h) r)
+unfolding runBy Canonical
+run-canonical-by renew lw b [] r = rw (initial-set b r) tt
+run-canonical-by renew lw b (s ∷ h) r = let m = set-made-by renew b (runBy renew b h) s r in
+    rw (m .1) (rule-canonical renew lw (s .clock) (setAt (runBy renew b h) r) (run-canonical-by renew lw b h r) (m .0))
+
 pub run-canonical : (b : Rows) (h : History) (r : ℕ) → Canonical (setAt (run b h) r)
-unfolding run Canonical
-run-canonical b [] r = rw (initial-set b r) tt
-run-canonical b (s ∷ h) r = let m = set-made b (run b h) s r in
-    rw (m .1) (rule-canonical (s .clock) (setAt (run b h) r) (run-canonical b h r) (m .0))
+run-canonical = run-canonical-by renewed renewed-lawful

@@ -1,9 +1,10 @@
--- What settled while the rules asked for an empty set settles the same under the rules as they are: no slip that printed before fails to print.
+-- What settled while the rules asked for an empty set, and everything was kept, settles the same under the rules as they are: no slip that printed
+-- before fails to print.
 -- Assumes nothing.
 use Prim.Native.Nat.{ℕ, _<_, _≤_}
 use native.Mathlib.Omega.{arith}
 use native.Mathlib.Decide.{decLt}
-use mathlib.Core.Path.{_≡_, refl}
+use mathlib.Core.Path.{_≡_, refl, _∙_}
 use mathlib.Core.Logic.{_↔_}
 use mathlib.Core.Bool.{Bool, true, false, not, false≢true}
 use mathlib.Core.List.{List, [], _∷_}
@@ -15,18 +16,23 @@ use Rattle.pmtl.specs.declared.Answer.the-variants.{Open}
 use Rattle.pmtl.specs.Answer.{isTrue, isFalse, known, decided}
 use Rattle.pmtl.specs.Book.{Row, mapRow, Rows, rowAt, Below, Ordered}
 use Rattle.pmtl.specs.Book.Row.{never, always, atom, conj, disj, neg, implies, historically, once, since}
-use Rattle.pmtl.specs.Sets.{Gone, gone}
+use Rattle.pmtl.specs.Sets.{Gone, gone, renewedAll}
 use Rattle.pmtl.specs.Monitor.{State, setAt}
 use Rattle.pmtl.specs.Early.{fromNow}
 use Rattle.pmtl.specs.Settled.{settledTrue, settledFalse, settledRule, settled}
+use Rattle.pmtl.specs.Kept.{keepsAll}
 use Rattle.pmtl.specs.Lapsed.{isEmpty, settledFirst}
-use Rattle.pmtl.specs.Calls.{Call, after}
+use Rattle.pmtl.specs.Calls.{Call, after, accepted}
 use Rattle.lists.proofs.Tests.{and-mono, or-mono}
 use Rattle.pmtl.proofs.Table.{by-rows, answer-in, answer-out}
 use Rattle.pmtl.proofs.Seams.{gone-none, gone-iff}
 use Rattle.pmtl.proofs.Answers.{settled-fix}
 use Rattle.pmtl.proofs.Settled.{Stays, open-stays, every-stays, some-stays, to-stays, tests-apart, covers-not-gone}
-use Rattle.pmtl.proofs.Theorems.{clock-small, sets-are-canonical}
+use Rattle.pmtl.proofs.Renewed.{all-lawful}
+use Rattle.pmtl.proofs.History.{small-clock, now-run-by, run-canonical-by}
+use Rattle.pmtl.proofs.Calls.{trail}
+use Rattle.pmtl.proofs.Theorems.{sets-are-canonical}
+use Rattle.pmtl.proofs.Kept.{settled-stays}
 
 empty-gone : (c : ℕ) (s : Runs) → isEmpty s ≡ true → gone c s ≡ true
 unfolding isEmpty
@@ -109,8 +115,11 @@ module _ (b : Rows) (w : Ordered b) (st : State) (ok : (r : ℕ) → Canonical (
   first-settles r x = to-stays b w (settledFirst b st r) (settled b st r) x (either (st .begun) refl r)
 
 -- whatever settled under the first rule settles the same
-pub settled-as-before : (b : Rows) → Ordered b → (calls : List Call) (r : ℕ) (x : Bool) → settledFirst b (after b calls) r ≡ known x → settled b (after b calls) r ≡ known x
-settled-as-before b w calls = first-settles b w (after b calls) (sets-are-canonical b calls) (clock-small b calls)
+pub settled-as-before : (b : Rows) → Ordered b → (calls : List Call) (r : ℕ) (x : Bool) → settledFirst b (keepsAll b calls) r ≡ known x → settled b (after b calls) r ≡ known x
+settled-as-before b w calls r x e =
+    settled-stays b calls w r
+    ∙ first-settles b w (keepsAll b calls) (run-canonical-by renewedAll all-lawful b (accepted b calls))
+    (rw (now-run-by renewedAll b (accepted b calls)) (small-clock b (accepted b calls) (trail b calls .legal))) r x e
 
 -- the test says that the set has no instant at or after the clock
 pub gone-is : (b : Rows) (calls : List Call) (r : ℕ) → (gone (after b calls .now .clock) (setAt (after b calls) r) ≡ true) ↔ Gone (after b calls .now .clock) (setAt (after b calls) r)

@@ -8,5 +8,10 @@ pub mod Settled
 pub mod Ago
 pub mod Calls
 pub mod Theorems
+pub mod EachRun
+pub mod Cut
+pub mod Alike
+pub mod Eleven
+pub mod Kept
 pub mod Lapsed
 pub mod Examples

@@ -1,13 +1,16 @@
 -- Sets as calls renew them: canonical, and which instants they hold. Assumes nothing.
 use Prim.Native.Nat.{ℕ, _≤_}
+use native.Mathlib.Omega.{arith}
 use mathlib.Core.Path.{_≡_, refl, ap, _∙_}
+use mathlib.Core.List.{[]}
 use mathlib.Core.Bool.{Bool, true, false, not, _&&_, _||_, true≢false}
-use Rattle.numset.specs.Runs.{Runs, has, Canonical}
+use Rattle.numset.specs.Runs.{Runs, has, kept, Canonical}
 use Rattle.numset.proofs.Union.{union-has, union-canonical}
+use Rattle.numset.proofs.Kept.{kept-canonical, kept-has}
 use Rattle.pmtl.specs.Book.{Range, inRange, Row}
 use Rattle.pmtl.specs.Book.Row.{never, always, atom, conj, disj, neg, implies, historically, once, since}
-use Rattle.pmtl.specs.Sets.{retained, horizon, gone, staysIf, addedIf, renewed, setRule}
-use Rattle.pmtl.proofs.Seams.{gone-none, retained-canonical, retained-has, retained-gone}
+use Rattle.pmtl.specs.Sets.{gone, staysIf, addedIf, Renew, renewed, renewedAll, setRuleBy}
+use Rattle.pmtl.proofs.Seams.{gone-none, kept-gone}
 
 -- the set stays or is dropped
 stays-canonical : (k : Bool) (s : Runs) → Canonical s → Canonical (staysIf k s)
@@ -33,31 +36,61 @@ added-has false g c s h t = refl
 
 pub renewed-canonical : (k x : Bool) (g : Range) (c : ℕ) (s : Runs) → Canonical s → Canonical (renewed k x g c s)
 unfolding renewed
-renewed-canonical k x g c s h = added-canonical x g c _ (stays-canonical k _ (retained-canonical c s h))
+renewed-canonical k x g c s h = added-canonical x g c _ (stays-canonical k _ (kept-canonical c s h))
 
 -- the instants: those of the range if it is added, and those of the set if it stays
-pub renewed-has : (k x : Bool) (g : Range) (c : ℕ) (s : Runs) → Canonical s → (t : ℕ) → horizon c ≤ t
+pub renewed-has : (k x : Bool) (g : Range) (c : ℕ) (s : Runs) → Canonical s → (t : ℕ) → c ≤ t
     → has (renewed k x g c s) t ≡ (x && inRange g c t || k && has s t)
 unfolding renewed
-renewed-has k x g c s h t l = added-has x g c _ (stays-canonical k _ (retained-canonical c s h)) t
-    ∙ ap (λ y. x && inRange g c t || y) (stays-has k (retained c s) t ∙ ap (λ y. k && y) (retained-has c t s h l))
+renewed-has k x g c s h t l = added-has x g c _ (stays-canonical k _ (kept-canonical c s h)) t
+    ∙ ap (λ y. x && inRange g c t || y) (stays-has k (kept c s) t ∙ ap (λ y. k && y) (kept-has c t s l))
 
 -- a set that is gone stays so where nothing is added
-pub renewed-gone : (k x : Bool) (g : Range) (c : ℕ) (s : Runs) → x ≡ false → gone c s ≡ true → gone c (renewed k x g c s) ≡ true
+pub renewed-gone : (k x : Bool) (g : Range) (c : ℕ) (s : Runs) → Canonical s → x ≡ false → gone c s ≡ true → gone c (renewed k x g c s) ≡ true
 unfolding renewed addedIf staysIf
-renewed-gone k true g c s h q = absurd (true≢false h)
-renewed-gone true false g c s h q = retained-gone c s q
-renewed-gone false false g c s h q = gone-none c
+renewed-gone k true g c s w h q = absurd (true≢false h)
+renewed-gone true false g c s w h q = kept-gone c s w q
+renewed-gone false false g c s w h q = gone-none c
 
-pub rule-canonical : (c : ℕ) (old : Runs) → Canonical old → (row : Row Bool) → Canonical (setRule c old row)
-unfolding setRule Canonical
-rule-canonical c old ok never = tt
-rule-canonical c old ok always = tt
-rule-canonical c old ok (atom a) = tt
-rule-canonical c old ok (conj vs) = tt
-rule-canonical c old ok (disj vs) = tt
-rule-canonical c old ok (neg v) = tt
-rule-canonical c old ok (implies u v) = tt
-rule-canonical c old ok (historically g v) = renewed-canonical true (not v) g c old ok
-rule-canonical c old ok (once g v) = renewed-canonical true v g c old ok
-rule-canonical c old ok (since g u v) = renewed-canonical u v g c old ok
+-- what the theorems need of how sets are renewed: they stay canonical, and from the horizon on they have the instants of the range if it is
+-- added and those of the set if it stays; the horizon is never above the clock, and never falls
+pub record Lawful (renew : Renew) (horizon : ℕ → ℕ) : Type 0 where
+  pub canonical : (k x : Bool) (g : Range) (c : ℕ) (s : Runs) → Canonical s → Canonical (renew k x g c s)
+  pub members : (k x : Bool) (g : Range) (c : ℕ) (s : Runs) → Canonical s → (t : ℕ) → horizon c ≤ t
+      → has (renew k x g c s) t ≡ (x && inRange g c t || k && has s t)
+  pub now : (c : ℕ) → horizon c ≤ c
+  pub later : (c d : ℕ) → c ≤ d → horizon c ≤ horizon d
+
+-- as the monitor does it, from the clock on
+pub renewed-lawful : Lawful renewed (λ c. c)
+renewed-lawful = record { canonical = renewed-canonical; members = renewed-has; now = λ c. omega arith; later = λ c d h. h }
+
+-- where everything is kept, from 0 on
+pub all-lawful : Lawful renewedAll (λ c. 0)
+unfolding renewedAll
+all-lawful = record {
+  canonical = λ k x g c s h. added-canonical x g c _ (stays-canonical k s h);
+  members = λ k x g c s h t l. added-has x g c _ (stays-canonical k s h) t ∙ ap (λ y. x && inRange g c t || y) (stays-has k s t);
+  now = λ c. omega arith;
+  later = λ c d h. omega arith;
+}
+
+-- what is so of no runs and of every set that was renewed is so by the rule
+pub rule-any : (P : Runs → Type 0) → P [] → (renew : Renew) (c : ℕ) (s : Runs) → ((k x : Bool) (g : Range) → P (renew k x g c s))
+    → (row : Row Bool) → P (setRuleBy renew c s row)
+unfolding setRuleBy
+rule-any P e renew c s f never = e
+rule-any P e renew c s f always = e
+rule-any P e renew c s f (atom a) = e
+rule-any P e renew c s f (conj vs) = e
+rule-any P e renew c s f (disj vs) = e
+rule-any P e renew c s f (neg v) = e
+rule-any P e renew c s f (implies u v) = e
+rule-any P e renew c s f (historically g v) = f true (not v) g
+rule-any P e renew c s f (once g v) = f true v g
+rule-any P e renew c s f (since g u v) = f u v g
+
+pub rule-canonical : (renew : Renew) {horizon : ℕ → ℕ} → Lawful renew horizon → (c : ℕ) (old : Runs) → Canonical old → (row : Row Bool)
+    → Canonical (setRuleBy renew c old row)
+unfolding Canonical
+rule-canonical renew lw c old ok = rule-any Canonical tt renew c old (λ k x g. lw .canonical k x g c old ok)

@@ -1,16 +1,17 @@
--- What the theorems need of `gone`, `retained` and `horizon`: all else is proved from these laws, whatever the three definitions say. Assumes nothing.
+-- What the theorems need of `gone`: all else is proved from these laws, whatever the definition says. Assumes nothing.
 use Prim.Native.Nat.{ℕ, _≤_}
 use native.Mathlib.Omega.{arith}
-use mathlib.Core.Path.{_≡_, refl}
+use mathlib.Core.Path.{_≡_, refl, _∙_}
 use mathlib.Core.Logic.{_↔_, ⊎-elim}
 use mathlib.Core.Bool.{true, false}
 use mathlib.Core.List.{[], _∷_}
 use lib.Dec.{ltb}
 use borrow.Author.Tests.{ltb-true, lt-ltb}
 use Rattle.lists.proofs.Tests.{lt-or-ge, clash}
-use Rattle.numset.specs.Runs.{run, Runs, has, Canonical}
+use Rattle.numset.specs.Runs.{run, Runs, has, kept, Canonical}
 use Rattle.numset.proofs.Laws.{newest-in, above-out}
-use Rattle.pmtl.specs.Sets.{retained, horizon, Gone, gone}
+use Rattle.numset.proofs.Kept.{kept-canonical, kept-has}
+use Rattle.pmtl.specs.Sets.{Gone, gone}
 
 -- gone: not one instant from the clock on is in the set, and it stays so
 pub gone-none : (c : ℕ) → gone c [] ≡ true
@@ -22,7 +23,7 @@ unfolding gone has
 gone-has c t [] w l h = refl
 gone-has c t (run a b ∷ rs) w l h = above-out a b rs w t (omega (arith, ltb-true b c h))
 
-has-gone : (c : ℕ) (s : Runs) → Canonical s → Gone c s → gone c s ≡ true
+pub has-gone : (c : ℕ) (s : Runs) → Canonical s → Gone c s → gone c s ≡ true
 unfolding gone Canonical
 has-gone c [] w h = refl
 has-gone c (run a b ∷ rs) w h =
@@ -45,34 +46,6 @@ pub gone-newest : (c l u : ℕ) (rs : Runs) → ltb u c ≡ gone c (run l u ∷ 
 unfolding gone
 gone-newest c l u rs = refl
 
--- what a call keeps of a set: all of it
-pub retained-all : (c : ℕ) (s : Runs) → retained c s ≡ s
-unfolding retained
-retained-all c s = refl
-
--- it is canonical, full from the horizon on, and gone if the set was
-pub retained-canonical : (c : ℕ) (s : Runs) → Canonical s → Canonical (retained c s)
-unfolding retained
-retained-canonical c s h = h
-
-pub retained-has : (c t : ℕ) (s : Runs) → Canonical s → horizon c ≤ t → has (retained c s) t ≡ has s t
-unfolding retained
-retained-has c t s h l = refl
-
-pub retained-gone : (c : ℕ) (s : Runs) → gone c s ≡ true → gone c (retained c s) ≡ true
-unfolding retained
-retained-gone c s h = h
-
--- the horizon is below every instant
-pub horizon-none : (c t : ℕ) → horizon c ≤ t
-unfolding horizon
-horizon-none c t = omega arith
-
--- it is not above the clock, and never falls
-pub horizon-now : (c : ℕ) → horizon c ≤ c
-unfolding horizon
-horizon-now c = omega arith
-
-pub horizon-later : (c d : ℕ) → c ≤ d → horizon c ≤ horizon d
-unfolding horizon
-horizon-later c d h = omega arith
+-- what is kept of a set that is gone is gone
+pub kept-gone : (c : ℕ) (s : Runs) → Canonical s → gone c s ≡ true → gone c (kept c s) ≡ true
+kept-gone c s w h = has-gone c (kept c s) (kept-canonical c s w) (λ t l. kept-has c t s l ∙ gone-has c t s w l h)

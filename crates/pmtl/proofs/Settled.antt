@@ -18,16 +18,16 @@ use Rattle.pmtl.specs.declared.Answer.the-variants.{False, True, Open}
 use Rattle.pmtl.specs.Answer.{isTrue, isFalse, known, decided}
 use Rattle.pmtl.specs.Book.{Range, start, stop, inRange, Row, mapRow, Rows, rowAt, AllBelow, Below, Ordered, every, some, itself}
 use Rattle.pmtl.specs.Book.Row.{never, always, atom, conj, disj, neg, implies, historically, once, since}
-use Rattle.pmtl.specs.Sets.{gone, renewed, setRule}
-use Rattle.pmtl.specs.Monitor.{Snap, State, setAt, valueRule, initial, step, value}
+use Rattle.pmtl.specs.Sets.{gone, renewed, setRuleBy, setRule}
+use Rattle.pmtl.specs.Monitor.{Snap, State, setAt, valueRule, initial, stepBy, step, value}
 use Rattle.pmtl.specs.Early.{fromNow}
 use Rattle.pmtl.specs.Settled.{settledTrue, settledFalse, settled}
 use Rattle.pmtl.specs.Calls.{History}
 use Rattle.pmtl.proofs.Table.{by-rows}
 use Rattle.pmtl.proofs.Answers.{value-fix, set-fix, settled-fix, settled-out, settled-before}
-use Rattle.pmtl.proofs.Seams.{gone-has, gone-later, horizon-now}
-use Rattle.pmtl.proofs.Renewed.{renewed-canonical, renewed-has, renewed-gone, rule-canonical}
-use Rattle.pmtl.specs.Past.{run}
+use Rattle.pmtl.proofs.Seams.{gone-has, gone-later}
+use Rattle.pmtl.proofs.Renewed.{renewed-canonical, renewed-has, renewed-gone, renewed-lawful, rule-canonical}
+use Rattle.pmtl.specs.Past.{runBy, run}
 use Rattle.pmtl.proofs.History.{Legal, run-canonical}
 
 -- two tests, of true and of false, are right of a value
@@ -84,7 +84,7 @@ module _ (r : ℕ) (a b : ℕ → Answer) (p : Answer → Bool) (below : (o : �
   some-stays (o ∷ os) w = or-mono _ _ _ _ (below o (w .0)) (some-stays os (w .1))
 
 -- a range counted from the clock
-stop-after : (g : Range) (c : ℕ) → c ≤ MAX → c ≤ stop g c
+pub stop-after : (g : Range) (c : ℕ) → c ≤ MAX → c ≤ stop g c
 unfolding stop
 stop-after g c h = elim (eqb (g .upper) MAX) as (λ x. c ≤ cond x MAX (c + g .upper)) [ true ↦ h | false ↦ omega arith ]
 
@@ -107,7 +107,7 @@ gone-now c s w h = gone-has c c s w (omega arith) h
 -- s is the set of a temporal row after a call at clock c, in which it stayed (k) and was added to (x)
 module _ (k x : Bool) (g : Range) (c : ℕ) (old : Runs) (ok : Canonical old) (small : c ≤ MAX) (s : Runs) (is : s ≡ renewed k x g c old) where
   renewed-at : (t : ℕ) → c ≤ t → has s t ≡ (x && inRange g c t || k && has old t)
-  renewed-at t l = ap (λ (q : Runs). has q t) is ∙ renewed-has k x g c old ok t (omega (arith, horizon-now c))
+  renewed-at t l = ap (λ (q : Runs). has q t) is ∙ renewed-has k x g c old ok t l
 
   added : x ≡ true → fromNow g ≡ true → has s c ≡ true
   added h z = renewed-at c (omega arith) ∙ or-left _ _ (and-intro _ _ h (reaches g c small z))
@@ -121,18 +121,18 @@ module _ (k x : Bool) (g : Range) (c : ℕ) (old : Runs) (ok : Canonical old) (s
       renewed-at t l ∙ or-right (x && inRange g c t) _ (and-intro _ _ h (covers-all d old q t (omega arith) m))
 
   gone-stays : (d : ℕ) → d ≤ c → x ≡ false → gone d old ≡ true → gone c s ≡ true
-  gone-stays d le h q = rw is (renewed-gone k x g c old h (gone-later d c old le q))
+  gone-stays d le h q = rw is (renewed-gone k x g c old ok h (gone-later d c old le q))
 
 -- one row in one state: its tests are right of its value
 module _ (now : Snap) (small : now .clock ≤ MAX) (r : ℕ) (a : ℕ → Answer) (v : ℕ → Bool) (below : (o : ℕ) → o < r → Sound (a o) (v o))
     (old : Runs) (ok : Canonical old) where
   made : (row : Row Bool) (s : Runs) → s ≡ setRule (now .clock) old row → Canonical s
-  made row s e = rw e (rule-canonical (now .clock) old ok row)
+  made row s e = rw e (rule-canonical renewed renewed-lawful (now .clock) old ok row)
 
   row-right : (row : Row ℕ) → Below r row → (s : Runs) → s ≡ setRule (now .clock) old (mapRow v row)
       → Right (settledTrue (covers (now .clock) s) (gone (now .clock) s) (mapRow a row)) (settledFalse (covers (now .clock) s) (gone (now .clock) s) (mapRow a row))
       (valueRule (now .atoms) (has s (now .clock)) (mapRow v row))
-  unfolding settledTrue settledFalse valueRule setRule
+  unfolding settledTrue settledFalse valueRule setRuleBy
   row-right never w s e = (λ h. h, λ h. refl)
   row-right always w s e = (λ h. refl, λ h. sym h)
   row-right (atom n) w s e = (λ h. absurd (false≢true h), λ h. absurd (false≢true h))
@@ -165,7 +165,7 @@ module _ (now : Snap) (small : now .clock ≤ MAX) (d : ℕ) (le : d ≤ now .cl
     (below : (o : ℕ) → o < r → Stays (a o) (b o)) (right : (o : ℕ) → o < r → Sound (b o) (v o)) (old : Runs) (ok : Canonical old) where
   true-stays : (row : Row ℕ) → Below r row → (s : Runs) → s ≡ setRule (now .clock) old (mapRow v row)
       → settledTrue (covers d old) (gone d old) (mapRow a row) ≡ true → settledTrue (covers (now .clock) s) (gone (now .clock) s) (mapRow b row) ≡ true
-  unfolding settledTrue setRule
+  unfolding settledTrue setRuleBy
   true-stays never w s e = λ h. h
   true-stays always w s e = λ h. h
   true-stays (atom n) w s e = λ h. h
@@ -183,7 +183,7 @@ module _ (now : Snap) (small : now .clock ≤ MAX) (d : ℕ) (le : d ≤ now .cl
 
   false-stays : (row : Row ℕ) → Below r row → (s : Runs) → s ≡ setRule (now .clock) old (mapRow v row)
       → settledFalse (covers d old) (gone d old) (mapRow a row) ≡ true → settledFalse (covers (now .clock) s) (gone (now .clock) s) (mapRow b row) ≡ true
-  unfolding settledFalse setRule
+  unfolding settledFalse setRuleBy
   false-stays never w s e = λ h. h
   false-stays always w s e = λ h. h
   false-stays (atom n) w s e = λ h. h
@@ -211,12 +211,12 @@ module _ (b : Rows) (w : Ordered b) where
     no? r = settledFalse (covers (now .clock) (setAt (step b st now) r)) (gone (now .clock) (setAt (step b st now) r)) (mapRow (settled b (step b st now)) (rowAt b r))
 
     answer-is : (r : ℕ) → r < length b → settled b (step b st now) r ≡ decided (yes? r) (no? r)
-    unfolding step
+    unfolding stepBy
     answer-is r h = settled-fix b w (step b st now) refl r h
 
     value-is : (r : ℕ) → value b (step b st now) r
         ≡ valueRule (now .atoms) (has (setAt (step b st now) r) (now .clock)) (mapRow (value b (step b st now)) (rowAt b r))
-    unfolding step
+    unfolding stepBy
     value-is r = value-fix b w (step b st now) r
 
     tests-right : (r : ℕ) → ((o : ℕ) → o < r → Sound (settled b (step b st now) o) (value b (step b st now) o)) → Right (yes? r) (no? r) (value b (step b st now) r)
@@ -233,7 +233,7 @@ module _ (b : Rows) (w : Ordered b) where
         go r below (no l) = open-sound _ _ (settled-out b (step b st now) r (omega arith))
 
   settled-value : (s : Snap) (h : History) → Legal b (s ∷ h) → (r : ℕ) → Sound (settled b (run b (s ∷ h)) r) (value b (run b (s ∷ h)) r)
-  unfolding run
+  unfolding runBy
   settled-value s h l r = step-right (run b h) s (run-canonical b h) (l .1) r
 
   -- and the next call leaves it so
@@ -263,7 +263,7 @@ module _ (b : Rows) (w : Ordered b) where
         go r below (no l) = open-stays (before r) (next r) (settled-out b (step b st s) r (omega arith))
 
   settled-next : (t s : Snap) (h : History) → Legal b (t ∷ s ∷ h) → (r : ℕ) → Stays (settled b (run b (s ∷ h)) r) (settled b (run b (t ∷ s ∷ h)) r)
-  unfolding run
+  unfolding runBy
   settled-next t s h l r = step-stays (run b h) s t (run-canonical b h) (run-canonical b (s ∷ h)) (l .0) (l .2 .1) (l .1) r
 
   to-sound : (a : Answer) (v x : Bool) → Sound a v → a ≡ known x → v ≡ x
@@ -279,7 +279,7 @@ module _ (b : Rows) (w : Ordered b) where
   to-stays a Open false h e = absurd (false≢true (h .1 (ap isFalse e)))
 
   not-yet : (r : ℕ) (x : Bool) → settled b (run b []) r ≡ known x → ⊥
-  unfolding run initial
+  unfolding runBy initial
   not-yet r true e = false≢true (ap isTrue (sym (settled-before b (initial b) refl r) ∙ e))
   not-yet r false e = false≢true (ap isFalse (sym (settled-before b (initial b) refl r) ∙ e))
 

@@ -1,6 +1,7 @@
 -- What is proved of the definitions, in the words of REFERENCE 3 and 4. Of a book it is asked at most that operands are below their owners (`Ordered`);
 -- the calls are any list, the newest first, refused ones among them; r is any number, of a row or of none. Nothing is assumed.
 use Prim.Native.Nat.{ℕ, _≤_}
+use native.Mathlib.Omega.{arith}
 use mathlib.Core.Path.{_≡_, refl, sym, ap, _∙_}
 use mathlib.Core.Logic.{_↔_}
 use mathlib.Core.Bool.{Bool, true, false, cond, not, _&&_}
@@ -15,13 +16,12 @@ use Rattle.pmtl.specs.Answer.{isTrue, isFalse, known, reversed}
 use Rattle.pmtl.specs.Early.{fromNow, earlyRule}
 use Rattle.pmtl.specs.Book.{Range, Row, mapRow, Rows, rowAt, Ordered}
 use Rattle.pmtl.specs.Book.Row.{historically, once, since}
-use Rattle.pmtl.specs.Sets.{gone, setRule}
+use Rattle.pmtl.specs.Sets.{gone, setRuleBy, setRule}
 use Rattle.pmtl.specs.Monitor.{Snap, State, setAt, valueRule, value}
 use Rattle.pmtl.specs.Settled.{settledTrue, settledFalse, settled}
 use Rattle.pmtl.specs.Calls.{Call, call, after, accepted, nowOf}
 use Rattle.pmtl.specs.Meaning.{instants, meaning}
 use Rattle.pmtl.specs.Past.{run, held, SomeCall, SinceCall}
-use Rattle.pmtl.proofs.Seams.{horizon-none}
 use Rattle.pmtl.proofs.History.{small-clock, now-run, run-canonical}
 use Rattle.pmtl.proofs.Values.{values-mean, sets-mean}
 use Rattle.pmtl.proofs.Ago.{once-held, historically-held, since-held}
@@ -50,9 +50,9 @@ held-is b calls r k h = let p = past-calls b calls k h in
     (p .0, p .1, ap (λ x. held b r x) (sym (p .2)) ∙ ap (λ st. value b st r) (sym (after-is b (p .0))))
 
 module _ (b : Rows) (w : Ordered b) (calls : List Call) (r : ℕ) where
-  -- each temporal row has the set of instants that REFERENCE 3.5 defines from the accepted calls so far
-  pub sets-are-instants : (t : ℕ) → has (setAt (after b calls) r) t ≡ instants (mapRow (meaning b) (rowAt b r)) (accepted b calls) t
-  sets-are-instants t = rw (after-is b calls) (sets-mean b w r (accepted b calls) (trail b calls .legal) t (horizon-none _ t))
+  -- each temporal row has, from the clock on, the set of instants that REFERENCE 3.5 defines from the accepted calls so far
+  pub sets-are-instants : (t : ℕ) → after b calls .now .clock ≤ t → has (setAt (after b calls) r) t ≡ instants (mapRow (meaning b) (rowAt b r)) (accepted b calls) t
+  sets-are-instants t n = rw (after-is b calls) (sets-mean b w r (accepted b calls) (trail b calls .legal) t (omega (arith, clock-is b calls)))
 
   -- DEMAND 2: a row's value is what the row means on the history of the accepted calls
   pub demand-2 : value b (after b calls) r ≡ meaning b r (accepted b calls)
@@ -108,7 +108,7 @@ never-both c s w small row h = tests-apart (covers c s) (gone c s) (covers-not-g
 pub historically-is-not-once-not : (c : ℕ) (s : Runs) (atoms : List Bool) (here : Bool) (g : Range) (v : Bool)
     → (setRule c s (historically g v) ≡ setRule c s (once g (not v)))
     × (valueRule atoms here (historically g v) ≡ not (valueRule atoms here (once g (not v))))
-unfolding setRule valueRule
+unfolding setRuleBy valueRule
 historically-is-not-once-not c s atoms here g v = (refl, refl)
 
 -- its early answer

@@ -8,7 +8,8 @@ use Rattle.numset.specs.Runs.{Runs}
 use Rattle.numbers.specs.Limits.{LAST-TIME, MOST-ATOMS, MOST-RUNS}
 use Rattle.numbers.specs.Refusals.{ACCEPTED, PAST-LIMIT, TOO-EARLY, TOO-LATE, TOO-NARROW, NOT-A-BIT, NO-ROOM}
 use Rattle.pmtl.specs.Book.{Rows, widthOf, some}
-use Rattle.pmtl.specs.Monitor.{Snap, State, fresh, initial, step}
+use Rattle.pmtl.specs.Sets.{renewed}
+use Rattle.pmtl.specs.Monitor.{Snap, State, fresh, initial, stepBy, step}
 
 -- a time call, a state call
 pub data Call : Type 0 where
@@ -32,6 +33,10 @@ refusal b now (state bytes) =
 unfoldable pub crowded : State → Bool
 crowded st = some (λ (s : Runs). ltb MOST-RUNS (length s)) (st .sets)
 
+-- it has after the snapshot n, once old runs are dropped
+abbrev pub crowds : Rows → State → Snap → Bool
+crowds b st n = crowded (stepBy renewed b st n)
+
 -- what a call hands back and leaves
 pub record Outcome : Type 0 where
   pub number : ℕ
@@ -41,7 +46,7 @@ pub record Outcome : Type 0 where
 unfoldable pub play : Rows → State → State → List Snap → Outcome
 play b old st [] = record { number = ACCEPTED; state = st }
 play b old st (n ∷ ns) =
-    elim (crowded (step b st n)) [ true ↦ record { number = NO-ROOM; state = old } | false ↦ play b old (step b st n) ns ]
+    elim (crowds b st n) [ true ↦ record { number = NO-ROOM; state = old } | false ↦ play b old (step b st n) ns ]
 
 -- a call: refused, and the state unchanged; or its snapshots in turn
 unfoldable pub call : Rows → State → Call → Outcome

@@ -7,4 +7,5 @@ pub mod Settled
 pub mod Calls
 pub mod Meaning
 pub mod Past
+pub mod Kept
 pub mod Lapsed

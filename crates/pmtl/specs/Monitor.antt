@@ -6,7 +6,7 @@ use lib.ListN.{length, getD, replicate}
 use Rattle.numset.specs.Runs.{Runs, has}
 use Rattle.pmtl.specs.Book.{Row, mapRow, Rows, widthOf, table, answer, every, some, itself}
 use Rattle.pmtl.specs.Book.Row.{never, always, atom, conj, disj, neg, implies, historically, once, since}
-use Rattle.pmtl.specs.Sets.{setRule}
+use Rattle.pmtl.specs.Sets.{Renew, renewed, setRuleBy}
 
 -- what a call leaves: the clock, and the atoms that the book names
 pub record Snap : Type 0 where
@@ -60,12 +60,19 @@ valueIn x = x .value
 abbrev pub noCell : Cell
 noCell = record { set = []; value = false }
 
-abbrev pub cellRule : State → Snap → ℕ → Row Cell → Cell
-cellRule st now r row =
+abbrev pub cellRuleBy : Renew → State → Snap → ℕ → Row Cell → Cell
+cellRuleBy renew st now r row =
     let vs = mapRow valueIn row in
-    let s = setRule (now .clock) (setAt st r) vs in
+    let s = setRuleBy renew (now .clock) (setAt st r) vs in
     record { set = s; value = valueRule (now .atoms) (has s (now .clock)) vs }
 
 -- a call re-evaluates every row, from row 0 upward, at the clock and atoms that it leaves
-unfoldable pub step : Rows → State → Snap → State
-step b st now = record { begun = true; now = now; sets = map setIn (table b noCell (cellRule st now) (length b)) }
+unfoldable pub stepBy : Renew → Rows → State → Snap → State
+stepBy renew b st now = record { begun = true; now = now; sets = map setIn (table b noCell (cellRuleBy renew st now) (length b)) }
+
+-- as the monitor does it
+abbrev pub cellRule : State → Snap → ℕ → Row Cell → Cell
+cellRule = cellRuleBy renewed
+
+abbrev pub step : Rows → State → Snap → State
+step = stepBy renewed

@@ -6,14 +6,18 @@ use mathlib.Core.Bool.{true}
 use mathlib.Core.List.{[], _∷_}
 use lib.ListN.{length, drop}
 use Rattle.pmtl.specs.Book.{Range, inRange, Rows}
-use Rattle.pmtl.specs.Monitor.{State, initial, step, value}
+use Rattle.pmtl.specs.Sets.{Renew, renewed}
+use Rattle.pmtl.specs.Monitor.{State, initial, stepBy, value}
 use Rattle.pmtl.specs.Calls.{History, nowOf}
 use Rattle.pmtl.specs.Meaning.{Fact}
 
 -- the state after a history
-unfoldable pub run : Rows → History → State
-run b [] = initial b
-run b (s ∷ h) = step b (run b h) s
+unfoldable pub runBy : Renew → Rows → History → State
+runBy renew b [] = initial b
+runBy renew b (s ∷ h) = stepBy renew b (runBy renew b h) s
+
+abbrev pub run : Rows → History → State
+run = runBy renewed
 
 -- what a row's value was after the calls of a history
 abbrev pub held : Rows → ℕ → Fact

@@ -4,16 +4,9 @@ use mathlib.Core.Path.{_≡_}
 use mathlib.Core.Bool.{Bool, true, false, not}
 use mathlib.Core.List.{[], _∷_}
 use lib.Dec.{ltb}
-use Rattle.numset.specs.Runs.{run, Runs, has, union}
+use Rattle.numset.specs.Runs.{run, Runs, has, kept, union}
 use Rattle.pmtl.specs.Book.{Range, start, stop, Row}
 use Rattle.pmtl.specs.Book.Row.{never, always, atom, conj, disj, neg, implies, historically, once, since}
-
--- what a call at clock c keeps of a set, and from which instant on that is the full union: all of it
-unfoldable pub retained : ℕ → Runs → Runs
-retained c s = s
-
-unfoldable pub horizon : ℕ → ℕ
-horizon c = 0
 
 -- the set is gone: it has no instant at or after c
 abbrev pub Gone : ℕ → Runs → Type 0
@@ -34,19 +27,30 @@ unfoldable pub addedIf : Bool → Range → ℕ → Runs → Runs
 addedIf true g c s = union (start g c) (stop g c) s
 addedIf false g c s = s
 
--- first the set stays or is dropped, then the range is added or not
-unfoldable pub renewed : Bool → Bool → Range → ℕ → Runs → Runs
-renewed stays adds g c s = addedIf adds g c (staysIf stays (retained c s))
+-- how a call changes a set, from whether it stays, whether the range is added, the range, the clock and the set before
+abbrev pub Renew : Type 0
+Renew = Bool → Bool → Range → ℕ → Runs → Runs
+
+-- first the runs that end before the clock are dropped, then the set stays or is dropped whole, then the range is added or not
+unfoldable pub renewed : Renew
+renewed stays adds g c s = addedIf adds g c (staysIf stays (kept c s))
+
+-- the same where everything is kept
+unfoldable pub renewedAll : Renew
+renewedAll stays adds g c s = addedIf adds g c (staysIf stays s)
 
 -- a row's set after a call at clock c, from the set before it and the operands' values after it
-unfoldable pub setRule : ℕ → Runs → Row Bool → Runs
-setRule c s never = []
-setRule c s always = []
-setRule c s (atom a) = []
-setRule c s (conj vs) = []
-setRule c s (disj vs) = []
-setRule c s (neg v) = []
-setRule c s (implies l r) = []
-setRule c s (historically g v) = renewed true (not v) g c s
-setRule c s (once g v) = renewed true v g c s
-setRule c s (since g l r) = renewed l r g c s
+unfoldable pub setRuleBy : Renew → ℕ → Runs → Row Bool → Runs
+setRuleBy renew c s never = []
+setRuleBy renew c s always = []
+setRuleBy renew c s (atom a) = []
+setRuleBy renew c s (conj vs) = []
+setRuleBy renew c s (disj vs) = []
+setRuleBy renew c s (neg v) = []
+setRuleBy renew c s (implies l r) = []
+setRuleBy renew c s (historically g v) = renew true (not v) g c s
+setRuleBy renew c s (once g v) = renew true v g c s
+setRuleBy renew c s (since g l r) = renew l r g c s
+
+abbrev pub setRule : ℕ → Runs → Row Bool → Runs
+setRule = setRuleBy renewed

@@ -2,10 +2,10 @@
 use Prim.Native.Nat.{ℕ}
 use mathlib.Core.Path.{_≡_, refl, _∙_}
 use mathlib.Core.List.{List, [], _∷_}
-use Rattle.numset.specs.Runs.{has, covers, insert, union}
+use Rattle.numset.specs.Runs.{has, covers, kept, insert, union}
 use Rattle.pmtl.specs.Book.{stop, widthOf, table, answer, every, some}
-use Rattle.pmtl.specs.Sets.{retained, gone, staysIf, addedIf, renewed, setRule}
-use Rattle.pmtl.specs.Monitor.{initial, valueRule, value, step}
+use Rattle.pmtl.specs.Sets.{gone, staysIf, addedIf, renewed, setRuleBy}
+use Rattle.pmtl.specs.Monitor.{initial, valueRule, value, stepBy}
 use Rattle.pmtl.specs.Early.{earlyRule, early}
 use Rattle.pmtl.specs.Settled.{settledTrue, settledFalse, settled}
 use Rattle.pmtl.specs.Calls.{refusal, crowded, play, call}
@@ -21,7 +21,7 @@ use Rattle.report.specs.Report.{bookLine, stopLine, endLine, lastLine, p
 
 -- the report, by what every definition says
 unfoldable pub reportOf : List ℕ → List ℕ
-unfolding has covers insert union stop widthOf table answer every some retained gone staysIf addedIf renewed setRule initial valueRule value step earlyRule early settledTrue settledFalse settled refusal crowded play call rowFrom countOf listed section next sections temporalsIn startIn firstTo allTo argGood formGood rangeGood rowNumber operandsGood linksGood timesIn usedOnce judged rowIn bookIn loadedFrom verdictIn pick parts digit letters allDigits said plain good begun writtenWords supplied supply digitsBefore decimal timeFrom stateFrom callFrom orStop endingOf callsFrom callsAfter lineOf linesOf linesFrom callLines bookThen bookLines lines bookLine stopLine endLine lastLine propertyWord propertyWords callLine line written report
+unfolding has covers insert union stop widthOf table answer every some kept gone staysIf addedIf renewed setRuleBy initial valueRule value stepBy earlyRule early settledTrue settledFalse settled refusal crowded play call rowFrom countOf listed section next sections temporalsIn startIn firstTo allTo argGood formGood rangeGood rowNumber operandsGood linksGood timesIn usedOnce judged rowIn bookIn loadedFrom verdictIn pick parts digit letters allDigits said plain good begun writtenWords supplied supply digitsBefore decimal timeFrom stateFrom callFrom orStop endingOf callsFrom callsAfter lineOf linesOf linesFrom callLines bookThen bookLines lines bookLine stopLine endLine lastLine propertyWord propertyWords callLine line written report
 reportOf s = report s
 
 pub opened : (s : List ℕ) → report s ≡ reportOf s

@@ -3,7 +3,7 @@
 use Prim.Native.Nat.{ℕ, zero, suc}
 use mathlib.Core.Bool.{Bool, true, false, not}
 use mathlib.Core.List.{[]}
-use Rattle.numset.specs.Runs.{Runs, union}
+use Rattle.numset.specs.Runs.{Runs, kept, union}
 use Rattle.pmtl.specs.Book.{Row}
 use Rattle.pmtl.specs.Book.Row.{never, always, atom, conj, disj, neg, implies, historically, once, since}
 
@@ -13,12 +13,12 @@ modeOf true true = 1
 modeOf false false = 2
 modeOf false true = 3
 
--- the set after it, where the range is l ..= u
-unfoldable pub changed : ℕ → ℕ → ℕ → Runs → Runs
-changed zero l u rs = rs
-changed (suc zero) l u rs = union l u rs
-changed (suc (suc zero)) l u rs = []
-changed (suc (suc (suc k))) l u rs = union l u []
+-- the set after it, where the range is l ..= u and the clock c: what ends before c is dropped first
+unfoldable pub changed : ℕ → ℕ → ℕ → ℕ → Runs → Runs
+changed zero l u c rs = kept c rs
+changed (suc zero) l u c rs = union l u (kept c rs)
+changed (suc (suc zero)) l u c rs = []
+changed (suc (suc (suc k))) l u c rs = union l u []
 
 -- what a call does to a temporal row's set, by its operands' values after the call
 unfoldable pub modeIn : Row Bool → ℕ

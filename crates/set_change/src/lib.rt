@@ -1,5 +1,6 @@
-// What a call does to one set: which change, whether there is room for it, whether the set will then hold an instant, and the
-// change itself. Whoever plans asks the first three, reading only.
+// What a call does to one set: which change, whether there is room for it, whether the set will then hold the clock, and the
+// change itself. Whoever plans asks the first three, reading only. Whatever the change, runs that end before the clock that
+// the call leaves are dropped first.
 ghost use mathlib.Core.Path.{_≡_};
 ghost use mathlib.Core.Bool.{true};
 ghost use Prim.Native.Nat.{_<_};
@@ -37,45 +38,47 @@ fn inside(lower: u64, upper: u64, t: u64) -> bool
 }
 
 // Whether there is room for the change: only a set that stays can grow past its words.
-pub fn room_for(set: &[u64], mode: u8, lower: u64, upper: u64) -> bool
+pub fn room_for(set: &[u64], mode: u8, lower: u64, upper: u64, clock: u64) -> bool
     requires { ⌜ Good (now set) ⌝ }
     requires { ⌜ 2 < length (now set) ⌝ }
-    ensures { λ r. ⌜ r ≡ fits (length (now (set .entry))) (changed mode lower upper (runs (now (set .entry)))) ⌝ }
+    ensures { λ r. ⌜ r ≡ fits (length (now (set .entry))) (changed mode lower upper clock (runs (now (set .entry)))) ⌝ }
 {
     if mode == STAYS_AND_ADDS {
-        return numset::has_room(set, lower, upper);
+        return numset::will_have_room(set, clock, lower, upper);
     }
     true
 }
 
-// Whether the set will contain `t`.
-pub fn will_have(set: &[u64], mode: u8, lower: u64, upper: u64, t: u64) -> bool
+// Whether the set will contain the clock. No run that holds it is dropped for its age, so the set is asked as it is.
+pub fn will_have(set: &[u64], mode: u8, lower: u64, upper: u64, clock: u64) -> bool
     requires { ⌜ Good (now set) ⌝ }
-    ensures { λ r. ⌜ r ≡ has (changed mode lower upper (runs (now (set .entry)))) t ⌝ }
+    ensures { λ r. ⌜ r ≡ has (changed mode lower upper clock (runs (now (set .entry)))) clock ⌝ }
 {
     match mode {
-        STAYS => numset::contains(set, t),
+        STAYS => numset::contains_from_oldest(set, clock),
         STAYS_AND_ADDS => {
-            if inside(lower, upper, t) {
+            if inside(lower, upper, clock) {
                 return true;
             }
-            numset::contains(set, t)
+            numset::contains_from_oldest(set, clock)
         }
         DROPPED => false,
-        _ => inside(lower, upper, t),
+        _ => inside(lower, upper, clock),
     }
 }
 
 // The change, which there is room for.
-pub fn change(set: &mut [u64], mode: u8, lower: u64, upper: u64)
+pub fn change(set: &mut [u64], mode: u8, lower: u64, upper: u64, clock: u64)
     requires { ⌜ Good (now set) ⌝ }
-    requires { ⌜ fits (length (now set)) (changed mode lower upper (runs (now set))) ≡ true ⌝ }
-    ensures { λ _. ⌜ now (set .exit) ≡ pack (length (now (set .entry))) (changed mode lower upper (runs (now (set .entry)))) ⌝ }
+    requires { ⌜ fits (length (now set)) (changed mode lower upper clock (runs (now set))) ≡ true ⌝ }
+    ensures { λ _. ⌜ now (set .exit) ≡ pack (length (now (set .entry))) (changed mode lower upper clock (runs (now (set .entry)))) ⌝ }
 {
     if mode == STAYS {
+        numset::drop_before(set, clock);
         return;
     }
     if mode == STAYS_AND_ADDS {
+        numset::drop_before(set, clock);
         numset::add(set, lower, upper);
         return;
     }

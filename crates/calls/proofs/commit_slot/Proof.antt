@@ -1,11 +1,14 @@
--- `calls::commit_slot` meets its contract: the set stays, or its part of the memory is changed. Assumes nothing.
-use Rattle.calls.proofs.Commits.{commit-none, fit-roomy, fit-done}
+-- `calls::commit_slot` meets its contract: what is over is dropped from the set, or its part of the memory is changed. Assumes nothing.
+use Rattle.calls.proofs.Commits.{fit-held, commit-stays, fit-roomy, fit-done}
 use borrow.Author.Needs.{needs}
 use Rattle.calls.proofs.commit_slot.Statement.{statement}
 use Rattle.calls.proofs.commit_slot.Tie as tie
 
+drop-from-requires : tie.Need-drop-from-requires
+drop-from-requires c κs = fit-held (c .before .before .pre)
+
 returns : tie.Need-returns
-returns c = commit-none (c .before .pre) (c .if1 .taken)
+returns c = commit-stays (c .before .before .before .pre) (c .before .before .if1 .taken) (c .drop-from .ensures)
 
 owner-at-requires : tie.Need-owner-at-requires
 owner-at-requires c κs = search needs
@@ -26,6 +29,7 @@ pub commit-slot-spec : {M : Type 1} → statement M
 commit-slot-spec =
     tie.close
     (tie.spec
+    drop-from-requires
     returns
     owner-at-requires
     start-of-requires

@@ -9,11 +9,11 @@ mode-of-requires c κs = let p = c .pre in (p .timely .sound .book, (slot-row p,
 set-at-requires : tie.Need-set-at-requires
 set-at-requires c κs = slot-small ((c .before) .pre)
 
-contains-requires : tie.Need-contains-requires
-contains-requires c κs = slot-good ((c .before .before .before) .pre) ((c .before) .set-at .ensures)
+contains-from-oldest-requires : tie.Need-contains-from-oldest-requires
+contains-from-oldest-requires c κs = slot-good ((c .before .before .before) .pre) ((c .before) .set-at .ensures)
 
 returns : tie.Need-returns
-returns c = plan-stays ((c .before .before .before .before) .pre) ((c .before .before) .set-at .ensures) ((c .before) .if1 .taken) (c .contains .ensures) ((c .before .before .before) .mode-of .ensures)
+returns c = plan-stays ((c .before .before .before .before) .pre) ((c .before .before) .set-at .ensures) ((c .before) .if1 .taken) (c .contains-from-oldest .ensures) ((c .before .before .before) .mode-of .ensures)
 
 start-of-requires : tie.Need-start-of-requires
 start-of-requires c κs = slot-bounded ((c .before .before .before) .pre)
@@ -36,7 +36,7 @@ plan-row-spec =
     (tie.spec
     mode-of-requires
     set-at-requires
-    contains-requires
+    contains-from-oldest-requires
     returns
     start-of-requires
     stop-of-requires

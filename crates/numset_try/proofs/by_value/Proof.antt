@@ -48,6 +48,18 @@ from-interval-requires-5 c κs = search needs
 ask-value-requires-2 : tie.Need-ask-value-requires-2
 ask-value-requires-2 c κs = rw (c .from-interval5 .ensures) (one-good 129 _ _ (lit≤ tt) (lit≤ tt))
 
+from-interval-requires-6 : tie.Need-from-interval-requires-6
+from-interval-requires-6 c κs = search needs
+
+drop-value-requires : tie.Need-drop-value-requires
+drop-value-requires c κs = rw (c .from-interval6 .ensures) (one-good 129 _ _ (lit≤ tt) (lit≤ tt))
+
+from-interval-requires-7 : tie.Need-from-interval-requires-7
+from-interval-requires-7 c κs = search needs
+
+drop-value-requires-2 : tie.Need-drop-value-requires-2
+drop-value-requires-2 c κs = rw (c .from-interval7 .ensures) (one-good 129 _ _ (lit≤ tt) (lit≤ tt))
+
 returns : tie.Need-returns
 returns c = search needs
 
@@ -69,4 +81,8 @@ by-value-spec =
     ask-value-requires
     from-interval-requires-5
     ask-value-requires-2
+    from-interval-requires-6
+    drop-value-requires
+    from-interval-requires-7
+    drop-value-requires-2
     returns)

@@ -22,6 +22,9 @@ examples-requires c κs =
 edges-requires : tie.Need-edges-requires
 edges-requires c κs = search needs
 
+old-runs-requires : tie.Need-old-runs-requires
+old-runs-requires c κs = search needs
+
 small-requires : tie.Need-small-requires
 small-requires c κs = search needs
 
@@ -43,6 +46,7 @@ show-all-spec =
     returns
     examples-requires
     edges-requires
+    old-runs-requires
     small-requires
     by-value-requires
     same-length-2

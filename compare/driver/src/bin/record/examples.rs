@@ -6,8 +6,11 @@ const OVER_MAX: &str = "18446744073709551616";
 const H: &str = "9223372036854775807";
 const OVER_H: &str = "9223372036854775808";
 
-/// Once[0,0] a.
+/// Once[0,0] a, whose runs are over one instant later, and Once[128,128] a, whose runs are all ahead at first.
 const NOW: &str = "2\n2 0 0 0\n8 1 0 0\n1 0\n0\n1 1\n";
+const AHEAD: &str = "2\n2 0 0 0\n8 1 128 128\n1 0\n0\n1 1\n";
+/// Once[0,5] a.
+const SHORT: &str = "2\n2 0 0 0\n8 1 0 5\n1 0\n0\n1 1\n";
 
 /// Rules that settle when their set has lapsed: Historically[0,5] Once[0,MAX] a0; Since(a1, Historically[0,MAX] a0)[0,5];
 /// Once[2,5] Historically[0,MAX] a0.
@@ -42,7 +45,7 @@ fn of_document() -> Vec<(&'static str, String)> {
         calls.iter().map(|call| call.to_string()).collect::<Vec<String>>()
     };
     let joined = |book: &str, calls: Vec<String>| case(book, &calls.iter().map(String::as_str).collect::<Vec<_>>());
-    let full_later = "4\n2 1 0 0\n7 1 1 1\n2 0 0 0\n8 1 0 0\n2 0 2\n0\n2 1 3\n";
+    let full_later = "4\n2 1 0 0\n7 1 1 1\n2 0 0 0\n8 1 128 128\n2 0 2\n0\n2 1 3\n";
     vec![
         ("whole-case", case(&whole, &["1 1 0", "0 1", "1 1 1", "0 5"])),
         ("p06", case("2\n2 0 0 0\n8 1 2 3\n1 0\n0\n1 1\n", &["1 1 1", "1 1 0", "0 1", "0 2", "0 3", "0 4"])),
@@ -56,8 +59,10 @@ fn of_document() -> Vec<(&'static str, String)> {
         ("lapsed-historically", case(LAPSED_HISTORICALLY, &["1 1 0", "1 1 1", "0 5", "0 6"])),
         ("lapsed-since", case(LAPSED_SINCE, &["1 2 1 1", "1 2 0 1", "0 5", "0 6"])),
         ("lapsed-later", case(LAPSED_LATER, &["1 1 1", "1 1 0", "0 1", "0 5", "0 6"])),
-        ("full-set", joined(NOW, full("1 1 1", &["0 128", "0 127", "0 128"]))),
+        ("full-set", joined(AHEAD, full("1 1 1", &["0 128", "0 128", "0 129", "0 130", "0 131"]))),
         ("full-later-row", joined(full_later, full("1 2 1 1", &["1 2 1 0", "0 128", "0 127", "1 2 0 1", "0 129"]))),
+        ("old-set", joined(NOW, full("1 1 1", &["0 128", "0 127", "0 130", "0 1000"]))),
+        ("old-run", case(SHORT, &["1 1 1", "1 1 0", "0 5", "0 6", "1 1 1", "0 12", "1 1 0", "0 17", "0 18"])),
         ("time-h", case(NOW, &["1 1 1", &format!("0 {OVER_H}"), &format!("0 {H}"), &format!("0 {MAX}"), "0 5"])),
         ("no-rows", case("0\n0\n0\n0\n", &["0 3", "1 0", "1 2 1 0", "1 1 2"])),
         ("empty", String::new()),
