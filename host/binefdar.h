@@ -5,7 +5,7 @@
  * spaces or line feeds) and a buffer, and writes the report of that input into the buffer:
  *
  *     book 0              the book was loaded; another number says why it was not, and nothing follows
- *     1 0 022 111 3       call 1 was accepted; a word for each property: value, early, settled; and the count
+ *     1 0 022 111 1       call 1 was accepted; a word for each property: value, early, settled; and the count
  *     2 7                 call 2 was refused with 7 and passed over
  *     end                 all was read; or `stop N`: reading ended with the number N
  *
