@@ -5,13 +5,17 @@
  * spaces or line feeds) and a buffer, and writes the report of that input into the buffer:
  *
  *     book 0              the book was loaded; another number says why it was not, and nothing follows
- *     1 0 022 111         call 1 was accepted; a word for each property: value, early, settled
+ *     1 0 022 111 1       call 1 was accepted; a word for each property: value, early, settled; and the count
  *     2 7                 call 2 was refused with 7 and passed over
  *     end                 all was read; or `stop N`: reading ended with the number N
  *
  * In a word of three digits 0 is false, 1 is true and 2 is open. The settled answer is never taken back:
  * once it is 0 or 1, the property has that value then and after every further accepted call. The early
  * answer may err. README.md has the table of the numbers.
+ *
+ * The count, the last word of an accepted call's line, says how full the fullest rule is: how many separate
+ * stretches of time it remembers that are not over. 0 is none and 64 is full; a call that needs one more is then
+ * refused with 11. From 48 on, think about the rule.
  *
  * What it promises, for every input and every buffer (it is proved, and nothing is asked of the caller
  * beyond the pointers):

@@ -4,7 +4,7 @@
 //! bench count PLACE PART SIDE   one measured run, for callgrind
 
 use bench::workloads::{with_calls_refused, workloads, Workload, MANY_RUNS, ONE_RUN};
-use bench::{plain, without_settled};
+use bench::{plain, as_the_rust_knows};
 use judge::report::{self, Nobody, LONGEST_INPUT};
 use std::hint::black_box;
 use std::process::Command;
@@ -75,7 +75,7 @@ fn texts(workload: &Workload) -> [Vec<u8>; 2] {
     texts
 }
 
-/// Both sides must give the expected report, the Rust apart from settled, and every call must be accepted, or refused.
+/// Both sides must give the expected report, the Rust apart from settled and the count, and every call must be accepted, or refused.
 fn check(name: &str, texts: &[Vec<u8>; 2]) {
     for (part, text) in texts.iter().enumerate() {
         let expected = report::report(text, &mut Nobody).expect("original and rules agree");
@@ -84,7 +84,7 @@ fn check(name: &str, texts: &[Vec<u8>; 2]) {
         let length = unsafe { binefdar_report(text.as_ptr(), text.len() as u64, out.as_mut_ptr(), ROOM as u64) };
         assert!(length as usize == expected.len() && out[..length as usize] == expected, "{name}: ours is not the expected report");
         plain::report(text, &mut out);
-        assert!(without_settled(&out) == without_settled(&expected), "{name}: the Rust program's is not the expected report");
+        assert!(as_the_rust_knows(&out) == as_the_rust_knows(&expected), "{name}: the Rust program's is not the expected report");
         let lines = String::from_utf8(expected).expect("a report is ASCII");
         let accepted = lines.lines().filter(|l| l.split(' ').nth(1) == Some("0")).count();
         // One line is the book's; with the calls refused the one more is the first call.

@@ -1,5 +1,5 @@
-//! A straightforward Rust program over the original: text in, report out. It knows no settled answer and no limit on runs, since
-//! the original has neither: the third digit is always open.
+//! A straightforward Rust program over the original: text in, report out. It knows no settled answer, no limit on runs and no
+//! count of them, since the original has none of these: the third digit is always open, and the last word 0.
 
 use scan_core::{Oracle, TimeRange};
 use scan_pmtl::{Pmtl, PmtlOracle};
@@ -217,6 +217,7 @@ fn calls(words: &mut Words, oracle: &mut PmtlOracle, width: usize, out: &mut Vec
         if refusal == 0 {
             oracle.final_output_assumes().zip(oracle.output_assumes()).for_each(|answer| push_answer(out, answer));
             oracle.final_output_guarantees().zip(oracle.output_guarantees()).for_each(|answer| push_answer(out, answer));
+            out.extend_from_slice(b" 0");
         }
         out.push(b'\n');
     }

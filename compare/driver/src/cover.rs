@@ -2,7 +2,7 @@
 //! count, since their answers stand in the report as they are.
 
 use judge::book::{Range, Row, H, MAX};
-use judge::monitor::{Monitor, ACCEPTED};
+use judge::monitor::{Monitor, ACCEPTED, MOST_RUNS};
 use judge::report::{report, Watch};
 use judge::rules::Answer;
 use judge::runs::Runs;
@@ -35,6 +35,7 @@ impl Watch for Seen {
     fn call(&mut self, number: u64, monitor: &Monitor) {
         self.sentences.insert(format!("call {number}"));
         if number == ACCEPTED {
+            self.sentences.insert(format!("count {}", count_kind(monitor.count())));
             self.fill(monitor);
             self.rows(monitor);
         }
@@ -134,6 +135,15 @@ fn range_kind(range: &Range) -> String {
         _ => "near H",
     };
     format!("[{lower}, {upper}]")
+}
+
+fn count_kind(count: usize) -> &'static str {
+    match count {
+        0 => "0",
+        1 => "1",
+        2..MOST_RUNS => "over 1",
+        _ => "full",
+    }
 }
 
 fn set_kind(set: &Runs, filled: bool, clock: u64) -> &'static str {

@@ -29,7 +29,7 @@ fn values(book: &str, calls: &[&str]) -> String {
 #[test]
 fn whole_case() {
     let input = "3\n2 0 0 0\n8 1 0 18446744073709551615\n7 1 0 18446744073709551615\n2 0 1\n0\n1 2\n4\n1 1 0\n0 1\n1 1 1\n0 5\n";
-    assert_eq!(reported(input), "book 0\n1 0 000\n2 0 000\n3 0 010\n4 0 010\nend\n");
+    assert_eq!(reported(input), "book 0\n1 0 000 1\n2 0 000 1\n3 0 010 1\n4 0 010 1\nend\n");
 }
 
 #[test]
@@ -90,7 +90,7 @@ fn old_runs_give_their_room_back() {
     let mut calls = vec!["1 1 1"];
     calls.extend(steps.iter().map(String::as_str));
     let lines = lines("2 2 0 0 0 8 1 0 0 1 0 0 1 1", &calls);
-    assert!(lines[..501].iter().all(|l| l.ends_with(" 0 122")), "{lines:?}");
+    assert!(lines[..501].iter().all(|l| l.ends_with(" 0 122 1")), "{lines:?}");
 }
 
 #[test]
@@ -108,8 +108,8 @@ fn sixty_four_runs() {
     calls.extend(steps.iter().map(String::as_str));
     calls.extend(["0 128", "0 128", "0 129"]);
     let lines = lines("2 2 0 0 0 8 1 128 128 1 0 0 1 1", &calls);
-    assert!(lines[..64].iter().all(|l| l.ends_with(" 0 022")), "{lines:?}");
-    assert_eq!(lines[64..], ["65 11", "66 11", "67 0 022", "end"]);
+    assert!(lines[..64].iter().zip(1..).all(|(l, runs)| *l == format!("{runs} 0 022 {runs}")), "{lines:?}");
+    assert_eq!(lines[64..], ["65 11", "66 11", "67 0 022 64", "end"]);
 }
 
 #[test]
@@ -122,24 +122,24 @@ fn a_full_row_leaves_the_rows_below_as_they_were() {
     calls.extend(["1 2 1 0", "0 128", "0 127", "1 2 0 1", "0 129"]);
     let lines = lines(book, &calls);
     assert_eq!(lines[65], "66 11");
-    assert_eq!(lines[66], "67 0 022 022");
-    assert_eq!(lines[68], "69 0 122 022");
+    assert_eq!(lines[66], "67 0 022 022 64");
+    assert_eq!(lines[68], "69 0 122 022 63");
 }
 
 #[test]
 fn h_is_accepted_and_no_later_time() {
     let book = "1 1 0 0 0 0 0 1 0";
     let calls = ["0 9223372036854775808", "0 9223372036854775807", "0 18446744073709551615", "0 5"];
-    assert_eq!(lines(book, &calls), ["1 8", "2 0 111", "3 8", "4 7", "end"]);
+    assert_eq!(lines(book, &calls), ["1 8", "2 0 111 0", "3 8", "4 7", "end"]);
 }
 
 #[test]
 fn refused_states() {
     let book = "1 2 1 0 0 0 0 1 0";
     let calls = ["1 1 5", "1 2 0 2", "1 3 0 1 18446744073709551615", "1 3 0 1 0", "1 0"];
-    assert_eq!(lines(book, &calls), ["1 9", "2 10", "3 10", "4 0 122", "5 9", "end"]);
+    assert_eq!(lines(book, &calls), ["1 9", "2 10", "3 10", "4 0 122 0", "5 9", "end"]);
     // 9 never if the book has no atom.
-    assert_eq!(lines("0 0 0 0", &["1 0", "1 1 1", "1 1 2"]), ["1 0", "2 0", "3 10", "end"]);
+    assert_eq!(lines("0 0 0 0", &["1 0", "1 1 1", "1 1 2"]), ["1 0 0", "2 0 0", "3 10", "end"]);
 }
 
 #[test]
@@ -153,7 +153,7 @@ fn stops() {
     assert_eq!(reported(&format!("{book} 0")), "book 0\nend\n");
     assert_eq!(reported(&format!("{book} 0 0")), "book 0\nstop 1\n");
     assert_eq!(reported(&format!("{book} 0 0\r")), "book 0\nstop 13\n");
-    assert_eq!(reported(&format!("{book} {MAX} 0 3")), "book 0\n1 0\nstop 1\n");
+    assert_eq!(reported(&format!("{book} {MAX} 0 3")), "book 0\n1 0 0\nstop 1\n");
     assert_eq!(reported(&format!("{book} 1 2 x")), "book 0\nstop 13\n");
     assert_eq!(reported(&format!("{book} 1 1 257 x")), "book 0\nstop 2\n");
     assert_eq!(reported(&format!("{book} 1 1 256 x")), "book 0\nstop 13\n");

@@ -24,6 +24,8 @@ pub struct Monitor {
     atoms: Vec<bool>,
     /// A set for each row; only temporal rows ever have instants in theirs.
     pub sets: Vec<Runs>,
+    /// The instants of each row by REFERENCE 3.5, from every accepted call so far: nothing is ever dropped for its age.
+    instants: Vec<Runs>,
     /// Each row's value after the last accepted call.
     pub values: Vec<bool>,
 }
@@ -32,7 +34,7 @@ impl Monitor {
     pub fn new(book: Book) -> Self {
         let rows = book.rows.len();
         let atoms = vec![false; book.width];
-        Self { book, clock: 0, atoms, sets: vec![Runs::default(); rows], values: vec![false; rows] }
+        Self { book, clock: 0, atoms, sets: vec![Runs::default(); rows], instants: vec![Runs::default(); rows], values: vec![false; rows] }
     }
 
     pub fn time_call(&mut self, time: u64) -> u64 {
@@ -64,19 +66,32 @@ impl Monitor {
     fn step(&mut self, clock: u64, atoms: Vec<bool>) -> u64 {
         let mut values = Vec::with_capacity(self.book.rows.len());
         let mut sets = Vec::with_capacity(self.book.rows.len());
-        for (row, old) in self.book.rows.iter().zip(&self.sets) {
+        let mut instants = Vec::with_capacity(self.book.rows.len());
+        for ((row, old), all) in self.book.rows.iter().zip(&self.sets).zip(&self.instants) {
             let set = changed(row, &values, old.kept(clock), clock);
             if set.list().len() > MOST_RUNS {
                 return NO_ROOM;
             }
+            instants.push(changed(row, &values, all.clone(), clock));
             values.push(rules::value(row, &values, &set, &atoms, clock));
             sets.push(set);
         }
         self.sets = sets;
+        self.instants = instants;
         self.clock = clock;
         self.atoms = atoms;
         self.values = values;
         ACCEPTED
+    }
+
+    /// How full the fullest row is: the runs that its instants at and after the clock form. 0 if no row is temporal.
+    pub fn count(&self) -> usize {
+        self.instants.iter().map(|all| all.count_from(self.clock)).max().unwrap_or(0)
+    }
+
+    /// The runs that the fullest row keeps.
+    pub fn kept(&self) -> usize {
+        self.sets.iter().map(|set| set.list().len()).max().unwrap_or(0)
     }
 
     /// Each row's early answer.
@@ -90,7 +105,7 @@ impl Monitor {
     }
 }
 
-/// A row's set after the call, from what is left of it at the new clock: Once counts calls after which the argument held,
+/// A row's set after the call, from what stays of it at the new clock: Once counts calls after which the argument held,
 /// Historically those after which it failed, Since those after which right held, as long as left holds after each later
 /// call.
 fn changed(row: &Row, values: &[bool], kept: Runs, clock: u64) -> Runs {
@@ -145,6 +160,16 @@ mod tests {
         let mut monitor = once_to_5();
         monitor.time_call(6);
         assert_eq!(monitor.sets[1].list(), [(6, 11)]);
+        assert_eq!((monitor.count(), monitor.kept()), (1, 1));
+    }
+
+    #[test]
+    fn the_count_is_of_what_is_not_over() {
+        let mut monitor = once_to_5();
+        monitor.state_call(&[0]);
+        assert_eq!((monitor.count(), monitor.kept()), (1, 1));
+        monitor.time_call(6);
+        assert_eq!((monitor.count(), monitor.kept()), (0, 0));
     }
 
     #[test]

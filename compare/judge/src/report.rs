@@ -128,7 +128,7 @@ impl Pair {
         }
     }
 
-    /// A word for each property: value and early of the original, settled of the rules.
+    /// A word for each property, value and early of the original, settled of the rules; and the count, of the instants.
     fn answers(&self, call: u64, out: &mut Vec<u8>) -> Result<(), String> {
         let (values, early) = (self.original.values(), self.original.early());
         let (rules_early, settled) = (self.monitor.early(), self.monitor.settled());
@@ -140,6 +140,11 @@ impl Pair {
             }
             out.extend_from_slice(&[b' ', Answer::of(original.0).digit(), original.1.digit(), settled[row].digit()]);
         }
+        let (count, kept) = (self.monitor.count(), self.monitor.kept());
+        if count != kept {
+            return Err(format!("call {call}: the instants form {count} runs, and {kept} are kept"));
+        }
+        write!(out, " {count}").expect("a vector takes all bytes");
         Ok(())
     }
 }

@@ -29,6 +29,11 @@ impl Runs {
         Runs(self.0.iter().copied().filter(|&(_, last)| last >= t).collect())
     }
 
+    /// How many runs the instants at t and after it form.
+    pub fn count_from(&self, t: u64) -> usize {
+        self.0.iter().filter(|&&(_, last)| last >= t).count()
+    }
+
     /// The union with lower..=upper.
     pub fn with(&self, lower: u64, upper: u64) -> Runs {
         if lower > upper {
@@ -105,6 +110,19 @@ mod tests {
         assert_eq!(set.kept(5).0, [(3, 5), (7, 7)]);
         assert_eq!(set.kept(6).0, [(7, 7)]);
         assert_eq!(set.kept(8).0, []);
+    }
+
+    /// Every set of instants 0 to 7 and every instant there, against the instants one by one.
+    #[test]
+    fn counts_from_an_instant() {
+        for bits in 0..256u32 {
+            let set = (0..8).filter(|t| bits >> t & 1 == 1).fold(Runs::default(), |set, t| set.with(t, t));
+            for from in 0..9u64 {
+                let is = |t: u64| t >= from && set.contains(t);
+                let starts = (from..8).filter(|&t| is(t) && (t == 0 || !is(t - 1))).count();
+                assert_eq!(set.count_from(from), starts, "{set:?} from {from}");
+            }
+        }
     }
 
     #[test]

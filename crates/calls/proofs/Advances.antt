@@ -26,16 +26,16 @@ use Rattle.pmtl.specs.Calls.{crowded, play}
 use Rattle.pmtl.proofs.Answers.{step-sets, step-now, step-begun}
 use Rattle.memory.specs.Layout.{ROWS, ROW, ATOMS, OWNERS, SET, VALUES, TOLD, EARLY, SETTLED, MOVES}
 use Rattle.memory.specs.Memory.{begunWord, clockOf, widthWord, temporals, rowCount, kindAt, slotAt, ownerAt, setStart, slotWords, propertyRow, valueAt, toldAt, rowsOf, setOf, stateOf, isOne, rangeAt}
-use Rattle.memory.specs.Tables.{valueOf, propertyCount, Valued, Told, Moving, Unused, Tables}
+use Rattle.memory.specs.Tables.{valueOf, propertyCount, Valued, Told, Answered, Moving, Unused, Tables}
 use Rattle.memory.specs.Kept.{Sound, Kept}
 use Rattle.memory.specs.Alike.{Alike}
 use Rattle.memory.proofs.Rows.{rows-length}
-use Rattle.memory.proofs.Alike.{alike-self, alike-on, alike-filled, alike-sound, alike-set}
+use Rattle.memory.proofs.Alike.{alike-filled, alike-sound, alike-set}
 use Rattle.memory.proofs.Stepped.{Stepped, kept-step, step-book, rows-of-same, kind-same, slot-same, width-same, temporals-same, assumes-same, guarantees-same, property-same}
 use Rattle.row_answers.specs.Told.{earlyTold}
 use Rattle.row_answers.proofs.Told.{told-early, told-settled, early-same, settled-same}
-use Rattle.tables.specs.Puts.{valuesPut, toldPut, toldAgain, earlyPut, settledNow, settledPut}
-use Rattle.tables.proofs.Puts.{few-properties, answer-same, told-alike, told-sound, told-valued, told-told, told-still, told-moving, told-unused, asked-alike, asked-tables}
+use Rattle.tables.specs.Puts.{valuesPut, toldPut, countPut, toldAgain, earlyPut, settledNow, settledPut}
+use Rattle.tables.proofs.Puts.{few-properties, answer-same, told-told, told-still, told-and-asked, count-alike, count-counts, count-valued, count-told, count-moving, count-answered, count-unused}
 use Rattle.set_change.specs.Change.{changed}
 use Rattle.set_change.proofs.Changes.{changed-under}
 use Rattle.calls.specs.Private.{Bytes, snapOf, stepOf, setAfter, valueAfter, clocked, Planned, Written, Atoms, Moved, Tried, Fitting, Asked, Due, Advanced}
@@ -390,32 +390,27 @@ module _ {m : List ℕ} {c : ℕ} {atoms m₁ : List ℕ} {r : ℕ} (tried : Tri
 -- ---- what is due, once it was told and asked
 module _ {m : List ℕ} {first : Bool} (due : Due m first) where
   -- something new was told, or it is the first accepted call
-  pub renewed-asked : {m₁ m₂ : List ℕ} → m₁ ≡ toldPut m → m₂ ≡ settledPut (earlyPut m₁) → Alike m m₂ × Tables m₂
-  renewed-asked e₁ e₂ =
-      let sound = due .sound in
-      let sound₁ = told-sound sound in
-      let valued₁ = told-valued sound (due .valued) in
-      let told₁ = told-told sound in
-      let moving₁ = told-moving sound (due .moving) in
-      let unused₁ = told-unused sound (due .unused) in
-      rw (e₂, e₁) (alike-on (told-alike sound) (asked-alike sound₁ valued₁ told₁ moving₁ unused₁), asked-tables sound₁ valued₁ told₁ moving₁ unused₁)
+  pub renewed-asked : {m₁ m₂ : List ℕ} → m₁ ≡ countPut (toldPut m) → m₂ ≡ settledPut (earlyPut m₁) → Alike m m₂ × Tables m₂
+  renewed-asked e₁ e₂ = told-and-asked (due .sound) (due .valued) (due .moving) (due .unused) (e₂ ∙ ap (λ (x : List ℕ). settledPut (earlyPut x)) e₁)
 
-  -- nothing new: the digits are those that stand there
-  pub renewed-still : {m₁ : List ℕ} → m₁ ≡ toldPut m → toldAgain m (temporals m) ≡ true → first ≡ false → Alike m m₁ × Tables m₁
+  -- nothing new but the count: the digits are those that stand there
+  pub renewed-still : {m₁ : List ℕ} → m₁ ≡ countPut (toldPut m) → toldAgain m (temporals m) ≡ true → first ≡ false → Alike m m₁ × Tables m₁
   renewed-still e₁ again not-first =
-      let e₂ = e₁ ∙ told-still m (temporals m) again in
+      let still = told-still m (temporals m) again in
       let sound = due .sound in
-      let told : Told m = subst Told (sym e₁ ∙ e₂) (told-told sound) in
-      rw e₂ (
-        alike-self m,
+      let told : Told m = subst Told still (told-told sound) in
+      let answered : Answered m = record {
+        early = λ i h. due .asked .early i h ∙ ap digitOf (told-early m sound (told .right) (propertyRow m i));
+        settled = λ i h. due .asked .settled not-first i h ∙ ap digitOf (told-settled m sound (told .right) (propertyRow m i));
+      } in
+      rw (e₁ ∙ ap countPut still) (
+        count-alike sound,
         record {
-          valued = due .valued;
-          told = told;
-          answered = record {
-            early = λ i h. due .asked .early i h ∙ ap digitOf (told-early m sound (told .right) (propertyRow m i));
-            settled = λ i h. due .asked .settled not-first i h ∙ ap digitOf (told-settled m sound (told .right) (propertyRow m i));
-          };
-          moving = due .moving;
-          unused = due .unused;
+          valued = count-valued sound (due .valued);
+          told = count-told sound told;
+          answered = count-answered sound answered;
+          moving = count-moving sound (due .moving);
+          counts = count-counts sound;
+          unused = count-unused sound (due .unused);
         },
       )

@@ -9,10 +9,10 @@ ghost use borrow.Rule.Slice.PartMut.{putMid};
 ghost use Rattle.numset.specs.Runs.{kept, pack, runs};
 ghost use Rattle.pmtl.specs.Answer.{bitOf};
 ghost use Rattle.pmtl.specs.Book.{start, stop, some, mapRow};
-ghost use Rattle.pmtl.specs.Monitor.{valueRule};
+ghost use Rattle.pmtl.specs.Monitor.{fullest, valueRule};
 ghost use Rattle.pmtl.specs.Calls.{Call};
 ghost use Rattle.memory.specs.Layout.{SET, VALUES, SIZE};
-ghost use Rattle.memory.specs.Memory.{rowCount, widthWord, temporals, kindAt, setStart, slotWords, movesAt, rangeAt, rowOf, isOne};
+ghost use Rattle.memory.specs.Memory.{rowCount, widthWord, temporals, kindAt, setStart, slotWords, movesAt, rangeAt, rowOf, isOne, stateOf};
 ghost use Rattle.memory.specs.Tables.{Tables};
 ghost use Rattle.memory.specs.Kept.{BookKept, Kept};
 ghost use Rattle.memory.specs.Alike.{Alike};
@@ -45,6 +45,7 @@ use numbers::PAST_LIMIT;
 use numbers::TOO_EARLY;
 use numbers::TOO_LATE;
 use numbers::TOO_NARROW;
+use numset::Tally;
 use tables::joined_at;
 
 // What is planned for a temporal row: the change of its set, whether the set will contain the clock, and whether there is room.
@@ -352,7 +353,7 @@ fn has_other(state: &[u8]) -> bool
 }
 
 // The clock becomes `time`, and every row is evaluated anew. The answer is 0, or the number of the refusal: then nothing changed.
-pub fn update_time(monitor: &mut [u64; SIZE], time: u64) -> u64
+fn time_call(monitor: &mut [u64; SIZE], time: u64) -> u64
     requires { ⌜ Kept (now monitor) ⌝ }
     ensures { λ r. ⌜ Called (Call.time time) (now (monitor .entry)) (now (monitor .exit)) r ⌝ }
 {
@@ -371,8 +372,8 @@ pub fn update_time(monitor: &mut [u64; SIZE], time: u64) -> u64
     ACCEPTED
 }
 
-// The atoms become the bytes of `state`, and every row is evaluated anew. The answer is as that of `update_time`.
-pub fn update_state(monitor: &mut [u64; SIZE], state: &[u8]) -> u64
+// The atoms become the bytes of `state`, and every row is evaluated anew. The answer is as that of `time_call`.
+fn state_call(monitor: &mut [u64; SIZE], state: &[u8]) -> u64
     requires { ⌜ Kept (now monitor) ⌝ }
     ensures { λ r. ⌜ Called (Call.state (now (state .entry))) (now (monitor .entry)) (now (monitor .exit)) r ⌝ }
 {
@@ -395,4 +396,25 @@ pub fn update_state(monitor: &mut [u64; SIZE], state: &[u8]) -> u64
     put_atoms(monitor, state);
     renew(monitor, first);
     ACCEPTED
+}
+
+// A time call. Its number, 0 or that of the refusal, comes with a count: how many runs the fullest set has, as the monitor is now, which
+// is one look. Where the call was refused nothing changed.
+pub fn update_time(monitor: &mut [u64; SIZE], time: u64) -> Tally
+    requires { ⌜ Kept (now monitor) ⌝ }
+    ensures { λ r. ⌜ Called (Call.time time) (now (monitor .entry)) (now (monitor .exit)) (r .number) × (r .count ≡ fullest (stateOf (now (monitor .exit)))) ⌝ }
+{
+    let number = time_call(monitor, time);
+    let count = memory::fullest(monitor);
+    Tally { number, count }
+}
+
+// A state call. What it hands back is as with `update_time`.
+pub fn update_state(monitor: &mut [u64; SIZE], state: &[u8]) -> Tally
+    requires { ⌜ Kept (now monitor) ⌝ }
+    ensures { λ r. ⌜ Called (Call.state (now (state .entry))) (now (monitor .entry)) (now (monitor .exit)) (r .number) × (r .count ≡ fullest (stateOf (now (monitor .exit)))) ⌝ }
+{
+    let number = state_call(monitor, state);
+    let count = memory::fullest(monitor);
+    Tally { number, count }
 }

@@ -1,7 +1,8 @@
-// A call, the number that it handed back and the answers of every property, on one line.
+// A call, the number that it handed back, the answers of every property and the count, on one line.
 use crate::words::Words;
 use numbers::MOST_ATOMS;
 use oracle::SIZE;
+use oracle::Tally;
 use oracle::Verdict;
 use show::number;
 use show::text;
@@ -22,7 +23,8 @@ fn verdict(v: Verdict) {
     );
 }
 
-fn outcome(refusal: u64, monitor: &[u64; SIZE])
+// The number, and the answers.
+fn answered(refusal: u64, monitor: &[u64; SIZE])
     requires { ⌜ Kept (now monitor) ⌝ }
 {
     text(b": ");
@@ -34,6 +36,15 @@ fn outcome(refusal: u64, monitor: &[u64; SIZE])
         verdict(oracle::of_property(monitor, i));
         i += 1;
     }
+}
+
+// What a call handed back, which has the count also where it was refused.
+fn outcome(made: Tally, monitor: &[u64; SIZE])
+    requires { ⌜ Kept (now monitor) ⌝ }
+{
+    answered(made.number, monitor);
+    text(b" ");
+    number(made.count);
     text(b"\n");
 }
 
@@ -46,17 +57,18 @@ pub fn load(monitor: &mut [u64; SIZE], book: Words)
     let count = book.count;
     let refusal = oracle::load(&words[..count], monitor);
     text(b"  load");
-    outcome(refusal, monitor);
+    answered(refusal, monitor);
+    text(b"\n");
 }
 
 pub fn time(monitor: &mut [u64; SIZE], t: u64)
     requires { ⌜ Kept (now monitor) ⌝ }
     ensures { λ _. ⌜ Kept (now (monitor .exit)) ⌝ }
 {
-    let refusal = oracle::update_time(monitor, t);
+    let made = oracle::update_time(monitor, t);
     text(b"  t ");
     number(t);
-    outcome(refusal, monitor);
+    outcome(made, monitor);
 }
 
 // A function, so that a caller need not show that the byte fits.
@@ -76,10 +88,10 @@ pub fn state(monitor: &mut [u64; SIZE], state: &[u8])
     requires { ⌜ Kept (now monitor) ⌝ }
     ensures { λ _. ⌜ Kept (now (monitor .exit)) ⌝ }
 {
-    let refusal = oracle::update_state(monitor, state);
+    let made = oracle::update_state(monitor, state);
     text(b"  s ");
     bytes(state);
-    outcome(refusal, monitor);
+    outcome(made, monitor);
 }
 
 // A state that is too wide, and otherwise good.
@@ -88,7 +100,7 @@ pub fn wide_state(monitor: &mut [u64; SIZE])
     ensures { λ _. ⌜ Kept (now (monitor .exit)) ⌝ }
 {
     let state = [0u8; TOO_WIDE];
-    let refusal = oracle::update_state(monitor, &state);
+    let made = oracle::update_state(monitor, &state);
     text(b"  s of 257 bytes");
-    outcome(refusal, monitor);
+    outcome(made, monitor);
 }

@@ -1,27 +1,28 @@
-// The set lent whole: an addition alters the lent set itself, and hands back only its number; dropping what is over alters it, too.
+// The set lent whole: an addition alters the lent set itself, and hands back its number with the count; dropping what is over alters it, too.
 use numset::Added;
 use numset::NumSet;
+use numset::Tally;
 ghost use mathlib.Core.Path.{_≡_};
 ghost use lib.ListN.{length};
-ghost use Rattle.numset.specs.Runs.{Good, runs, kept, pack, addNumber, addWords};
+ghost use Rattle.numset.specs.Runs.{Good, runs, kept, pack, addNumber, addWords, addCount};
 
-pub fn add(set: &mut NumSet, lower: u64, upper: u64) -> u64
+pub fn add(set: &mut NumSet, lower: u64, upper: u64) -> Tally
     requires { ⌜ Good (now set .words) ⌝ }
-    ensures { λ r. ⌜ (r ≡ addNumber (now (set .entry) .words) lower upper) × (now (set .exit) .words ≡ addWords (now (set .entry) .words) lower upper) ⌝ }
+    ensures { λ r. ⌜ (r .number ≡ addNumber (now (set .entry) .words) lower upper) × (r .count ≡ addCount (now (set .entry) .words) lower upper) × (now (set .exit) .words ≡ addWords (now (set .entry) .words) lower upper) ⌝ }
 {
     let sum = (*set).add(lower, upper);
     *set = sum.set;
-    sum.number
+    sum.tally
 }
 
 // The same on a set by value, which it lends to `add`: whoever calls this one makes no reference to a set.
 pub fn added(set: NumSet, lower: u64, upper: u64) -> Added
     requires { ⌜ Good (set .words) ⌝ }
-    ensures { λ r. ⌜ (r .number ≡ addNumber (set .words) lower upper) × (r .set .words ≡ addWords (set .words) lower upper) ⌝ }
+    ensures { λ r. ⌜ (r .tally .number ≡ addNumber (set .words) lower upper) × (r .tally .count ≡ addCount (set .words) lower upper) × (r .set .words ≡ addWords (set .words) lower upper) ⌝ }
 {
     let mut lent = set;
-    let number = add(&mut lent, lower, upper);
-    Added { number, set: lent }
+    let tally = add(&mut lent, lower, upper);
+    Added { tally, set: lent }
 }
 
 // Drops the runs that end before `t`.

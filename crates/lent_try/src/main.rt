@@ -20,7 +20,7 @@ fn added(set: NumSet, lower: u64, upper: u64) -> Added
     lent::added(set, lower, upper)
 }
 
-// Adds, and prints the number and the set that came back.
+// Adds, and prints the number, the count and the set that came back.
 fn add(set: NumSet, lower: u64, upper: u64) -> NumSet
     requires { ⌜ Good (set .words) ⌝ }
     ensures { λ r. ⌜ Good (r .words) ⌝ }
@@ -31,7 +31,9 @@ fn add(set: NumSet, lower: u64, upper: u64) -> NumSet
     text(b"  add ");
     interval(lower, upper);
     text(b": ");
-    number(sum.number);
+    number(sum.tally.number);
+    text(b", count ");
+    number(sum.tally.count);
     text(b" ");
     runs(&words);
     after

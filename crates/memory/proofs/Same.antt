@@ -13,12 +13,12 @@ use Rattle.lists.proofs.Tests.{either, lt-or-ge}
 use Rattle.numset.proofs.Packs.{packed}
 use Rattle.pmtl.specs.Answer.{bitOf, digitOf}
 use Rattle.pmtl.specs.Book.{Row, Rows, Book, widthOf}
-use Rattle.pmtl.specs.Monitor.{State, value}
+use Rattle.pmtl.specs.Monitor.{State, fullest, value}
 use Rattle.pmtl.specs.Early.{early}
 use Rattle.pmtl.specs.Settled.{settled}
-use Rattle.memory.specs.Layout.{ROWS, ROW, OPERANDS, PROPERTIES, ATOMS, OWNERS, SETS, SET, VALUES, TOLD, EARLY, SETTLED, MOVES, SIZE}
+use Rattle.memory.specs.Layout.{ROWS, ROW, OPERANDS, PROPERTIES, ATOMS, OWNERS, SETS, SET, VALUES, TOLD, EARLY, SETTLED, MOVES, FULLEST, SIZE}
 use Rattle.lists.specs.Lists.{part, listed}
-use Rattle.memory.specs.Memory.{rowCount, begunWord, clockOf, widthWord, temporals, assumeCount, guaranteeCount, kindAt, argAt, lowerAt, upperAt, startAt, slotAt, operandsOf, ownerAt, setStart, slotWords, propertyRow, valueAt, toldAt, earlyAt, settledAt, movesAt, rowOf, rowsOf, bookOf, isOne, setOf, stateOf}
+use Rattle.memory.specs.Memory.{rowCount, begunWord, clockOf, widthWord, temporals, assumeCount, guaranteeCount, kindAt, argAt, lowerAt, upperAt, startAt, slotAt, operandsOf, ownerAt, setStart, slotWords, propertyRow, valueAt, toldAt, earlyAt, settledAt, movesAt, fullestWord, rowOf, rowsOf, bookOf, isOne, setOf, stateOf}
 use Rattle.memory.specs.Tables.{standing, propertyCount, moves}
 use Rattle.book.specs.Rows.{countOf}
 use Rattle.lists.proofs.Listed.{listed-at}
@@ -371,6 +371,9 @@ module _ (m m′ : List ℕ) (k : Kept m) (k′ : Kept m′) (same-book : bookOf
       (λ p. k .tables .unused .moves r p h ∙ sym (k′ .tables .unused .moves r (omega arith) h))
       (lt-or-ge r (rowCount m))
 
+  same-fullest : fullestWord m ≡ fullestWord m′
+  same-fullest = k .tables .counts .right ∙ ap fullest same-state ∙ sym (k′ .tables .counts .right)
+
   -- the word at a place of the part from a on
   in-part : (a i : ℕ) → a ≤ i → getD m (a + (i - a)) 0 ≡ getD m′ (a + (i - a)) 0 → getD m i 0 ≡ getD m′ i 0
   in-part a i h e = word-at m i (a + (i - a)) (omega arith) ∙ e ∙ word-at m′ (a + (i - a)) i (omega arith)
@@ -381,7 +384,9 @@ module _ (m m′ : List ℕ) (k : Kept m) (k′ : Kept m′) (same-book : bookOf
       ⊎-elim (λ q. in-part VALUES i p₁ (same-value (i - VALUES) (omega arith))) (λ p₂.
       ⊎-elim (λ q. in-part TOLD i p₂ (same-told (i - TOLD) (omega arith))) (λ p₃.
       ⊎-elim (λ q. in-part EARLY i p₃ (same-early (i - EARLY) (omega arith))) (λ p₄.
-      ⊎-elim (λ q. in-part SETTLED i p₄ (same-settled (i - SETTLED) (omega arith))) (λ p₅. in-part MOVES i p₅ (same-moves (i - MOVES) (omega arith)))
+      ⊎-elim (λ q. in-part SETTLED i p₄ (same-settled (i - SETTLED) (omega arith))) (λ p₅.
+      ⊎-elim (λ q. in-part MOVES i p₅ (same-moves (i - MOVES) (omega arith))) (λ p₆. word-at m i FULLEST (omega arith) ∙ same-fullest ∙ word-at m′ FULLEST i (omega arith))
+      (lt-or-ge i FULLEST))
       (lt-or-ge i MOVES))
       (lt-or-ge i SETTLED))
       (lt-or-ge i EARLY))

@@ -78,6 +78,10 @@ SETTLED = EARLY + MOST-PROPERTIES
 abbrev pub MOVES : ℕ
 MOVES = SETTLED + MOST-PROPERTIES
 
+-- and a word for how many runs the fullest set has
+abbrev pub FULLEST : ℕ
+FULLEST = MOVES + MOST-ROWS
+
 -- all words
 abbrev pub SIZE : ℕ
-SIZE = MOVES + MOST-ROWS
+SIZE = FULLEST + 1

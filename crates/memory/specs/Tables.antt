@@ -10,10 +10,10 @@ use Rattle.pmtl.specs.Answer.{bitOf, digitOf}
 use Rattle.pmtl.specs.Book.{Row, Rows, answer, some, itself}
 use Rattle.pmtl.specs.Book.Row.{never, always, atom, conj, disj, neg, implies, historically, once, since}
 use Rattle.pmtl.specs.Sets.{gone}
-use Rattle.pmtl.specs.Monitor.{value}
+use Rattle.pmtl.specs.Monitor.{fullest, value}
 use Rattle.pmtl.specs.Early.{early}
 use Rattle.pmtl.specs.Settled.{settled}
-use Rattle.memory.specs.Memory.{rowCount, clockOf, temporals, assumeCount, guaranteeCount, slotWords, propertyRow, valueAt, toldAt, earlyAt, settledAt, movesAt, rowsOf, stateOf}
+use Rattle.memory.specs.Memory.{rowCount, clockOf, temporals, assumeCount, guaranteeCount, slotWords, propertyRow, valueAt, toldAt, earlyAt, settledAt, movesAt, fullestWord, rowsOf, stateOf}
 
 -- what is told of a set: that it has every instant from the clock on; that it has none of them; or neither
 abbrev pub COVERS : ℕ
@@ -75,6 +75,10 @@ pub record Answered (m : List ℕ) : Type 0 where
 pub record Moving (m : List ℕ) : Type 0 where
   pub right : (r : ℕ) → r < rowCount m → movesAt m r ≡ bitOf (moves (rowsOf m) r)
 
+-- the count is that of the fullest set
+pub record Counts (m : List ℕ) : Type 0 where
+  pub right : fullestWord m ≡ fullest (stateOf m)
+
 -- words of the tables that are not in use are 0
 pub record Unused (m : List ℕ) : Type 0 where
   pub moves : (r : ℕ) → rowCount m ≤ r → r < MOST-ROWS → movesAt m r ≡ 0
@@ -89,4 +93,5 @@ pub record Tables (m : List ℕ) : Type 0 where
   pub told : Told m
   pub answered : Answered m
   pub moving : Moving m
+  pub counts : Counts m
   pub unused : Unused m

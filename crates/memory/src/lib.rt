@@ -4,7 +4,7 @@ ghost use Prim.Native.Nat.{_<_};
 ghost use lib.ListN.{getD};
 ghost use Rattle.numbers.specs.Limits.{MOST-ROWS, MOST-OPERANDS, MOST-PROPERTIES, MOST-TEMPORALS};
 ghost use Rattle.memory.specs.Layout.{SIZE};
-ghost use Rattle.memory.specs.Memory.{rowCount, begunWord, clockOf, widthWord, temporals, assumeCount, guaranteeCount, kindAt, argAt, lowerAt, upperAt, startAt, wordsAt, slotAt, operandAt, propertyRow, ownerAt, slotWords, valueAt, toldAt, earlyAt, settledAt, movesAt, isOne};
+ghost use Rattle.memory.specs.Memory.{rowCount, begunWord, clockOf, widthWord, temporals, assumeCount, guaranteeCount, kindAt, argAt, lowerAt, upperAt, startAt, wordsAt, slotAt, operandAt, propertyRow, ownerAt, slotWords, valueAt, toldAt, earlyAt, settledAt, movesAt, fullestWord, isOne};
 ghost use Rattle.memory.specs.Kept.{BookKept};
 ghost use Rattle.memory.specs.Tables.{propertyCount};
 use numbers::MOST_ATOMS;
@@ -73,6 +73,9 @@ pub const SETTLED: usize = EARLY + MOST_PROPERTIES;
 // And of each row whether a time call can change its value.
 pub const MOVES: usize = SETTLED + MOST_PROPERTIES;
 
+// And how many runs the fullest set has.
+pub const FULLEST: usize = MOVES + MOST_ROWS;
+
 // What is told of a set: that it has every instant from the clock on, that it has none of them, or neither.
 pub const COVERS: u64 = 1;
 
@@ -81,7 +84,7 @@ pub const GONE: u64 = 2;
 pub const NEITHER: u64 = 0;
 
 // All words.
-pub const SIZE: usize = MOVES + MOST_ROWS;
+pub const SIZE: usize = FULLEST + 1;
 
 // The word at a place.
 pub fn word(monitor: &[u64; SIZE], at: usize) -> u64
@@ -269,6 +272,13 @@ pub fn moves_at(monitor: &[u64; SIZE], row: usize) -> bool
     ensures { λ r. ⌜ r ≡ isOne (movesAt (now (monitor .entry)) row) ⌝ }
 {
     monitor[MOVES + row] == 1
+}
+
+// How many runs the fullest set has, 0 where no row is temporal.
+pub fn fullest(monitor: &[u64; SIZE]) -> u64
+    ensures { λ r. ⌜ r ≡ fullestWord (now (monitor .entry)) ⌝ }
+{
+    monitor[FULLEST]
 }
 
 // What was told of a set.

@@ -15,7 +15,7 @@ SHORT-REPORT = 65536
 
 -- an input so long has a short report
 abbrev pub SHORT-INPUT : ℕ
-SHORT-INPUT = 1900
+SHORT-INPUT = 1890
 
 -- a room of so many bytes holds the report of an input
 abbrev pub holds : ℕ → List ℕ → Bool

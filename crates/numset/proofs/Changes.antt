@@ -1,16 +1,17 @@
 -- What a change hands back and leaves: 11 exactly where there is no room, and good words again. Assumes nothing.
 use Prim.Native.Nat.{ℕ, _+_, _*_, _^_, _≤_, _<_}
-use mathlib.Core.Path.{_≡_, refl}
+use mathlib.Core.Path.{_≡_, refl, sym, ap, _∙_}
 use mathlib.Core.Logic.{⊎-elim, _↔_}
 use mathlib.Core.Bool.{Bool, true, false, cond}
 use mathlib.Core.List.{List, []}
 use native.Mathlib.Omega.{arith}
-use lib.ListN.{length}
+use lib.ListN.{length, getD}
 use borrow.Author.Tests.{lt-ltb, le-ltb, ltb-false}
 use Rattle.numbers.specs.Limits.{MAX}
-use Rattle.numset.specs.Runs.{Runs, runs, Under, Good, insert, union, fits, pack, addNumber, addWords, setToNumber, setToWords}
+use Rattle.numset.specs.Runs.{Runs, runs, Under, Good, insert, union, fits, pack, held, addNumber, addWords, addCount, setToNumber, setToWords}
 use Rattle.lists.proofs.Tests.{lt-or-ge}
 use Rattle.numset.proofs.Union.{union-none, union-some, union-under}
+use Rattle.numset.proofs.Words.{length-runs}
 use Rattle.numset.proofs.Packs.{length-pack, runs-pack, good-pack}
 
 -- ---- a change of the words m to the runs rs, where there is room
@@ -75,6 +76,10 @@ module _ (m : List ℕ) (l u : ℕ) where
   pub added-length : length (addWords m l u) ≡ length m
   unfolding addWords
   added-length = left-length m (union l u (runs m))
+
+-- how many runs the set then has stands in its word 0
+pub counted : (m m′ : List ℕ) (l u : ℕ) → m′ ≡ addWords m l u → getD m′ 0 0 ≡ addCount m l u
+counted m m′ l u e = sym (length-runs m′ (getD m′ 0 0)) ∙ ap held e
 
 -- ---- one interval
 one-run : (l u : ℕ) → l ≤ u → length (union l u []) ≡ 1

@@ -114,6 +114,14 @@ addNumber m l u = cond (fits (length m) (union l u (runs m))) ACCEPTED NO-ROOM
 unfoldable pub addWords : List ℕ → ℕ → ℕ → List ℕ
 addWords m l u = cond (fits (length m) (union l u (runs m))) (pack (length m) (union l u (runs m))) m
 
+-- how many runs the set has that the words hold
+abbrev pub held : List ℕ → ℕ
+held m = length (runs m)
+
+-- and with the number, how many runs the set has that it leaves
+abbrev pub addCount : List ℕ → ℕ → ℕ → ℕ
+addCount m l u = held (addWords m l u)
+
 -- what setting the words m to l ..= u hands back, and the words that it leaves; the empty set where l is above u
 unfoldable pub setToNumber : List ℕ → ℕ → ℕ → ℕ
 setToNumber m l u = cond (fits (length m) (union l u [])) ACCEPTED NO-ROOM

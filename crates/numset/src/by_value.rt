@@ -4,7 +4,8 @@ ghost use mathlib.Core.Bool.{true};
 ghost use mathlib.Core.List.{[]};
 ghost use mathlib.Core.Logic.{_↔_};
 ghost use lib.ListN.{length};
-ghost use Rattle.numset.specs.Runs.{SET-WORDS, Good, Covers, runs, has, kept, union, pack, addNumber, addWords};
+ghost use Rattle.numset.specs.Runs.{SET-WORDS, Good, Covers, runs, has, kept, union, pack, addNumber, addWords, addCount};
+use crate::Tally;
 use numbers::MOST_RUNS;
 
 // The words of a set with room for the most runs: how many there are, and two for each.
@@ -14,9 +15,9 @@ pub struct NumSet {
     pub words: [u64; SET_WORDS],
 }
 
-// What an addition hands back: its number, and the set.
+// What an addition to a set by value hands back: its number with the count, and the set.
 pub struct Added {
-    pub number: u64,
+    pub tally: Tally,
     pub set: NumSet,
 }
 
@@ -39,12 +40,12 @@ impl NumSet {
 
     pub fn add(self, lower: u64, upper: u64) -> Added
         requires { ⌜ Good (self .words) ⌝ }
-        ensures { λ r. ⌜ (r .number ≡ addNumber (self .words) lower upper) × (r .set .words ≡ addWords (self .words) lower upper) ⌝ }
+        ensures { λ r. ⌜ (r .tally .number ≡ addNumber (self .words) lower upper) × (r .tally .count ≡ addCount (self .words) lower upper) × (r .set .words ≡ addWords (self .words) lower upper) ⌝ }
     {
         let mut words = self.words;
-        let number = crate::add(&mut words, lower, upper);
+        let tally = crate::add(&mut words, lower, upper);
         let set = Self { words };
-        Added { number, set }
+        Added { tally, set }
     }
 
     // The set without the runs that end before `t`.

@@ -9,7 +9,7 @@ ghost use mathlib.Core.List.{[]};
 ghost use mathlib.Core.Logic.{_↔_};
 ghost use Prim.Native.Nat.{_+_, _*_, _-_, _<_, _≤_, min, max};
 ghost use lib.ListN.{length, getD, replicate};
-ghost use Rattle.numset.specs.Runs.{Good, Covers, emptyNumber, runs, has, lo, hi, kept, union, fits, pack, addNumber, addWords, setToNumber, setToWords};
+ghost use Rattle.numset.specs.Runs.{Good, Covers, emptyNumber, runs, has, lo, hi, kept, union, fits, pack, addNumber, addWords, addCount, setToNumber, setToWords};
 ghost use Rattle.numset.specs.Private.{Shifted, Cleared, Replaced, Ended, Spanned, oldestLapsed, Lapsed, Dropped, takesIn, withRun};
 
 mod by_value; // by_value.rt: a set of 64 runs by value
@@ -298,7 +298,7 @@ fn put(set: &mut [u64], lower: u64, upper: u64) -> u64
 
 // Adds `lower ..= upper`, in place. The answer is 0, or 11 where there is no room: then the set is as it was. Nearly all that a clock
 // adds is taken in by the newest run, so that is tried first.
-pub fn add(set: &mut [u64], lower: u64, upper: u64) -> u64
+fn join_in(set: &mut [u64], lower: u64, upper: u64) -> u64
     requires { ⌜ Good (now set) ⌝ }
     ensures { λ r. ⌜ (r ≡ addNumber (now (set .entry)) lower upper) × (now (set .exit) ≡ addWords (now (set .entry)) lower upper) ⌝ }
 {
@@ -310,6 +310,23 @@ pub fn add(set: &mut [u64], lower: u64, upper: u64) -> u64
         return lengthen(set, lower, upper);
     }
     put(set, lower, upper)
+}
+
+// What an addition hands back: its number, and how many runs the set then holds.
+pub struct Tally {
+    pub number: u64,
+    pub count: u64,
+}
+
+// Adds `lower ..= upper`, in place, and hands back how many runs the set now holds as well as the number: 0, or 11 where there is no
+// room. Then, as where `lower` is above `upper`, the set and the count are as they were.
+pub fn add(set: &mut [u64], lower: u64, upper: u64) -> Tally
+    requires { ⌜ Good (now set) ⌝ }
+    ensures { λ r. ⌜ (r .number ≡ addNumber (now (set .entry)) lower upper) × (r .count ≡ addCount (now (set .entry)) lower upper) × (now (set .exit) ≡ addWords (now (set .entry)) lower upper) ⌝ }
+{
+    let number = join_in(set, lower, upper);
+    let count = set[0];
+    Tally { number, count }
 }
 
 // Whether there is room to add `lower ..= upper`: only a run that joins no other takes more.
@@ -420,7 +437,7 @@ pub fn clear(set: &mut [u64])
     wipe(set, 0, 2 * n + 1);
 }
 
-// Sets the set to `lower ..= upper`, which empties it where `lower` is above `upper`. The answer is that of `add`.
+// Sets the set to `lower ..= upper`, which empties it where `lower` is above `upper`. The answer is the number of `add`.
 pub fn set_to(set: &mut [u64], lower: u64, upper: u64) -> u64
     requires { ⌜ Good (now set) ⌝ }
     ensures { λ r. ⌜ (r ≡ setToNumber (now (set .entry)) lower upper) × (now (set .exit) ≡ setToWords (now (set .entry)) lower upper) ⌝ }
@@ -433,7 +450,7 @@ pub fn set_to(set: &mut [u64], lower: u64, upper: u64) -> u64
         return NO_ROOM;
     }
     clear(set);
-    add(set, lower, upper)
+    join_in(set, lower, upper)
 }
 
 // Makes any words the empty set. Where there is no word, not even for the number of runs, there is no set either.

@@ -20,8 +20,8 @@ use print::clear;
 use print::drop_before;
 use print::drop_of_many;
 use print::drop_value;
+use print::many;
 use print::set_to;
-use print::tally;
 use show::text;
 ghost use Prim.Native.Nat.{_<_};
 ghost use lib.ListN.{length};
@@ -182,7 +182,7 @@ fn fill(set: &mut [u64])
         i += 1;
     }
     text(b"  filled: ");
-    tally(set);
+    many(set);
 }
 
 // 64 runs and no more, in a set of 129 words.

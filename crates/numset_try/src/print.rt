@@ -1,5 +1,6 @@
 // A call, and what it gave, on one line.
 use numset::NumSet;
+use numset::Tally;
 use show::instant;
 use show::interval;
 use show::runs;
@@ -24,6 +25,22 @@ fn result(number: u64, set: &[u64])
     runs(set);
 }
 
+// What an addition hands back.
+fn handed(number: u64, count: u64) {
+    text(b": ");
+    instant(number);
+    text(b", count ");
+    instant(count);
+}
+
+fn counted(number: u64, count: u64, set: &[u64])
+    requires { ⌜ Good (now set) ⌝ }
+{
+    handed(number, count);
+    text(b" ");
+    runs(set);
+}
+
 pub fn set_to(set: &mut [u64], lower: u64, upper: u64)
     requires { ⌜ Good (now set) ⌝ }
     ensures { λ _. ⌜ Good (now (set .exit)) ⌝ }
@@ -35,7 +52,7 @@ pub fn set_to(set: &mut [u64], lower: u64, upper: u64)
 }
 
 // The set's own `add`, of which only this is needed here: it gives a set again.
-pub fn added(set: &mut [u64], lower: u64, upper: u64) -> u64
+pub fn added(set: &mut [u64], lower: u64, upper: u64) -> Tally
     requires { ⌜ Good (now set) ⌝ }
     ensures { λ _. ⌜ Good (now (set .exit)) ⌝ }
 {
@@ -48,8 +65,8 @@ pub fn add(set: &mut [u64], lower: u64, upper: u64)
 {
     text(b"  add ");
     interval(lower, upper);
-    let number = added(set, lower, upper);
-    result(number, set);
+    let sum = added(set, lower, upper);
+    counted(sum.number, sum.count, set);
 }
 
 // Adds, where the set is too long to print whole.
@@ -59,11 +76,10 @@ pub fn add_to_many(set: &mut [u64], lower: u64, upper: u64)
 {
     text(b"  add ");
     interval(lower, upper);
-    let number = added(set, lower, upper);
-    text(b": ");
-    instant(number);
+    let sum = added(set, lower, upper);
+    handed(sum.number, sum.count);
     text(b", ");
-    tally(set);
+    many(set);
 }
 
 pub fn clear(set: &mut [u64])
@@ -103,7 +119,7 @@ pub fn drop_of_many(set: &mut [u64], t: u64)
     instant(t);
     dropped(set, t);
     text(b": ");
-    tally(set);
+    many(set);
 }
 
 pub fn ask(set: &[u64], t: u64)
@@ -141,7 +157,7 @@ pub fn ask_room_from(set: &[u64], t: u64, lower: u64, upper: u64)
 }
 
 // The number of runs, with the first and the last.
-pub fn tally(set: &[u64])
+pub fn many(set: &[u64])
     requires { ⌜ Good (now set) ⌝ }
 {
     let n = set[0] as usize;
@@ -169,7 +185,7 @@ pub fn add_value(set: NumSet, lower: u64, upper: u64)
     let words = after.words;
     text(b"  add ");
     interval(lower, upper);
-    result(sum.number, &words);
+    counted(sum.tally.number, sum.tally.count, &words);
 }
 
 // What is left of a set by value.

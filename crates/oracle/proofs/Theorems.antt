@@ -4,11 +4,11 @@ use Prim.Native.Nat.{ℕ}
 use mathlib.Core.Path.{_≡_, sym, ap, ap₂, _∙_}
 use mathlib.Core.Logic.{_↔_}
 use mathlib.Core.Bool.{Bool, true, not}
-use mathlib.Core.List.{List, _++_}
+use mathlib.Core.List.{List, _∷_, _++_}
 use Rattle.pmtl.specs.Answer.{known}
 use Rattle.pmtl.specs.Book.{Range, Book, Ordered, rowAt}
 use Rattle.pmtl.specs.Book.Row.{historically, once, since}
-use Rattle.pmtl.specs.Monitor.{State, value}
+use Rattle.pmtl.specs.Monitor.{State, fullest, value}
 use Rattle.pmtl.specs.Early.{early}
 use Rattle.pmtl.specs.Settled.{settled}
 use Rattle.pmtl.specs.Calls.{Call, call, after, accepted}
@@ -46,6 +46,11 @@ made-state (calls k made c) =
 pub made-number : {words : List ℕ} {ks : List Call} {m m′ : List ℕ} {k : Call} {r : ℕ} → Made words ks m → Called k m m′ r
     → r ≡ call (bookSaid words .rows) (after (bookSaid words .rows) ks) k .number
 made-number {k = k} made c = c .number ∙ ap₂ (λ (b : Book) (st : State). call (b .rows) st k .number) (made-book made) (made-state made)
+
+-- the count that it handed back is that of the definitions' state after it
+pub made-count : {words : List ℕ} {ks : List Call} {m m′ : List ℕ} {k : Call} {r count : ℕ} → Made words ks m → Called k m m′ r → count ≡ fullest (stateOf m′)
+    → count ≡ fullest (after (bookSaid words .rows) (k ∷ ks))
+made-count {k = k} made c e = e ∙ ap fullest (made-state (calls k made c))
 
 -- operands are below their owners
 made-ordered : {words : List ℕ} {ks : List Call} {m : List ℕ} → Made words ks m → Ordered (bookSaid words .rows)

@@ -19,6 +19,7 @@ pub use loader::load;
 pub use memory::SIZE;
 pub use memory::clock;
 pub use numbers::MOST_PROPERTIES;
+pub use numset::Tally;
 pub use pmtl::Answer;
 pub use pmtl::bit;
 pub use pmtl::digit;

@@ -13,5 +13,6 @@ pub mod Cut
 pub mod Alike
 pub mod Eleven
 pub mod Kept
+pub mod Fullest
 pub mod Lapsed
 pub mod Examples

@@ -1,7 +1,7 @@
 -- REFERENCE 3.1, 3.4 and 4.1: a monitor's state, what one call makes of it, and the value of a row. Definitions only.
-use Prim.Native.Nat.{ℕ}
+use Prim.Native.Nat.{ℕ, max}
 use mathlib.Core.Bool.{Bool, true, false, not, _||_}
-use mathlib.Core.List.{List, [], map}
+use mathlib.Core.List.{List, [], _∷_, map}
 use lib.ListN.{length, getD, replicate}
 use Rattle.numset.specs.Runs.{Runs, has}
 use Rattle.pmtl.specs.Book.{Row, mapRow, Rows, widthOf, table, answer, every, some, itself}
@@ -21,6 +21,15 @@ pub record State : Type 0 where
 
 abbrev pub setAt : State → ℕ → Runs
 setAt st r = getD (st .sets) r []
+
+-- how many runs the fullest of some sets has, 0 where there is none
+unfoldable pub mostRuns : List Runs → ℕ
+mostRuns [] = 0
+mostRuns (s ∷ ss) = max (length s) (mostRuns ss)
+
+-- how many runs the fullest set of a monitor has, 0 where no row is temporal
+abbrev pub fullest : State → ℕ
+fullest st = mostRuns (st .sets)
 
 -- a fresh monitor has clock 0 and all atoms false, and with no call yet the sets are empty
 abbrev pub fresh : Rows → Snap

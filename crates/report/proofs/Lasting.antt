@@ -20,7 +20,7 @@ use Rattle.pmtl.specs.declared.Answer.{Answer}
 use Rattle.pmtl.specs.declared.Answer.the-variants.{False, True, Open}
 use Rattle.pmtl.specs.Answer.{bitOf, digitOf}
 use Rattle.lists.specs.Lists.{listed}
-use Rattle.memory.specs.Memory.{rowCount, propertyRow, valueAt, earlyAt, settledAt, bookOf, stateOf}
+use Rattle.memory.specs.Memory.{rowCount, propertyRow, valueAt, earlyAt, settledAt, fullestWord, bookOf, stateOf}
 use Rattle.memory.specs.Tables.{propertyCount, valueOf, earlyOf, settledOf}
 use Rattle.memory.specs.Kept.{Kept}
 use Rattle.property_answers.specs.Verdict.{verdictIn, verdictOf}
@@ -28,9 +28,9 @@ use Rattle.property_answers.proofs.Bridge.{properties-length, property-is}
 use Rattle.buffer_writer.specs.Buffer.{Handed}
 use Rattle.buffer_writer.specs.Finish.{finish, Wrote}
 use Rattle.buffer_writer.proofs.Writes.{and-then}
-use Rattle.report.specs.Lines.{PropertyWord, wordOf, endingOf, lineOf}
-use Rattle.report.specs.Report.{stopLine, endLine, propertyWord, propertyWords, callLine, lastLine}
-use Rattle.report.specs.Private.{digitWord, wordAt, digitWords, digitLine}
+use Rattle.report.specs.Lines.{PropertyWord, wordOf, endingOf, restOf, lineOf}
+use Rattle.report.specs.Report.{stopLine, endLine, propertyWord, propertyWords, restWords, callLine, lastLine}
+use Rattle.report.specs.Private.{digitWord, wordAt, digitWords, digitRest, digitLine}
 
 pub ending : {h : Handed} (out : List ℕ) (at : ℕ) {x y : List ℕ} → h ≡ finish out at x → x ≡ y → h ≡ finish out at y
 ending out at p e = p ∙ ap (finish out at) e
@@ -84,6 +84,12 @@ module _ (number : List ℕ) (r : ℕ) (words : List ℕ) {m m₁ : List ℕ} {a
   unfolding digitLine
   line-refused e q = rw (ne-eqb r 0 e, append-nil) (and-then numbers q)
 
+-- what an accepted call's line has after its refusal
+pub rest-written : (m : List ℕ) {out out₁ out₂ out₃ : List ℕ} {at at₁ at₂ at₃ count : ℕ} → Wrote out at (digitWords m (propertyCount m)) out₁ at₁ → Wrote out₁ at₁ (space ∷ []) out₂ at₂
+    → count ≡ fullestWord m → Wrote out₂ at₂ (decimal count) out₃ at₃ → Wrote out at (digitRest m) out₃ at₃
+unfolding digitRest
+rest-written m words part e number = and-then words (and-then part (rw e at number))
+
 -- ---- the digits of the answers, and the line of REFERENCE 8.3
 one-more : (ws : List PropertyWord) (w : PropertyWord) → propertyWords (ws ++ w ∷ []) ≡ propertyWords ws ++ propertyWord w
 unfolding propertyWords
@@ -127,12 +133,16 @@ said-words {m} kept (suc i) h =
     ap₂ (λ (x y : List ℕ). x ++ y) (said-words kept i (omega arith)) (word-said kept i h)
     ∙ sym (one-more (listed (λ p. wordOf (verdictOf m p)) i) (wordOf (verdictOf m i)))
 
-pub line-said : {m : List ℕ} → Kept m → {number : List ℕ} (i r : ℕ) → number ≡ decimal i → digitLine number r (digitWords m (propertyCount m)) ≡ callLine (lineOf (bookOf m) i (record { number = r; state = stateOf m }))
-unfolding digitLine callLine lineOf propertyWords
+rest-said : {m : List ℕ} → Kept m → digitRest m ≡ restWords (restOf (bookOf m) (stateOf m))
+unfolding digitRest restWords
+rest-said {m} kept = rw (properties-length m kept, said-words kept (propertyCount m) (omega arith), kept .tables .counts .right)
+
+pub line-said : {m : List ℕ} → Kept m → {number : List ℕ} (i r : ℕ) → number ≡ decimal i → digitLine number r (digitRest m) ≡ callLine (lineOf (bookOf m) i (record { number = r; state = stateOf m }))
+unfolding digitLine callLine lineOf restWords
 line-said {m} kept i r e = rw e (go (ℕ-discrete r 0))
   where
-    go : Dec (r ≡ 0) → digitLine (decimal i) r (digitWords m (propertyCount m)) ≡ callLine (lineOf (bookOf m) i (record { number = r; state = stateOf m }))
-    go (yes z) = rw (eq-eqb r 0 z, properties-length m kept, said-words kept (propertyCount m) (omega arith))
+    go : Dec (r ≡ 0) → digitLine (decimal i) r (digitRest m) ≡ callLine (lineOf (bookOf m) i (record { number = r; state = stateOf m }))
+    go (yes z) = rw (eq-eqb r 0 z, rest-said kept)
     go (no z) = rw (ne-eqb r 0 z)
 
 -- ---- a property's word as the code makes it, byte by byte

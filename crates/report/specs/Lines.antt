@@ -9,7 +9,7 @@ use Rattle.text.specs.Words.{supply}
 use Rattle.numbers.specs.Refusals.{BAD-WORD, ACCEPTED, PAST-LIMIT, WRONG-LENGTH}
 use Rattle.pmtl.specs.Book.{Book, properties}
 use Rattle.pmtl.specs.Answer.{bitOf, digitOf}
-use Rattle.pmtl.specs.Monitor.{State, initial}
+use Rattle.pmtl.specs.Monitor.{State, fullest, initial}
 use Rattle.numbers.specs.Limits.{MOST-ATOMS, LONGEST-INPUT}
 use Rattle.pmtl.specs.Calls.{Call, Outcome, call}
 use Rattle.pmtl.specs.Calls.Call.{time, state}
@@ -26,11 +26,25 @@ pub record PropertyWord : Type 0 where
   pub early : ℕ
   pub settled : ℕ
 
--- a call's line: its number from 1, its refusal; if 0, one word per property, assumes first
+-- what follows the refusal on a call's line: nothing; or of an accepted call one word per property, assumes first, and the count
+pub data Rest : Type 0 where
+  nothing : Rest
+  told : List PropertyWord → ℕ → Rest
+
+-- its words, and its count
+abbrev pub wordsIn : Rest → List PropertyWord
+wordsIn nothing = []
+wordsIn (told ws count) = ws
+
+abbrev pub countIn : Rest → ℕ
+countIn nothing = 0
+countIn (told ws count) = count
+
+-- a call's line: its number from 1, its refusal, and what follows
 pub record CallLine : Type 0 where
   pub number : ℕ
   pub refusal : ℕ
-  pub words : List PropertyWord
+  pub rest : Rest
 
 -- how a report ends: all was read, or a number ended the reading
 pub data Ending : Type 0 where
@@ -93,13 +107,13 @@ callsAfter ending (count ∷ ws) = callsFrom ending count ws
 abbrev pub wordOf : Verdict → PropertyWord
 wordOf v = record { value = bitOf (v .value); early = digitOf (v .early); settled = digitOf (v .settled) }
 
+-- what a monitor's state answers of the properties, and how many runs its fullest set has
+abbrev pub restOf : Book → State → Rest
+restOf b st = told (listed (λ p. wordOf (verdictIn b st p)) (length (properties b))) (fullest st)
+
 -- the line of call i, of what came of it
 unfoldable pub lineOf : Book → ℕ → Outcome → CallLine
-lineOf b i o = record {
-  number = i;
-  refusal = o .number;
-  words = cond (eqb (o .number) ACCEPTED) (listed (λ p. wordOf (verdictIn b (o .state) p)) (length (properties b))) [];
-}
+lineOf b i o = record { number = i; refusal = o .number; rest = cond (eqb (o .number) ACCEPTED) (restOf b (o .state)) nothing }
 
 -- the lines of calls, after so many done, from a state
 unfoldable pub linesOf : Book → ℕ → State → List Call → List CallLine

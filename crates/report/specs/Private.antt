@@ -8,7 +8,8 @@ use Rattle.text.specs.Words.{space, digit0, supplyFrom}
 use Rattle.text.specs.Decimals.{decimal}
 use Rattle.pmtl.specs.Calls.{Call}
 use Rattle.book.specs.Reading.{Read, got, refused}
-use Rattle.memory.specs.Memory.{propertyRow, valueAt, earlyAt, settledAt}
+use Rattle.memory.specs.Memory.{propertyRow, valueAt, earlyAt, settledAt, fullestWord}
+use Rattle.memory.specs.Tables.{propertyCount}
 use Rattle.calls.specs.Called.{Called}
 use Rattle.report.specs.Report.{ended}
 use Rattle.report.specs.declared.text_calls.Turn.{Turn}
@@ -44,6 +45,10 @@ unfoldable pub digitWords : List ℕ → ℕ → List ℕ
 digitWords m zero = []
 digitWords m (suc i) = digitWords m i ++ wordAt m i
 
--- the digits of a call's number and its refusal; if 0, the words
+-- those of all properties, and the count
+unfoldable pub digitRest : List ℕ → List ℕ
+digitRest m = digitWords m (propertyCount m) ++ space ∷ decimal (fullestWord m)
+
+-- the digits of a call's number and its refusal; if 0, what follows them
 unfoldable pub digitLine : List ℕ → ℕ → List ℕ → List ℕ
-digitLine number refusal words = number ++ space ∷ decimal refusal ++ cond (eqb refusal 0) words [] ++ ended
+digitLine number refusal rest = number ++ space ∷ decimal refusal ++ cond (eqb refusal 0) rest [] ++ ended

@@ -3,7 +3,7 @@ use Prim.Native.Nat.{ℕ, _+_}
 use mathlib.Core.List.{List, [], _∷_, _++_}
 use Rattle.text.specs.Words.{space, lineFeed, digit0}
 use Rattle.text.specs.Decimals.{decimal}
-use Rattle.report.specs.Lines.{PropertyWord, CallLine, Ending, end, stop, Line, book, called, last, lines}
+use Rattle.report.specs.Lines.{PropertyWord, Rest, nothing, told, CallLine, Ending, end, stop, Line, book, called, last, lines}
 
 -- ---- lines. The words book, stop and end are fixed
 abbrev pub bookWord : List ℕ
@@ -41,9 +41,14 @@ unfoldable pub propertyWords : List PropertyWord → List ℕ
 propertyWords [] = []
 propertyWords (w ∷ ws) = propertyWord w ++ propertyWords ws
 
+-- the words of the properties, and as the last word the count
+unfoldable pub restWords : Rest → List ℕ
+restWords nothing = []
+restWords (told ws count) = propertyWords ws ++ space ∷ decimal count
+
 -- a call's line: words parted by one space
 unfoldable pub callLine : CallLine → List ℕ
-callLine l = decimal (l .number) ++ space ∷ decimal (l .refusal) ++ propertyWords (l .words) ++ ended
+callLine l = decimal (l .number) ++ space ∷ decimal (l .refusal) ++ restWords (l .rest) ++ ended
 
 -- ---- a line, and lines one after the other
 unfoldable pub line : Line → List ℕ

@@ -9,7 +9,7 @@ ghost use Rattle.buffer_writer.specs.Buffer.{handed};
 ghost use Rattle.buffer_writer.specs.Finish.{finish, Wrote};
 ghost use Rattle.report.specs.Lines.{endingOf};
 ghost use Rattle.report.specs.Report.{ended as Report·ended, bookLine, stopLine, endLine, lastLine};
-ghost use Rattle.report.specs.Private.{wordAt, digitWords, digitLine};
+ghost use Rattle.report.specs.Private.{wordAt, digitWords, digitRest, digitLine};
 ghost use Rattle.memory.specs.Tables.{propertyCount};
 ghost use Rattle.memory.specs.Kept.{Kept};
 use memory::SIZE;
@@ -108,6 +108,16 @@ fn put_words(out: &mut [u8], at: usize, monitor: &[u64; SIZE]) -> usize
     p
 }
 
+// What an accepted call's line has after its refusal: the words of the properties, and the count.
+fn put_rest(out: &mut [u8], at: usize, monitor: &[u64; SIZE]) -> usize
+    requires { ⌜ Kept (now monitor) ⌝ }
+    ensures { λ r. ⌜ Wrote (now (out .entry)) at (digitRest (now (monitor .entry))) (now (out .exit)) r ⌝ }
+{
+    let a = put_words(out, at, monitor);
+    let b = buffer_writer::put_bytes(out, a, b" ");
+    buffer_writer::put_number(out, b, memory::fullest(monitor))
+}
+
 // A call's number, of the digits from `first` on, and its refusal: most often 0, which is put at once.
 fn put_numbers(out: &mut [u8], at: usize, digits: &[u8], first: usize, refusal: u64) -> usize
     requires { ⌜ first ≤ length (now digits) ⌝ }
@@ -121,7 +131,7 @@ fn put_numbers(out: &mut [u8], at: usize, digits: &[u8], first: usize, refusal: 
     buffer_writer::put_number(out, b, refusal)
 }
 
-// A call's line, its number's digits from `first` on. That of an accepted call has the words of the properties.
+// A call's line, its number's digits from `first` on. Only that of an accepted call has more than the refusal.
 pub fn put_call(
     out: &mut [u8],
     at: usize,
@@ -131,11 +141,11 @@ pub fn put_call(
     monitor: &[u64; SIZE],
 ) -> usize
     requires { ⌜ Kept (now monitor) × (first ≤ length (now digits)) ⌝ }
-    ensures { λ r. ⌜ Wrote (now (out .entry)) at (digitLine (drop first (now (digits .entry))) refusal (digitWords (now (monitor .entry)) (propertyCount (now (monitor .entry))))) (now (out .exit)) r ⌝ }
+    ensures { λ r. ⌜ Wrote (now (out .entry)) at (digitLine (drop first (now (digits .entry))) refusal (digitRest (now (monitor .entry)))) (now (out .exit)) r ⌝ }
 {
     let a = put_numbers(out, at, digits, first, refusal);
     if refusal == ACCEPTED {
-        let b = put_words(out, a, monitor);
+        let b = put_rest(out, a, monitor);
         return buffer_writer::put_bytes(out, b, b"\n");
     }
     buffer_writer::put_bytes(out, a, b"\n")

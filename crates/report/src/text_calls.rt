@@ -43,7 +43,8 @@ fn time_call(input: &[u8], at: usize, monitor: &mut [u64; SIZE]) -> Turn
     let Read::Word(time, next) = r else {
         return Turn::Stopped(text_reader::number_of(r));
     };
-    Turn::Made(calls::update_time(monitor, time), next)
+    let made = calls::update_time(monitor, time);
+    Turn::Made(made.number, next)
 }
 
 // A state call of the first `width` bytes.
@@ -51,7 +52,8 @@ fn state_made(monitor: &mut [u64; SIZE], bytes: &[u8], width: usize) -> u64
     requires { ⌜ Kept (now monitor) × (width ≤ length (now bytes)) ⌝ }
     ensures { λ r. ⌜ Called (Call.state (take width (now (bytes .entry)))) (now (monitor .entry)) (now (monitor .exit)) r ⌝ }
 {
-    calls::update_state(monitor, &bytes[..width])
+    let made = calls::update_state(monitor, &bytes[..width]);
+    made.number
 }
 
 fn state_call(

@@ -7,10 +7,10 @@ use lib.ListN.{length, getD}
 use Rattle.text.specs.Words.{pick, parts, digit, letters, allDigits, said, plain, good, begun, writtenWords, supplied, supply}
 use Rattle.pmtl.specs.Calls.Call.{time}
 use Rattle.book.specs.Reading.{section, next, sections}
-use Rattle.report.specs.Lines.{called, lines}
+use Rattle.report.specs.Lines.{nothing, told, called, lines}
 use Rattle.report.specs.Report.{report}
 use Rattle.report.proofs.Examples.{reportOf, opened, caseInput, whole}
-use Rattle.slip.specs.Back.{before, pieces, wordIn, lineIn, linesIn}
+use Rattle.slip.specs.Back.{before, pieces, wordIn, wordThen, restIn, lineIn, linesIn}
 use Rattle.slip.specs.Says.{noLine, Says}
 use Rattle.slip.specs.TakenOut.{allWords, CallAt, TakenOut}
 use Rattle.slip.specs.Longest.{longest}
@@ -20,11 +20,11 @@ use Rattle.slip.proofs.Theorems.{read-back}
 known-lines : {bytes : List ℕ} (input : List ℕ) → report input ≡ bytes → lines input ≡ linesIn bytes
 known-lines input e = sym (read-back input) ∙ ap linesIn e
 
--- ---- a settled word: in the whole case of REFERENCE 8.6 the line of call 3 says 010 of the property
+-- ---- a settled word: in the whole case of REFERENCE 8.6 the line of call 3 says 010 of the property, and 1 run
 pub a-word : Says (lines caseInput) 3 0 (record { value = 0; early = 1; settled = 0 })
-unfolding linesIn pieces before lineIn wordIn said
+unfolding linesIn pieces before lineIn wordIn wordThen restIn said
 a-word = record {
-  line = record { number = 3; refusal = 0; words = record { value = 0; early = 1; settled = 0 } ∷ [] };
+  line = record { number = 3; refusal = 0; rest = told (record { value = 0; early = 1; settled = 0 } ∷ []) 1 };
   stands = ap (λ ls. getD ls 3 noLine) (known-lines caseInput whole);
   accepted = refl;
   there = omega arith;
@@ -38,12 +38,12 @@ twoTimes = 48 ∷ 32 ∷ 48 ∷ 32 ∷ 48 ∷ 32 ∷ 48 ∷ 32 ∷ 50 ∷ 32 ∷
 abbrev pub oneTime : List ℕ
 oneTime = 48 ∷ 32 ∷ 48 ∷ 32 ∷ 48 ∷ 32 ∷ 48 ∷ 32 ∷ 49 ∷ 32 ∷ 48 ∷ 32 ∷ 53 ∷ []
 
-times-report : report twoTimes ≡ 98 ∷ 111 ∷ 111 ∷ 107 ∷ 32 ∷ 48 ∷ 10 ∷ 49 ∷ 32 ∷ 48 ∷ 10 ∷ 50 ∷ 32 ∷ 55 ∷ 10 ∷ 101 ∷ 110 ∷ 100 ∷ 10 ∷ []
+times-report : report twoTimes ≡ 98 ∷ 111 ∷ 111 ∷ 107 ∷ 32 ∷ 48 ∷ 10 ∷ 49 ∷ 32 ∷ 48 ∷ 32 ∷ 48 ∷ 10 ∷ 50 ∷ 32 ∷ 55 ∷ 10 ∷ 101 ∷ 110 ∷ 100 ∷ 10 ∷ []
 unfolding reportOf
 times-report = opened twoTimes ∙ refl
 
-pub a-refused-line : getD (lines twoTimes) 2 noLine ≡ called (record { number = 2; refusal = 7; words = [] })
-unfolding linesIn pieces before lineIn wordIn said
+pub a-refused-line : getD (lines twoTimes) 2 noLine ≡ called (record { number = 2; refusal = 7; rest = nothing })
+unfolding linesIn pieces before lineIn wordIn wordThen restIn said
 a-refused-line = ap (λ ls. getD ls 2 noLine) (known-lines twoTimes times-report)
 
 pub its-call : CallAt twoTimes 2

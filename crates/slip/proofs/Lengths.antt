@@ -8,7 +8,7 @@ use mathlib.Core.Bool.{Bool, true, false, cond, not, _&&_}
 use mathlib.Core.List.{List, [], _∷_, _++_, map}
 use lib.Dec.{leb, ltb, eqb}
 use lib.ListN.{length, length-append}
-use Rattle.numbers.specs.Limits.{LAST-TIME, LONGEST-INPUT, LONGEST-REPORT, MOST-ATOMS, MOST-PROPERTIES, MOST-TEMPORALS}
+use Rattle.numbers.specs.Limits.{LAST-TIME, LONGEST-INPUT, LONGEST-REPORT, MOST-RUNS, MOST-ATOMS, MOST-PROPERTIES, MOST-TEMPORALS}
 use Rattle.numbers.specs.Refusals.{ACCEPTED, PAST-LIMIT, WRONG-FORM, WRONG-RANGE, WRONG-LINK, WRONG-USE, TOO-EARLY, TOO-LATE, TOO-NARROW, NOT-A-BIT}
 use Rattle.lists.specs.Lists.{listed}
 use Rattle.lists.proofs.Listed.{listed-length}
@@ -16,17 +16,18 @@ use Rattle.text.specs.Words.{supply}
 use Rattle.text.specs.Decimals.{decimal}
 use Rattle.text.proofs.Digits.{at-most}
 use Rattle.pmtl.specs.Book.{Rows, Book, properties, widthOf, some}
-use Rattle.pmtl.specs.Monitor.{Snap, State, initial, step}
+use Rattle.pmtl.specs.Monitor.{Snap, State, fullest, initial, step}
 use Rattle.pmtl.specs.Calls.{Call, time, state, turns, refusal, crowded, Outcome, play, call}
+use Rattle.pmtl.proofs.Fullest.{fresh-none, call-few}
 use Rattle.book.specs.Rows.{temporal}
 use Rattle.book.specs.Reading.{Read, got, refused, Sections}
 use Rattle.book.specs.Judging.{Loaded, firstOf, firstTo, formGood, rangeGood, kindIn, argIn, lowerIn, upperIn, temporalsIn, rowsIn, rowNumber, linksGood, usedOnce, judged, bookIn, refusedWith, loadedFrom}
 use Rattle.property_answers.specs.Verdict.{verdictIn}
-use Rattle.report.specs.Lines.{PropertyWord, CallLine, Ending, end, stop, book, called, last, wordOf, callsFrom, callsAfter, lineOf, linesOf, linesFrom, lines}
-use Rattle.report.specs.Report.{bookLine, stopLine, endLine, lastLine, propertyWord, propertyWords, callLine, line, written, report}
+use Rattle.report.specs.Lines.{PropertyWord, nothing, told, CallLine, Ending, end, stop, book, called, last, wordOf, callsFrom, callsAfter, restOf, lineOf, linesOf, linesFrom, lines}
+use Rattle.report.specs.Report.{bookLine, stopLine, endLine, lastLine, propertyWord, propertyWords, restWords, callLine, line, written, report}
 use Rattle.slip.specs.Says.{sectionsSaid}
 use Rattle.slip.specs.TakenOut.{allWords}
-use Rattle.slip.specs.Longest.{WORD-BYTES, LINE-BYTES, FIRST-BYTES, LAST-BYTES, longest}
+use Rattle.slip.specs.Longest.{WORD-BYTES, COUNT-BYTES, LINE-BYTES, FIRST-BYTES, LAST-BYTES, longest}
 use Rattle.slip.proofs.Words.{Few, Small, few-words, small-ending, sections-got, sections-refused}
 use Rattle.slip.proofs.Calls.{two-words-each, EndsSmall, calls-read}
 use Rattle.slip.proofs.Places.{lines-loaded, lines-refused, lines-unread}
@@ -124,38 +125,43 @@ unfolding lastLine stopLine endLine EndsSmall
 last-length end h = omega arith
 last-length (stop n) h = simp length-append (omega (arith, two-digits n h))
 
--- the refusal, and the words after it
-after-number : (b : Book) (i : ℕ) (o : Outcome) → length (properties b) ≤ MOST-PROPERTIES → o .number < 100
-    → length (decimal (lineOf b i o .refusal)) + length (lineOf b i o .words) * WORD-BYTES ≤ 1 + WORD-BYTES * MOST-PROPERTIES
-unfolding lineOf
-after-number b i o few small = go (ℕ-discrete (o .number) ACCEPTED)
-  where
-    ws : List PropertyWord
-    ws = listed (λ p. wordOf (verdictIn b (o .state) p)) (length (properties b))
+-- the words of the properties, and the count
+told-length : (ws : List PropertyWord) (count : ℕ) → length ws ≤ MOST-PROPERTIES → count ≤ MOST-RUNS → length (restWords (told ws count)) ≤ WORD-BYTES * MOST-PROPERTIES + COUNT-BYTES
+unfolding restWords
+told-length ws count few full = simp length-append (omega (arith, words-length ws, two-digits count (omega arith)))
 
-    go : Dec (o .number ≡ ACCEPTED) → length (decimal (o .number)) + length (cond (eqb (o .number) ACCEPTED) ws []) * WORD-BYTES ≤ 1 + WORD-BYTES * MOST-PROPERTIES
-    go (yes z) = rw (eq-eqb (o .number) ACCEPTED z) (omega (arith, at-most 0 (o .number) (omega arith), listed-length (λ p. wordOf (verdictIn b (o .state) p)) (length (properties b))))
+-- the refusal, and what follows it
+after-number : (b : Book) (i : ℕ) (o : Outcome) → length (properties b) ≤ MOST-PROPERTIES → o .number < 100 → fullest (o .state) ≤ MOST-RUNS
+    → length (decimal (lineOf b i o .refusal)) + length (restWords (lineOf b i o .rest)) ≤ 1 + WORD-BYTES * MOST-PROPERTIES + COUNT-BYTES
+unfolding lineOf restWords
+after-number b i o few small full = go (ℕ-discrete (o .number) ACCEPTED)
+  where
+    go : Dec (o .number ≡ ACCEPTED) → length (decimal (o .number)) + length (restWords (cond (eqb (o .number) ACCEPTED) (restOf b (o .state)) nothing)) ≤ 1 + WORD-BYTES * MOST-PROPERTIES + COUNT-BYTES
+    go (yes z) =
+        let n = listed-length (λ p. wordOf (verdictIn b (o .state) p)) (length (properties b)) in
+        let t = told-length (listed (λ p. wordOf (verdictIn b (o .state) p)) (length (properties b))) (fullest (o .state)) (omega arith) (omega arith) in
+        rw (eq-eqb (o .number) ACCEPTED z) (omega (arith, at-most 0 (o .number) (omega arith)))
     go (no z) = rw (ne-eqb (o .number) ACCEPTED z) (omega (arith, two-digits (o .number) small))
 
-call-length : (l : CallLine) → l .number < 100000 → length (decimal (l .refusal)) + length (l .words) * WORD-BYTES ≤ 1 + WORD-BYTES * MOST-PROPERTIES → length (callLine l) ≤ LINE-BYTES
+call-length : (l : CallLine) → l .number < 100000 → length (decimal (l .refusal)) + length (restWords (l .rest)) ≤ 1 + WORD-BYTES * MOST-PROPERTIES + COUNT-BYTES → length (callLine l) ≤ LINE-BYTES
 unfolding callLine
 call-length l h w =
     let d = five-digits (l .number) h in
-    let n = words-length (l .words) in
     simp length-append (omega arith)
 
-its-length : (b : Book) (i : ℕ) (o : Outcome) → length (properties b) ≤ MOST-PROPERTIES → i < 100000 → o .number < 100 → length (callLine (lineOf b i o)) ≤ LINE-BYTES
+its-length : (b : Book) (i : ℕ) (o : Outcome) → length (properties b) ≤ MOST-PROPERTIES → i < 100000 → o .number < 100 → fullest (o .state) ≤ MOST-RUNS → length (callLine (lineOf b i o)) ≤ LINE-BYTES
 unfolding lineOf
-its-length b i o few h k = call-length (lineOf b i o) h (after-number b i o few k)
+its-length b i o few h k full = call-length (lineOf b i o) h (after-number b i o few k full)
 
-lines-length : (b : Book) (e : Ending) → length (properties b) ≤ MOST-PROPERTIES → EndsSmall e → (ks : List Call) (done : ℕ) (st : State) → done + length ks < 100000
+lines-length : (b : Book) (e : Ending) → length (properties b) ≤ MOST-PROPERTIES → EndsSmall e → (ks : List Call) (done : ℕ) (st : State) → fullest st ≤ MOST-RUNS → done + length ks < 100000
     → length (written (map called (linesOf b done st ks) ++ last e ∷ [])) ≤ length ks * LINE-BYTES + LAST-BYTES
 unfolding written line linesOf
-lines-length b e few s [] done st h = simp length-append (omega (arith, last-length e s))
-lines-length b e few s (k ∷ ks) done st h =
+lines-length b e few s [] done st full h = simp length-append (omega (arith, last-length e s))
+lines-length b e few s (k ∷ ks) done st full h =
     let o = call (b .rows) st k in
-    let c = its-length b (suc done) o few (omega arith) (small-call (b .rows) st k) in
-    let r = lines-length b e few s ks (suc done) (o .state) (omega arith) in
+    let after = call-few (b .rows) st k full in
+    let c = its-length b (suc done) o few (omega arith) (small-call (b .rows) st k) after in
+    let r = lines-length b e few s ks (suc done) (o .state) after (omega arith) in
     simp length-append (omega arith)
 
 -- ---- reports
@@ -183,7 +189,7 @@ module _ (input : List ℕ) where
       let b = loadedFrom s .book in
       let ks = callsAfter ending ws .calls in
       let few : 4 * length ks ≤ length input - 9 = omega (arith, g .1, c .1, few-words input) in
-      let l = lines-length b (callsAfter ending ws .ends) (loads s (g .0) .few) (c .0) ks 0 (initial (b .rows)) (omega arith) in
+      let l = lines-length b (callsAfter ending ws .ends) (loads s (g .0) .few) (c .0) ks 0 (initial (b .rows)) (omega (arith, fresh-none (b .rows))) (omega arith) in
       let n = first-length in
       rw (lines-loaded input f e z) (simp length-append (omega arith))
 

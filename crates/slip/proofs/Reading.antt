@@ -11,9 +11,9 @@ use Rattle.text.specs.Words.{space, lineFeed, digit0, digit, allDigits, said}
 use Rattle.text.specs.Decimals.{digitsBefore, decimal}
 use Rattle.lists.proofs.Tests.{and-left, and-right}
 use Rattle.text.proofs.Back.{decimal-digits, decimal-says}
-use Rattle.report.specs.Lines.{PropertyWord, CallLine, end, stop, Line, book, called, last}
-use Rattle.report.specs.Report.{bookLine, stopLine, endLine, lastLine, propertyWord, propertyWords, callLine, line, written}
-use Rattle.slip.specs.Back.{before, pieces, wordIn, lineIn, linesIn}
+use Rattle.report.specs.Lines.{PropertyWord, Rest, nothing, told, CallLine, end, stop, Line, book, called, last}
+use Rattle.report.specs.Report.{bookLine, stopLine, endLine, lastLine, propertyWord, propertyWords, restWords, callLine, line, written}
+use Rattle.slip.specs.Back.{before, pieces, wordIn, wordThen, restIn, lineIn, linesIn}
 
 -- ---- bytes without the one that parts them
 abbrev Clear : ℕ → List ℕ → Type 0
@@ -81,28 +81,58 @@ word-back : (v : PropertyWord) → wordIn (bytesOf v) ≡ v
 unfolding wordIn
 word-back v = same-word (omega arith) (omega arith) (omega arith)
 
-words-back : (ws : List PropertyWord) → map wordIn (map bytesOf ws) ≡ ws
-words-back [] = refl
-words-back (v ∷ ws) = ap₂ (λ x xs. x ∷ xs) (word-back v) (words-back ws)
+-- ---- what follows the refusal
+rest-pieces : Rest → List (List ℕ)
+rest-pieces nothing = []
+rest-pieces (told ws count) = map bytesOf ws ++ decimal count ∷ []
 
-words-parted : (w : List ℕ) (ws : List PropertyWord) → 0 < length w → Clear space w → pieces space (w ++ propertyWords ws) ≡ w ∷ map bytesOf ws
+number-piece : (n : ℕ) → pieces space (decimal n) ≡ decimal n ∷ []
+number-piece n = one-piece space (decimal n) (some-digit n) (clear-decimal space (omega arith) n)
+
+told-parted : (w : List ℕ) (ws : List PropertyWord) (count : ℕ) → Clear space w → pieces space (w ++ (propertyWords ws ++ space ∷ decimal count)) ≡ w ∷ (map bytesOf ws ++ decimal count ∷ [])
 unfolding propertyWords propertyWord
-words-parted w [] h c = rw append-nil (one-piece space w h c)
-words-parted w (v ∷ ws) h c =
-    first-piece space w (bytesOf v ++ propertyWords ws) c
-    ∙ ap (λ ps. w ∷ ps) (words-parted (bytesOf v) ws (omega arith) (clear-word space (omega arith) v))
+told-parted w [] count c = first-piece space w (decimal count) c ∙ ap (λ ps. w ∷ ps) (number-piece count)
+told-parted w (v ∷ ws) count c =
+    first-piece space w (bytesOf v ++ (propertyWords ws ++ space ∷ decimal count)) c
+    ∙ ap (λ ps. w ∷ ps) (told-parted (bytesOf v) ws count (clear-word space (omega arith) v))
+
+rest-parted : (w : List ℕ) (r : Rest) → 0 < length w → Clear space w → pieces space (w ++ restWords r) ≡ w ∷ rest-pieces r
+unfolding restWords rest-pieces
+rest-parted w nothing h c = rw append-nil (one-piece space w h c)
+rest-parted w (told ws count) h c = told-parted w ws count c
+
+one-first : (w : List ℕ) (xs : List (List ℕ)) (y : List ℕ) → restIn (w ∷ (xs ++ y ∷ [])) ≡ wordThen (wordIn w) (restIn (xs ++ y ∷ []))
+unfolding restIn
+one-first w [] y = refl
+one-first w (x ∷ xs) y = refl
+
+told-back : (ws : List PropertyWord) (count : ℕ) → restIn (map bytesOf ws ++ decimal count ∷ []) ≡ told ws count
+unfolding restIn wordThen
+told-back [] count = ap (told []) (decimal-says count)
+told-back (v ∷ ws) count =
+    one-first (bytesOf v) (map bytesOf ws) (decimal count) ∙ ap₂ wordThen (word-back v) (told-back ws count)
+
+rest-back : (r : Rest) → restIn (rest-pieces r) ≡ r
+unfolding rest-pieces restIn
+rest-back nothing = refl
+rest-back (told ws count) = told-back ws count
 
 clear-words : (ws : List PropertyWord) → Clear lineFeed (propertyWords ws)
 unfolding propertyWords propertyWord
 clear-words [] = tt
 clear-words (v ∷ ws) = ((λ e. omega arith), clear-append lineFeed (bytesOf v) (propertyWords ws) (clear-word lineFeed (omega arith) v) (clear-words ws))
 
+clear-rest : (r : Rest) → Clear lineFeed (restWords r)
+unfolding restWords
+clear-rest nothing = tt
+clear-rest (told ws count) = clear-append lineFeed (propertyWords ws) (space ∷ decimal count) (clear-words ws) ((λ e. omega arith), clear-decimal lineFeed (omega arith) count)
+
 -- ---- a line without its line feed
 abbrev numbered : List ℕ → ℕ → List ℕ
 numbered w n = w ++ space ∷ decimal n
 
 abbrev called-body : CallLine → List ℕ
-called-body l = decimal (l .number) ++ space ∷ (decimal (l .refusal) ++ propertyWords (l .words))
+called-body l = decimal (l .number) ++ space ∷ (decimal (l .refusal) ++ restWords (l .rest))
 
 body : Line → List ℕ
 body (book n) = numbered (98 ∷ 111 ∷ 111 ∷ 107 ∷ []) n
@@ -121,13 +151,10 @@ clear-body : (l : Line) → Clear lineFeed (body l)
 unfolding body
 clear-body (book n) = ((λ e. omega arith), ((λ e. omega arith), ((λ e. omega arith), ((λ e. omega arith), ((λ e. omega arith), clear-decimal lineFeed (omega arith) n)))))
 clear-body (called l) =
-    clear-append lineFeed (decimal (l .number)) (space ∷ (decimal (l .refusal) ++ propertyWords (l .words))) (clear-decimal lineFeed (omega arith) (l .number))
-    ((λ e. omega arith), clear-append lineFeed (decimal (l .refusal)) (propertyWords (l .words)) (clear-decimal lineFeed (omega arith) (l .refusal)) (clear-words (l .words)))
+    clear-append lineFeed (decimal (l .number)) (space ∷ (decimal (l .refusal) ++ restWords (l .rest))) (clear-decimal lineFeed (omega arith) (l .number))
+    ((λ e. omega arith), clear-append lineFeed (decimal (l .refusal)) (restWords (l .rest)) (clear-decimal lineFeed (omega arith) (l .refusal)) (clear-rest (l .rest)))
 clear-body (last end) = ((λ e. omega arith), ((λ e. omega arith), ((λ e. omega arith), tt)))
 clear-body (last (stop n)) = ((λ e. omega arith), ((λ e. omega arith), ((λ e. omega arith), ((λ e. omega arith), ((λ e. omega arith), clear-decimal lineFeed (omega arith) n)))))
-
-number-piece : (n : ℕ) → pieces space (decimal n) ≡ decimal n ∷ []
-number-piece n = one-piece space (decimal n) (some-digit n) (clear-decimal space (omega arith) n)
 
 body-back : (l : Line) → lineIn (pieces space (body l)) ≡ l
 unfolding body lineIn
@@ -136,13 +163,13 @@ body-back (book n) =
 body-back (called l) =
     let d = first-digit (decimal (l .number)) (some-digit (l .number)) (decimal-digits (l .number)) in
     rw (
-      first-piece space (decimal (l .number)) (decimal (l .refusal) ++ propertyWords (l .words)) (clear-decimal space (omega arith) (l .number)),
-      words-parted (decimal (l .refusal)) (l .words) (some-digit (l .refusal)) (clear-decimal space (omega arith) (l .refusal)),
+      first-piece space (decimal (l .number)) (decimal (l .refusal) ++ restWords (l .rest)) (clear-decimal space (omega arith) (l .number)),
+      rest-parted (decimal (l .refusal)) (l .rest) (some-digit (l .refusal)) (clear-decimal space (omega arith) (l .refusal)),
       ne-eqb (getD (decimal (l .number)) 0 0) 98 (λ e. omega arith),
       ne-eqb (getD (decimal (l .number)) 0 0) 115 (λ e. omega arith),
       decimal-says (l .number),
       decimal-says (l .refusal),
-      words-back (l .words),
+      rest-back (l .rest),
     )
 body-back (last end) =
     rw (one-piece space (101 ∷ 110 ∷ 100 ∷ []) (omega arith) ((λ e. omega arith), ((λ e. omega arith), ((λ e. omega arith), tt))))

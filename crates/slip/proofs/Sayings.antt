@@ -7,16 +7,17 @@ use mathlib.Core.List.{List, [], _++_, reverse, reverse-append}
 use lib.Dec.{eqb}
 use lib.ListN.{length, getD, take, drop}
 use lib.Seq.{take-add}
-use borrow.Author.Tests.{eq-eqb, eqb-true}
+use borrow.Author.Tests.{eq-eqb, ne-eqb, eqb-true}
 use Rattle.numbers.specs.Refusals.{ACCEPTED}
 use Rattle.lists.proofs.Listed.{listed-length, listed-at}
 use Rattle.pmtl.specs.Book.{Book, Ordered, properties}
+use Rattle.pmtl.specs.Monitor.{fullest}
 use Rattle.pmtl.specs.Calls.{Call, Outcome, call, after}
 use Rattle.book.specs.Reading.{Read, got, refused, Sections}
 use Rattle.book.specs.Judging.{Loaded, judged, bookIn, refusedWith, loadedFrom}
 use Rattle.book.proofs.Ordered.{book-ordered}
 use Rattle.property_answers.specs.Verdict.{verdictIn}
-use Rattle.report.specs.Lines.{PropertyWord, CallLine, book, wordOf, lineOf, lines}
+use Rattle.report.specs.Lines.{PropertyWord, nothing, wordsIn, countIn, CallLine, book, wordOf, lineOf, lines}
 use Rattle.slip.specs.Says.{loadedOf, bookSaid, callsSaid, firstCalls, noWord, missingCall, Says}
 use Rattle.slip.proofs.Places.{one-more, CalledLine, called-line}
 
@@ -36,14 +37,23 @@ ordered (got s ws) = loaded-ordered s
 ordered (refused n) = λ r. tt
 
 -- ---- the words of an accepted call's line
-words-at : (b : Book) (i : ℕ) (o : Outcome) → lineOf b i o .refusal ≡ ACCEPTED → length (lineOf b i o .words) ≡ length (properties b)
+words-at : (b : Book) (i : ℕ) (o : Outcome) → lineOf b i o .refusal ≡ ACCEPTED → length (wordsIn (lineOf b i o .rest)) ≡ length (properties b)
 unfolding lineOf
 words-at b i o z = rw (eq-eqb (o .number) ACCEPTED z) (listed-length (λ q. wordOf (verdictIn b (o .state) q)) (length (properties b)))
 
-word-at : (b : Book) (i : ℕ) (o : Outcome) (p : ℕ) → lineOf b i o .refusal ≡ ACCEPTED → p < length (lineOf b i o .words)
-    → getD (lineOf b i o .words) p noWord ≡ wordOf (verdictIn b (o .state) p)
+word-at : (b : Book) (i : ℕ) (o : Outcome) (p : ℕ) → lineOf b i o .refusal ≡ ACCEPTED → p < length (wordsIn (lineOf b i o .rest))
+    → getD (wordsIn (lineOf b i o .rest)) p noWord ≡ wordOf (verdictIn b (o .state) p)
 unfolding lineOf
 word-at b i o p z = rw (eq-eqb (o .number) ACCEPTED z) (λ h. listed-at (λ q. wordOf (verdictIn b (o .state) q)) noWord (length (properties b)) p (omega (arith, listed-length (λ q. wordOf (verdictIn b (o .state) q)) (length (properties b)))))
+
+-- its count, and that nothing follows any other refusal
+count-at : (b : Book) (i : ℕ) (o : Outcome) → lineOf b i o .refusal ≡ ACCEPTED → countIn (lineOf b i o .rest) ≡ fullest (o .state)
+unfolding lineOf
+count-at b i o z = rw (eq-eqb (o .number) ACCEPTED z)
+
+none-at : (b : Book) (i : ℕ) (o : Outcome) → ¬ (lineOf b i o .refusal ≡ ACCEPTED) → lineOf b i o .rest ≡ nothing
+unfolding lineOf
+none-at b i o n = rw (ne-eqb (o .number) ACCEPTED n)
 
 -- the answers of property p after the first i calls of a text
 abbrev pub answered : List ℕ → ℕ → ℕ → PropertyWord
@@ -57,17 +67,30 @@ module _ (input : List ℕ) {i : ℕ} {l : CallLine} (c : CalledLine input i l) 
   accepted = ap (λ (x : CallLine). x .refusal) (c .is) ∙ z
 
   -- it has a word for each property
-  pub word-each : length (l .words) ≡ length (properties (bookSaid input))
-  word-each = ap (λ (x : CallLine). length (x .words)) (sym (c .is)) ∙ words-at (bookSaid input) (suc (c .others)) outcome accepted
+  pub word-each : length (wordsIn (l .rest)) ≡ length (properties (bookSaid input))
+  word-each = ap (λ (x : CallLine). length (wordsIn (x .rest))) (sym (c .is)) ∙ words-at (bookSaid input) (suc (c .others)) outcome accepted
 
   -- the digits of the answers after the calls up to that line
-  word-here : (p : ℕ) → p < length (l .words) → getD (l .words) p noWord ≡ answered input i p
+  word-here : (p : ℕ) → p < length (wordsIn (l .rest)) → getD (wordsIn (l .rest)) p noWord ≡ answered input i p
   unfolding after
   word-here p h =
-      ap (λ (x : CallLine). getD (x .words) p noWord) (sym (c .is))
-      ∙ word-at (bookSaid input) (suc (c .others)) outcome p accepted (subst (λ (x : CallLine). p < length (x .words)) (sym (c .is)) h)
+      ap (λ (x : CallLine). getD (wordsIn (x .rest)) p noWord) (sym (c .is))
+      ∙ word-at (bookSaid input) (suc (c .others)) outcome p accepted (subst (λ (x : CallLine). p < length (wordsIn (x .rest))) (sym (c .is)) h)
       ∙ ap (λ ks. wordOf (verdictIn (bookSaid input) (after (bookSaid input .rows) ks) p)) (sym (one-more (callsSaid input) [] (c .others) (c .said)))
       ∙ ap (λ n. answered input n p) (sym (c .place))
+
+  -- how many runs the fullest set has after the calls up to that line
+  pub count-here : countIn (l .rest) ≡ fullest (after (bookSaid input .rows) (firstCalls input i))
+  unfolding after
+  count-here =
+      ap (λ (x : CallLine). countIn (x .rest)) (sym (c .is))
+      ∙ count-at (bookSaid input) (suc (c .others)) outcome accepted
+      ∙ ap (λ ks. fullest (after (bookSaid input .rows) ks)) (sym (one-more (callsSaid input) [] (c .others) (c .said)))
+      ∙ ap (λ n. fullest (after (bookSaid input .rows) (firstCalls input n))) (sym (c .place))
+
+-- a refused call's line has nothing after its refusal
+pub nothing-here : (input : List ℕ) {i : ℕ} {l : CallLine} → CalledLine input i l → ¬ (l .refusal ≡ ACCEPTED) → l .rest ≡ nothing
+nothing-here input c n = ap (λ (x : CallLine). x .rest) (sym (c .is)) ∙ none-at (bookSaid input) (suc (c .others)) _ (λ z. n (ap (λ (x : CallLine). x .refusal) (sym (c .is)) ∙ z))
 
 pub word-is : (input : List ℕ) {i p : ℕ} {w : PropertyWord} → Says (lines input) i p w → w ≡ answered input i p
 word-is input {i} {p} s = sym (s .word) ∙ word-here input (called-line input i (s .stands)) (s .accepted) p (s .there)

@@ -5,19 +5,20 @@ use mathlib.Core.Path.{_≡_, refl, sym, ap, _∙_}
 use mathlib.Core.Bool.{Bool, true, false}
 use mathlib.Core.List.{List}
 use lib.ListN.{length, getD}
-use Rattle.numbers.specs.Limits.{LONGEST-REPORT}
+use Rattle.numbers.specs.Limits.{MOST-RUNS, LONGEST-REPORT}
 use Rattle.numbers.specs.Refusals.{ACCEPTED}
 use Rattle.pmtl.specs.Book.{properties}
 use Rattle.pmtl.specs.declared.Answer.{Answer}
 use Rattle.pmtl.specs.declared.Answer.the-variants.{False, True, Open}
 use Rattle.pmtl.specs.Answer.{digitOf, bitOf, known}
-use Rattle.pmtl.specs.Monitor.{value}
+use Rattle.pmtl.specs.Monitor.{fullest, value}
 use Rattle.pmtl.specs.Settled.{settled}
 use Rattle.pmtl.specs.Calls.{after, accepted}
 use Rattle.pmtl.specs.Meaning.{meaning}
 use Rattle.pmtl.proofs.Theorems.{demand-2, demand-3}
+use Rattle.pmtl.proofs.Fullest.{fullest-few}
 use Rattle.property_answers.specs.Verdict.{propertyAt, verdictIn}
-use Rattle.report.specs.Lines.{PropertyWord, CallLine, Line, called, wordOf, lines}
+use Rattle.report.specs.Lines.{PropertyWord, nothing, wordsIn, countIn, CallLine, Line, called, wordOf, lines}
 use Rattle.report.specs.Report.{written, report}
 use Rattle.slip.specs.Back.{linesIn}
 use Rattle.slip.specs.Says.{sectionsSaid, bookSaid, firstCalls, noLine, Says, Shape}
@@ -25,7 +26,7 @@ use Rattle.slip.specs.TakenOut.{CallAt, TakenOut, without}
 use Rattle.slip.specs.Longest.{longest}
 use Rattle.slip.proofs.Reading.{lines-back}
 use Rattle.slip.proofs.Places.{shape, called-line}
-use Rattle.slip.proofs.Sayings.{ordered, word-each, word-is, calls-go-on}
+use Rattle.slip.proofs.Sayings.{ordered, word-each, count-here, nothing-here, word-is, calls-go-on}
 use Rattle.slip.proofs.Traces.{no-trace, call-at}
 use Rattle.slip.proofs.Lengths.{at-most-longest, room-enough}
 
@@ -45,8 +46,20 @@ pub word-says : (input : List ℕ) {i p : ℕ} {w : PropertyWord} → Says (line
 word-says input s = word-is input s
 
 -- and an accepted line has such a word for each property
-pub word-for-each : (input : List ℕ) (i : ℕ) {l : CallLine} → getD (lines input) i noLine ≡ called l → l .refusal ≡ ACCEPTED → length (l .words) ≡ length (properties (bookSaid input))
+pub word-for-each : (input : List ℕ) (i : ℕ) {l : CallLine} → getD (lines input) i noLine ≡ called l → l .refusal ≡ ACCEPTED → length (wordsIn (l .rest)) ≡ length (properties (bookSaid input))
 word-for-each input i h z = word-each input (called-line input i h) z
+
+-- ---- THE COUNT, the last word of an accepted line: how many runs the fullest set has after the calls that the text says up to that line
+pub count-says : (input : List ℕ) (i : ℕ) {l : CallLine} → getD (lines input) i noLine ≡ called l → l .refusal ≡ ACCEPTED → countIn (l .rest) ≡ fullest (after (bookSaid input .rows) (firstCalls input i))
+count-says input i h z = count-here input (called-line input i h) z
+
+-- it never passes the limit
+pub count-few : (input : List ℕ) (i : ℕ) {l : CallLine} → getD (lines input) i noLine ≡ called l → l .refusal ≡ ACCEPTED → countIn (l .rest) ≤ MOST-RUNS
+count-few input i h z = rw (count-says input i h z) (fullest-few (bookSaid input .rows) (firstCalls input i))
+
+-- a refused line has neither words nor count
+pub refused-says-nothing : (input : List ℕ) (i : ℕ) {l : CallLine} → getD (lines input) i noLine ≡ called l → ¬ (l .refusal ≡ ACCEPTED) → l .rest ≡ nothing
+refused-says-nothing input i h n = nothing-here input (called-line input i h) n
 
 -- DEMAND 2 of the slip: the value digit is what the property's row means on those of the calls up to that line that were accepted
 pub value-means : (input : List ℕ) {i p : ℕ} {w : PropertyWord} → Says (lines input) i p w

@@ -14,7 +14,7 @@ use Rattle.pmtl.specs.Calls.{Call, Outcome, call, after}
 use Rattle.pmtl.proofs.Theorems.{refused-changes-nothing}
 use Rattle.book.specs.Reading.{Read, got, refused, Sections}
 use Rattle.book.specs.Judging.{Loaded, loadedFrom}
-use Rattle.report.specs.Lines.{PropertyWord, CallLine, Ending, Line, book, called, last, CallsRead, callThen, callsFrom, callsAfter, lineOf, linesOf, linesFrom, lines}
+use Rattle.report.specs.Lines.{Rest, CallLine, Ending, Line, book, called, last, CallsRead, callThen, callsFrom, callsAfter, lineOf, linesOf, linesFrom, lines}
 use Rattle.slip.specs.Says.{sectionsSaid, wordsAfter, noLine, missingCall}
 use Rattle.slip.specs.TakenOut.{callWords, allWords, Fits, AllFit, CallAt, TakenOut, lowered, without}
 use Rattle.slip.proofs.Words.{small-ending}
@@ -26,12 +26,12 @@ module _ (b : Book) (e : Ending) where
   ends : List CallLine → List Line
   ends cs = map called cs ++ last e ∷ []
 
-  numbered : {n m : ℕ} (r : ℕ) (ws : List PropertyWord) → n ≡ m → called (record { number = n; refusal = r; words = ws }) ≡ called (record { number = m; refusal = r; words = ws })
-  numbered r ws e = rw e
+  numbered : {n m : ℕ} (r : ℕ) (after : Rest) → n ≡ m → called (record { number = n; refusal = r; rest = after }) ≡ called (record { number = m; refusal = r; rest = after })
+  numbered r after e = rw e
 
   one-lower : (i : ℕ) (o : Outcome) → lowered (called (lineOf b (suc i) o)) ≡ called (lineOf b i o)
   unfolding lineOf
-  one-lower i o = numbered (lineOf b i o .refusal) (lineOf b i o .words) (omega arith)
+  one-lower i o = numbered (lineOf b i o .refusal) (lineOf b i o .rest) (omega arith)
 
   lower : (done : ℕ) (st : State) (ks : List Call) → map lowered (ends (linesOf b (suc done) st ks)) ≡ ends (linesOf b done st ks)
   unfolding ends linesOf

@@ -22,9 +22,13 @@ NUMBER-DIGITS = 5
 abbrev pub WORD-BYTES : ℕ
 WORD-BYTES = 4
 
--- an accepted call's line: its number, a space, 0, the words, a line feed. A refused one's is shorter
+-- the count, of at most two digits, with the space before it
+abbrev pub COUNT-BYTES : ℕ
+COUNT-BYTES = 3
+
+-- an accepted call's line: its number, a space, 0, the words, the count, a line feed. A refused one's is shorter
 abbrev pub LINE-BYTES : ℕ
-LINE-BYTES = NUMBER-DIGITS + 1 + 1 + WORD-BYTES * MOST-PROPERTIES + 1
+LINE-BYTES = NUMBER-DIGITS + 1 + 1 + WORD-BYTES * MOST-PROPERTIES + COUNT-BYTES + 1
 
 -- `book 0` and a line feed
 abbrev pub FIRST-BYTES : ℕ

@@ -11,7 +11,7 @@ use Rattle.pmtl.specs.Calls.{Call, call, after}
 use Rattle.pmtl.specs.Calls.Call.{time}
 use Rattle.book.specs.Reading.{Read, got, refused, Sections, sections}
 use Rattle.book.specs.Judging.{Loaded, refusedWith, loadedFrom}
-use Rattle.report.specs.Lines.{PropertyWord, CallLine, Ending, end, stop, Line, book, called, last, CallsRead, callsAfter, lineOf, lines}
+use Rattle.report.specs.Lines.{PropertyWord, nothing, wordsIn, CallLine, Ending, end, stop, Line, book, called, last, CallsRead, callsAfter, lineOf, lines}
 
 -- ---- what a text says
 -- the sections of its book
@@ -54,7 +54,7 @@ abbrev pub noWord : PropertyWord
 noWord = record { value = 2; early = 2; settled = 2 }
 
 abbrev pub noCallLine : CallLine
-noCallLine = record { number = 0; refusal = 0; words = [] }
+noCallLine = record { number = 0; refusal = 0; rest = nothing }
 
 abbrev pub missingCall : Call
 missingCall = time 0
@@ -64,8 +64,8 @@ pub record Says (ls : List Line) (i p : ℕ) (w : PropertyWord) : Type 0 where
   pub line : CallLine
   pub stands : getD ls i noLine ≡ called line
   pub accepted : line .refusal ≡ ACCEPTED
-  pub there : p < length (line .words)
-  pub word : getD (line .words) p noWord ≡ w
+  pub there : p < length (wordsIn (line .rest))
+  pub word : getD (wordsIn (line .rest)) p noWord ≡ w
 
 -- after a loaded book: a line for each call that the text says, in order, numbered from 1, and one last line
 pub record Whole (input : List ℕ) : Type 0 where

@@ -1,3 +1,4 @@
 pub mod Joins
 pub mod Puts
 pub mod Sets
+pub mod Fullest

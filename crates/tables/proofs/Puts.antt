@@ -1,29 +1,29 @@
 -- What a table that is worked out anew says, and that the others say what they said. Assumes nothing.
-use Prim.Native.Nat.{ℕ, zero, suc, _+_, _≤_, _<_}
+use Prim.Native.Nat.{ℕ, zero, suc, _+_, max, _≤_, _<_}
 use native.Mathlib.Numerals.{add-one}
 use native.Mathlib.Omega.{arith}
 use mathlib.Core.Path.{_≡_, refl, sym, ap, ap₂, _∙_}
 use mathlib.Core.Bool.{Bool, true, false, cond, _&&_}
 use mathlib.Core.List.{List}
-use lib.ListN.{getD, set}
-use lib.Seq.{set-getD}
+use lib.ListN.{getD, set, length-set}
+use lib.Seq.{set-getD, getD-set-same, getD-set-other}
 use lib.Dec.{eqb}
 use borrow.Author.Tests.{eqb-true}
 use Rattle.lists.specs.Lists.{filledFrom}
 use Rattle.lists.proofs.Tests.{and-left, and-right}
 use Rattle.lists.proofs.Filled.{filledFrom-at, filledFrom-before, filledFrom-after, filledFrom-more}
-use Rattle.numset.specs.Runs.{runs}
+use Rattle.numset.specs.Runs.{runs, held}
 use Rattle.pmtl.specs.declared.Answer.{Answer}
 use Rattle.pmtl.specs.declared.Answer.the-variants.{Open}
 use Rattle.pmtl.specs.Answer.{bitOf, digitOf}
 use Rattle.pmtl.specs.Book.{Row, Rows, rowAt, mapRow, Below}
 use Rattle.pmtl.proofs.Table.{mapRow-local, answer-in}
-use Rattle.pmtl.specs.Monitor.{State, value}
+use Rattle.pmtl.specs.Monitor.{State, fullest, value}
 use Rattle.pmtl.specs.Early.{early}
 use Rattle.pmtl.specs.Settled.{settled}
-use Rattle.memory.specs.Layout.{VALUES, TOLD, EARLY, SETTLED, MOVES, PROPERTIES}
-use Rattle.memory.specs.Memory.{rowCount, clockOf, temporals, slotWords, propertyRow, valueAt, toldAt, earlyAt, settledAt, movesAt, rowOf, rowsOf, stateOf, isOne}
-use Rattle.memory.specs.Tables.{standing, valueOf, earlyOf, settledOf, propertyCount, moveRule, moves, Valued, Told, Moving, Unused, Tables}
+use Rattle.memory.specs.Layout.{VALUES, TOLD, EARLY, SETTLED, MOVES, FULLEST, PROPERTIES}
+use Rattle.memory.specs.Memory.{rowCount, clockOf, temporals, slotWords, propertyRow, valueAt, toldAt, earlyAt, settledAt, movesAt, fullestWord, rowOf, rowsOf, stateOf, isOne}
+use Rattle.memory.specs.Tables.{standing, valueOf, earlyOf, settledOf, propertyCount, moveRule, moves, Valued, Told, Answered, Moving, Counts, Unused, Tables}
 use Rattle.memory.specs.Kept.{Sound}
 use Rattle.memory.specs.Alike.{Alike}
 use Rattle.memory.proofs.Bits.{bit-back}
@@ -31,7 +31,8 @@ use Rattle.memory.proofs.Rows.{rows-length, row-at, kept-ordered}
 use Rattle.memory.proofs.Alike.{alike-on, alike-filled, alike-sound, alike-rows, alike-state, alike-set}
 use Rattle.row_answers.specs.Told.{earlyTold}
 use Rattle.row_answers.proofs.Told.{told-early, told-settled, early-same, settled-same, alike-told}
-use Rattle.tables.specs.Puts.{bitIn, movesPut, valuesPut, standingAt, toldPut, toldAgain, earlyDigit, earlyPut, settledNow, settledDigit, settledPut}
+use Rattle.tables.specs.Puts.{bitIn, movesPut, valuesPut, standingAt, toldPut, countPut, toldAgain, earlyDigit, earlyPut, settledNow, settledDigit, settledPut}
+use Rattle.tables.proofs.Fullest.{mostTo, most-none, most-more, most-is-fullest}
 
 abbrev pub move-word : List ℕ → ℕ → ℕ
 move-word m r = bitOf (moves (rowsOf m) r)
@@ -83,6 +84,21 @@ module _ {m m′ : List ℕ} (sound : Sound m) (alike : Alike m m′) where
   moving-same same v =
       let few = few-rows sound in
       record { right = rw (same-rows, alike-rows sound alike) (λ r h. same r (omega arith) ∙ v .right r h) }
+
+  pub counts-same : fullestWord m′ ≡ fullestWord m → Counts m → Counts m′
+  counts-same same c = record { right = same ∙ c .right ∙ sym (ap fullest (alike-state sound alike)) }
+
+  pub answered-same : ((i : ℕ) → i < 32 → earlyAt m′ i ≡ earlyAt m i) → ((i : ℕ) → i < 32 → settledAt m′ i ≡ settledAt m i) → Answered m → Answered m′
+  answered-same early-is settled-is a =
+      let few = few-properties sound in
+      record {
+        early = rw same-properties (λ i h.
+            let p : i < 32 = omega arith in
+            early-is i p ∙ a .early i h ∙ sym (ap digitOf (ap (earlyOf m′) (same-property i p) ∙ answer-same early (propertyRow m i))));
+        settled = rw same-properties (λ i h.
+            let p : i < 32 = omega arith in
+            settled-is i p ∙ a .settled i h ∙ sym (ap digitOf (ap (settledOf m′) (same-property i p) ∙ answer-same settled (propertyRow m i))));
+      }
 
   -- so are the words not in use, as far as they are the same
   pub unused-same :
@@ -191,14 +207,15 @@ module _ {m : List ℕ} (sound : Sound m) where
   values-moving = let few = few-rows sound in moving-same sound values-alike (λ r h. values-after (MOVES + r) (omega arith))
 
 -- ---- what the rows are told
--- how far a loop has told them, and whether that is all as before
-pub record Telling (m : List ℕ) (n : ℕ) (m′ : List ℕ) (same : Bool) : Type 0 where
+-- how far a loop has told them, whether that is all as before, and the greatest count so far
+pub record Telling (m : List ℕ) (n : ℕ) (m′ : List ℕ) (same : Bool) (most : ℕ) : Type 0 where
   pub put : m′ ≡ filledFrom TOLD (standingAt m) m n
   pub again : same ≡ toldAgain m n
+  pub counted : most ≡ mostTo m n
 
-pub telling-start : (m : List ℕ) → Telling m 0 m true
+pub telling-start : (m : List ℕ) → Telling m 0 m true 0
 unfolding toldAgain
-telling-start m = record { put = refl; again = refl }
+telling-start m = record { put = refl; again = refl; counted = sym (most-none m) }
 
 -- where all is told again, nothing is new
 pub told-still : (m : List ℕ) (n : ℕ) → toldAgain m n ≡ true → filledFrom TOLD (standingAt m) m n ≡ m
@@ -209,24 +226,33 @@ told-still m (suc j) e =
     rw (told-still m j (and-left (toldAgain m j) _ e)) (ap (set m (TOLD + j)) (sym is) ∙ set-getD m (TOLD + j) 0)
 
 module _ {m : List ℕ} (sound : Sound m) where
-  module _ {n : ℕ} {m′ : List ℕ} {same : Bool} (t : Telling m n m′ same) where
+  module _ {n : ℕ} {m′ : List ℕ} {same : Bool} {most : ℕ} (t : Telling m n m′ same most) where
     alike : Alike m m′
     alike = rw (t .put) (alike-filled m TOLD (standingAt m) n (omega arith))
 
     pub telling-sound : Sound m′
     telling-sound = alike-sound sound alike
 
-    pub telling-more : n < temporals m → {words : List ℕ} {clock old new : ℕ} {same′ : Bool} → clock ≡ clockOf m → words ≡ slotWords m′ n → new ≡ standing clock (runs words) → old ≡ toldAt m′ n
-        → same′ ≡ (same && eqb old new) → Telling m (n + 1) (set m′ (TOLD + n) new) same′
+    pub telling-more : n < temporals m → {words again : List ℕ} {clock old new most′ : ℕ} {same′ : Bool} → clock ≡ clockOf m → words ≡ slotWords m′ n → new ≡ standing clock (runs words)
+        → again ≡ slotWords m′ n → most′ ≡ max most (held again) → old ≡ toldAt m′ n → same′ ≡ (same && eqb old new) → Telling m (n + 1) (set m′ (TOLD + n) new) same′ most′
     unfolding toldAgain
-    telling-more h {words} {clock} {old} {new} ec ew en eo es =
+    telling-more h {words} {again} {clock} {old} {new} ec ew en ea em eo es =
         let few = few-sets sound in
         let before : old ≡ toldAt m n = eo ∙ ap (λ (x : List ℕ). toldAt x n) (t .put) ∙ filledFrom-after TOLD (standingAt m) m 0 n (TOLD + n) (omega arith) in
         let is : new ≡ standingAt m n = en ∙ ap₂ (λ (c : ℕ) (ws : List ℕ). standing c (runs ws)) ec (ew ∙ alike-set sound alike n (omega arith)) in
         record {
           put = filledFrom-more TOLD (standingAt m) m (t .put) is;
           again = es ∙ rw (t .again, before, is, add-one);
+          counted = em ∙ ap₂ (λ (a : ℕ) (ws : List ℕ). max a (held ws)) (t .counted) (ea ∙ alike-set sound alike n (omega arith)) ∙ sym (most-more m n);
         }
+
+    -- once all are told
+    pub telling-counted : n ≡ temporals m → set m′ FULLEST most ≡ countPut (toldPut m)
+    telling-counted e =
+        let put : m′ ≡ toldPut m = t .put ∙ ap (filledFrom TOLD (standingAt m) m) e in
+        let is : most ≡ fullest (stateOf (toldPut m)) =
+        t .counted ∙ ap (mostTo m) e ∙ most-is-fullest sound ∙ sym (ap fullest (alike-state sound (alike-filled m TOLD (standingAt m) (temporals m) (omega arith)))) in
+        ap₂ (λ (x : List ℕ) (w : ℕ). set x FULLEST w) put is
 
   pub told-alike : Alike m (toldPut m)
   told-alike = alike-filled m TOLD (standingAt m) (temporals m) (omega arith)
@@ -255,6 +281,40 @@ module _ {m : List ℕ} (sound : Sound m) where
 
   pub told-moving : Moving m → Moving (toldPut m)
   told-moving = let few = few-sets sound in moving-same sound told-alike (λ r h. told-after (MOVES + r) (omega arith))
+
+-- ---- the count
+module _ {m : List ℕ} (sound : Sound m) where
+  count-other : (k : ℕ) → k < FULLEST → getD (countPut m) k 0 ≡ getD m k 0
+  count-other k h = getD-set-other m FULLEST k (fullest (stateOf m)) 0 (omega arith)
+
+  pub count-alike : Alike m (countPut m)
+  count-alike = record { long = length-set m FULLEST (fullest (stateOf m)); below = λ i h. count-other i (omega arith) }
+
+  pub count-sound : Sound (countPut m)
+  count-sound = alike-sound sound count-alike
+
+  pub count-counts : Counts (countPut m)
+  count-counts =
+      let long = sound .book .long in
+      record { right = getD-set-same m FULLEST (fullest (stateOf m)) 0 (omega arith) ∙ sym (ap fullest (alike-state sound count-alike)) }
+
+  pub count-valued : Valued m → Valued (countPut m)
+  count-valued = valued-same sound count-alike (λ r h. count-other (VALUES + r) (omega arith))
+
+  pub count-told : Told m → Told (countPut m)
+  count-told = told-same sound count-alike (λ j h. count-other (TOLD + j) (omega arith))
+
+  pub count-moving : Moving m → Moving (countPut m)
+  count-moving = moving-same sound count-alike (λ r h. count-other (MOVES + r) (omega arith))
+
+  pub count-answered : Answered m → Answered (countPut m)
+  count-answered = answered-same sound count-alike (λ i h. count-other (EARLY + i) (omega arith)) (λ i h. count-other (SETTLED + i) (omega arith))
+
+  pub count-unused : Unused m → Unused (countPut m)
+  count-unused =
+      unused-same sound count-alike
+      (λ r p q. count-other (VALUES + r) (omega arith)) (λ j p q. count-other (TOLD + j) (omega arith))
+      (λ i p q. count-other (EARLY + i) (omega arith)) (λ i p q. count-other (SETTLED + i) (omega arith)) (λ r p q. count-other (MOVES + r) (omega arith))
 
 -- ---- the digits, which are put by what was told
 module _ {m : List ℕ} (sound : Sound m) (a : ℕ) (f : ℕ → ℕ) (n : ℕ) (far : EARLY ≤ a) where
@@ -310,7 +370,7 @@ pub early-sound : {m : List ℕ} → Sound m → Sound (earlyPut m)
 early-sound {m} sound = alike-sound sound (digits-alike sound EARLY (earlyDigit m) (propertyCount m) (omega arith))
 
 -- ---- the tables are right once the digits are put where values and what was told are
-module _ {m : List ℕ} (sound : Sound m) (valued : Valued m) (told : Told m) (moving : Moving m) (unused : Unused m) where
+module _ {m : List ℕ} (sound : Sound m) (valued : Valued m) (told : Told m) (moving : Moving m) (counts : Counts m) (unused : Unused m) where
   abbrev early-put : List ℕ
   early-put = earlyPut m
 
@@ -377,6 +437,13 @@ module _ {m : List ℕ} (sound : Sound m) (valued : Valued m) (told : Told m) (m
       filledFrom-after SETTLED (settledDigit early-put) early-put 0 (propertyCount early-put) (MOVES + r) (omega (arith, count₁))
       ∙ filledFrom-after EARLY (earlyDigit m) m 0 (propertyCount m) (MOVES + r) (omega arith)) moving
 
+  counts₂ : Counts (settledPut early-put)
+  counts₂ =
+      let few = few-properties sound in
+      counts-same sound asked-alike
+      (filledFrom-after SETTLED (settledDigit early-put) early-put 0 (propertyCount early-put) FULLEST (omega (arith, count₁))
+      ∙ filledFrom-after EARLY (earlyDigit m) m 0 (propertyCount m) FULLEST (omega arith)) counts
+
   pub asked-tables : Tables (settledPut early-put)
   asked-tables =
       let count : propertyCount (settledPut early-put) ≡ propertyCount m = same-properties sound asked-alike in
@@ -385,12 +452,13 @@ module _ {m : List ℕ} (sound : Sound m) (valued : Valued m) (told : Told m) (m
         told = told₂;
         answered = record { early = rw count early-word; settled = rw count settled-word };
         moving = moving₂;
+        counts = counts₂;
         unused = unused₂;
       }
 
 -- ---- all of them, one after the other
-pub told-sound : {m : List ℕ} → Sound m → Sound (toldPut m)
-told-sound {m} sound = alike-sound sound (told-alike sound)
+pub told-sound : {m : List ℕ} → Sound m → Sound (countPut (toldPut m))
+told-sound {m} sound = count-sound (alike-sound sound (told-alike sound))
 
 pub values-put-sound : {m : List ℕ} → Sound m → Sound (valuesPut m)
 values-put-sound {m} sound = values-sound sound (rowCount m) refl
@@ -398,16 +466,22 @@ values-put-sound {m} sound = values-sound sound (rowCount m) refl
 pub moves-put-sound : {m : List ℕ} → Sound m → Sound (movesPut m)
 moves-put-sound {m} sound = alike-sound sound (moves-put-alike sound)
 
+-- what is told and counted, and the digits, put where the rest is right
+pub told-and-asked : {m : List ℕ} → Sound m → Valued m → Moving m → Unused m → {m′ : List ℕ} → m′ ≡ settledPut (earlyPut (countPut (toldPut m))) → Alike m m′ × Tables m′
+told-and-asked {m} sound valued moving unused e =
+    let sound₁ = alike-sound sound (told-alike sound) in
+    let sound₂ = count-sound sound₁ in
+    let valued₂ = count-valued sound₁ (told-valued sound valued) in
+    let told₂ = count-told sound₁ (told-told sound) in
+    let moving₂ = count-moving sound₁ (told-moving sound moving) in
+    let counts₂ = count-counts sound₁ in
+    let unused₂ = count-unused sound₁ (told-unused sound unused) in
+    rw e (alike-on (told-alike sound) (alike-on (count-alike sound₁) (asked-alike sound₂ valued₂ told₂ moving₂ counts₂ unused₂)), asked-tables sound₂ valued₂ told₂ moving₂ counts₂ unused₂)
+
 pub worked-out : {m : List ℕ} → Sound m → Unused m
-    → Alike m (settledPut (earlyPut (toldPut (valuesPut (movesPut m))))) × Tables (settledPut (earlyPut (toldPut (valuesPut (movesPut m)))))
+    → Alike m (settledPut (earlyPut (countPut (toldPut (valuesPut (movesPut m)))))) × Tables (settledPut (earlyPut (countPut (toldPut (valuesPut (movesPut m))))))
 worked-out {m} sound unused =
     let sound₀ = moves-put-sound sound in
-    let unused₀ = moves-unused sound unused in
-    let sound₁ = values-put-sound sound₀ in
-    let sound₂ = told-sound sound₁ in
-    let valued₂ = told-valued sound₁ (values-valued sound₀) in
-    let told₂ = told-told sound₁ in
-    let moving₂ = told-moving sound₁ (values-moving sound₀ (moves-moving sound)) in
-    let unused₂ = told-unused sound₁ (values-unused sound₀ unused₀) in
     let to₁ = alike-on (moves-put-alike sound) (values-alike sound₀) in
-    (alike-on to₁ (alike-on (told-alike sound₁) (asked-alike sound₂ valued₂ told₂ moving₂ unused₂)), asked-tables sound₂ valued₂ told₂ moving₂ unused₂)
+    let t = told-and-asked (values-put-sound sound₀) (values-valued sound₀) (values-moving sound₀ (moves-moving sound)) (values-unused sound₀ (moves-unused sound unused)) refl in
+    (alike-on to₁ (t .0), t .1)

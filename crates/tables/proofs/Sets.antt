@@ -1,5 +1,5 @@
 -- What is so of one set, as the code finds it. Assumes nothing.
-use Prim.Native.Nat.{ℕ, zero, suc, _+_, _*_, _≤_}
+use Prim.Native.Nat.{ℕ, zero, suc, _+_, _*_, max, _≤_, _<_}
 use native.Mathlib.Omega.{arith}
 use mathlib.Core.Path.{_≡_, refl, sym, _∙_}
 use mathlib.Core.Bool.{Bool, true, false, _&&_}
@@ -9,7 +9,8 @@ use lib.ListN.{getD}
 use lib.Dec.{ltb, eqb}
 use borrow.Author.Tests.{eq-eqb, ne-eqb}
 use Rattle.numbers.specs.Limits.{MAX}
-use Rattle.numset.specs.Runs.{lo, hi, runs, runsTo, covers, Covers, Good}
+use Rattle.numset.specs.Runs.{lo, hi, runs, runsTo, covers, Covers, Good, held}
+use Rattle.numset.proofs.Words.{length-runs}
 use Rattle.numset.proofs.Laws.{good-canonical}
 use Rattle.numset.proofs.Covering.{covers-test}
 use Rattle.pmtl.specs.Sets.{gone}
@@ -43,6 +44,13 @@ module _ {words : List ℕ} {clock : ℕ} {covered : Bool} (good : Good words) (
   pub stands-open : covered ≡ false → {none : Bool} → none ≡ gone clock (runs words) → none ≡ false → NEITHER ≡ standing clock (runs words)
   unfolding standing
   stands-open e en e′ = sym (rw (sym covers-is ∙ e, sym en ∙ e′))
+
+-- ---- the greater count
+pub count-greater : (words : List ℕ) (most count : ℕ) → count ≡ getD words 0 0 → most < count → count ≡ max most (held words)
+count-greater words most count e h = let l = length-runs words (getD words 0 0) in omega arith
+
+pub count-lesser : (words : List ℕ) (most count : ℕ) → count ≡ getD words 0 0 → count ≤ most → most ≡ max most (held words)
+count-lesser words most count e h = let l = length-runs words (getD words 0 0) in omega arith
 
 -- ---- the same as before
 pub still-same : (same : Bool) (old new : ℕ) → old ≡ new → same ≡ (same && eqb old new)

@@ -2,15 +2,16 @@
 use Prim.Native.Nat.{ℕ, zero, suc, _+_}
 use mathlib.Core.Bool.{Bool, true, cond, _&&_}
 use mathlib.Core.List.{List}
-use lib.ListN.{getD}
+use lib.ListN.{getD, set}
 use lib.Dec.{eqb}
 use Rattle.lists.specs.Lists.{filledFrom}
 use Rattle.numset.specs.Runs.{runs}
 use Rattle.pmtl.specs.declared.Answer.{Answer}
 use Rattle.pmtl.specs.declared.Answer.the-variants.{Open}
 use Rattle.pmtl.specs.Answer.{bitOf, digitOf}
-use Rattle.memory.specs.Layout.{VALUES, TOLD, EARLY, SETTLED, MOVES}
-use Rattle.memory.specs.Memory.{rowCount, begunWord, clockOf, temporals, slotWords, propertyRow, toldAt, isOne, rowsOf}
+use Rattle.memory.specs.Layout.{VALUES, TOLD, EARLY, SETTLED, MOVES, FULLEST}
+use Rattle.memory.specs.Memory.{rowCount, begunWord, clockOf, temporals, slotWords, propertyRow, toldAt, isOne, rowsOf, stateOf}
+use Rattle.pmtl.specs.Monitor.{fullest}
 use Rattle.memory.specs.Tables.{standing, moves, valueOf, propertyCount}
 use Rattle.row_answers.specs.Told.{earlyTold, settledTold}
 
@@ -33,7 +34,11 @@ standingAt m j = standing (clockOf m) (runs (slotWords m j))
 abbrev pub toldPut : List ℕ → List ℕ
 toldPut m = filledFrom TOLD (standingAt m) m (temporals m)
 
--- and whether that is what was told of the first n
+-- how many runs the fullest set has
+abbrev pub countPut : List ℕ → List ℕ
+countPut m = set m FULLEST (fullest (stateOf m))
+
+-- and whether what is so of the first n sets is what was told of them
 unfoldable pub toldAgain : List ℕ → ℕ → Bool
 toldAgain m zero = true
 toldAgain m (suc j) = toldAgain m j && eqb (toldAt m j) (standingAt m j)

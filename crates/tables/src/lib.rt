@@ -2,9 +2,9 @@
 ghost use mathlib.Core.Path.{_≡_};
 ghost use mathlib.Core.Bool.{Bool, true, cond, _&&_};
 ghost use mathlib.Core.List.{map};
-ghost use Prim.Native.Nat.{_+_, _≤_, _<_};
+ghost use Prim.Native.Nat.{_+_, _≤_, _<_, max};
 ghost use lib.Dec.{eqb};
-ghost use Rattle.numset.specs.Runs.{Good, runs};
+ghost use Rattle.numset.specs.Runs.{Good, runs, held};
 ghost use Rattle.pmtl.specs.Sets.{gone};
 ghost use Rattle.numbers.specs.Limits.{MOST-ROWS};
 ghost use Rattle.pmtl.specs.Book.{mapRow};
@@ -15,10 +15,11 @@ ghost use Rattle.memory.specs.Kept.{BookKept, Span, Sound};
 ghost use Rattle.memory.specs.Alike.{Alike};
 ghost use Rattle.row_answers.specs.Told.{settledTold};
 ghost use Rattle.row_answers.specs.Private.{joined};
-ghost use Rattle.tables.specs.Puts.{bitIn, movesPut, valuesPut, toldPut, earlyPut, settledPut, toldAgain};
+ghost use Rattle.tables.specs.Puts.{bitIn, movesPut, valuesPut, toldPut, countPut, earlyPut, settledPut, toldAgain};
 use book::HISTORICALLY;
 use memory::COVERS;
 use memory::EARLY;
+use memory::FULLEST;
 use memory::GONE;
 use memory::MOVES;
 use memory::NEITHER;
@@ -114,6 +115,15 @@ fn standing(set: &[u64], clock: u64) -> u64
     NEITHER
 }
 
+// The greater count: that of before, or how many runs this set has.
+fn fuller(most: u64, set: &[u64]) -> u64
+    requires { ⌜ Good (now set) ⌝ }
+    ensures { λ r. ⌜ r ≡ max most (held (now (set .entry))) ⌝ }
+{
+    let count = set[0];
+    if most < count { count } else { most }
+}
+
 // Whether all is as before, and this is, too.
 fn still(same: bool, old: u64, new: u64) -> bool
     ensures { λ r. ⌜ r ≡ (same && eqb old new) ⌝ }
@@ -121,21 +131,24 @@ fn still(same: bool, old: u64, new: u64) -> bool
     if old == new { same } else { false }
 }
 
-// Tells the rows anew what is so of their sets. Whether that is all as before.
+// Tells the rows anew what is so of their sets. Whether that is all as before. The same walk finds how many runs the fullest set has.
 pub fn retell(monitor: &mut [u64; SIZE]) -> bool
     requires { ⌜ Sound (now monitor) ⌝ }
-    ensures { λ r. ⌜ (now (monitor .exit) ≡ toldPut (now (monitor .entry))) × (r ≡ toldAgain (now (monitor .entry)) (temporals (now (monitor .entry)))) ⌝ }
+    ensures { λ r. ⌜ (now (monitor .exit) ≡ countPut (toldPut (now (monitor .entry)))) × (r ≡ toldAgain (now (monitor .entry)) (temporals (now (monitor .entry)))) ⌝ }
 {
     let clock = memory::clock(monitor);
     let count = memory::temporal_count(monitor);
     let mut same = true;
+    let mut most = 0;
     let mut slot = 0;
     while slot < count {
         let new = standing(memory::set_at(monitor, slot), clock);
+        most = fuller(most, memory::set_at(monitor, slot));
         same = still(same, memory::told_at(monitor, slot), new);
         monitor[TOLD + slot] = new;
         slot += 1;
     }
+    monitor[FULLEST] = most;
     same
 }
 

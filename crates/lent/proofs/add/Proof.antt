@@ -44,13 +44,15 @@ use Rattle.numset.specs.declared.by_value.NumSet.{NumSet}
 use Rattle.numset.specs.declared.by_value.Added.{Added}
 use Rattle.numset.proofs.by_value.NumSet as T
 use Rattle.numset.proofs.by_value.NumSet.Laws as T′
+use Rattle.numset.proofs.Tally as K
+use Rattle.numset.proofs.Tally.Laws as K′
 use Rattle.numset.proofs.by_value.Added as G
 use Rattle.numset.proofs.by_value.Added.Laws as G′
 use Rattle.numset.proofs.by_value.NumSet.add as by-value
 use Rattle.numset.proofs.by_value.NumSet.add.Symbol as by-value-def
 use Rattle.numset.proofs.by_value.NumSet.add.Symbol.{name as #by-value}
 use Rattle.numset.proofs.by_value.NumSet.add.Met as by-value-thm
-use Rattle.lent.proofs.Sets.{set-val, Typed, Says}
+use Rattle.lent.proofs.Sets.{set-val, Typed, tally-val, Told, Says}
 use Rattle.lent.proofs.add.Key.{name as #lent·add}
 use Rattle.lent.proofs.add as add
 use Rattle.lent.proofs.add.Statement as stated
@@ -60,15 +62,15 @@ abbrev stayed : Stays (add.ended .signature .params) (add.ended .kept)
 stayed = (stay-ref (0 ∷ []) tt (plain (λ _. T.the-row)), (stay-none (λ _. u64) yes, (stay-none (λ _. u64) yes, tt)))
 
 -- what whoever holds an answer knows of its two fields
-number-fits : (r : Added) (vs : List Val) → Is G.the-row r vs → r .number < 2 ^ 64
-number-fits r vs is = LL.owed G.the-type G′.the-laws r vs is .0 .1
+tally-is : (r : Added) (vs : List Val) → Is G.the-row r vs → Told (r .tally)
+tally-is r vs is = LL.owed G.the-type G′.the-laws r vs is .0
 
 set-is : (r : Added) (vs : List Val) → Is G.the-row r vs → Typed (r .set)
 set-is r vs is = LL.owed G.the-type G′.the-laws r vs is .1 .0
 
 -- the claim, of an answer
 abbrev Answers : NumSet → ℕ → ℕ → Added → Type 0
-Answers h l u r = Says h l u (r .number) (r .set)
+Answers h l u r = Says h l u (r .tally) (r .set)
 
 module _ {M : Type 1} (𝓤 : URA M) (H : Heap 𝓤) (A : Atoms 𝓤) (mem : Memory → SProp 𝓤) (run : Routine → Fun 𝓤) where
   -- the contract that the proof cites, and its clause
@@ -91,14 +93,14 @@ module _ {M : Type 1} (𝓤 : URA M) (H : Heap 𝓤) (A : Atoms 𝓤) (W : Given
   abbrev Post : Val → SProp 𝓤
   Post = walkOf 𝓤 H A add.ended stayed (add.clauses 𝓤 H A at-mem run) .post (((κ, tt), (q, tt), tt, x, at), tt)
 
-  exits : (r : Added) → r .number < 2 ^ 64 → Answers h l u r
-      → ent 𝓤 (sep 𝓤 (A .obs γ (T.the-row .coded .code (r .set))) (sep 𝓤 (A .bor κ (Body (mem T.the-row) b o γ)) (A .lft κ q))) (Post (vint w64 (r .number)))
-  exits r fits e =
+  exits : (r : Added) → Told (r .tally) → Answers h l u r
+      → ent 𝓤 (sep 𝓤 (A .obs γ (T.the-row .coded .code (r .set))) (sep 𝓤 (A .bor κ (Body (mem T.the-row) b o γ)) (A .lft κ q))) (Post (tally-val (r .tally)))
+  exits r told e =
       qed W (‵ (fobs γ (T.the-row .coded .code (r .set))) ∷ ‵ (fbor κ (Body (mem T.the-row) b o γ)) ∷ ‵ (flft κ q) ∷ []) ∵
-      suffices ! _ (ends-at 𝓤 H A add.ended stayed (add.clauses 𝓤 H A at-mem run) W (((κ, tt), (q, tt), tt, x, at), tt) (vint w64 (r .number)) (r .number) (r .set, (tt, (tt, tt))) (tt, (tt, (tt, tt)))) $ says ! e $
+      suffices ! _ (ends-at 𝓤 H A add.ended stayed (add.clauses 𝓤 H A at-mem run) W (((κ, tt), (q, tt), tt, x, at), tt) (tally-val (r .tally)) (r .tally) (r .set, (tt, (tt, tt))) (tt, (tt, (tt, tt)))) $ says ! e $
       nothing ! $ move ! (3 ∷ 0 ∷ []) $ join ! $ frame ! $ feqI ! (List Val) (vptr b o ∷ []) (vptr b o ∷ []) refl $ fjoin3 ! $
       nothing ! $ owned ! u64 (Is u64) (uint-makes 𝓤 H A W w64) u _ (refl, u-fits) $ fjoin ! $ owned ! u64 (Is u64) (uint-makes 𝓤 H A W w64) l _ (refl, l-fits) $ fjoin ! $ move ! (1 ∷ 0 ∷ []) $ fjoin ! $
-      owned ! u64 (Is u64) (uint-makes 𝓤 H A W w64) (r .number) _ (refl, fits) $ move ! (1 ∷ 0 ∷ []) $ done !
+      owned ! K.the-row (Is K.the-row) (LL.makes K.the-type K′.the-plain 𝓤 H A) (r .tally) _ told $ move ! (1 ∷ 0 ∷ []) $ done !
 
   -- what the callee's triple binds outside, and its `pre`, which is had for nothing: a set and two numbers are plain data
   abbrev passed : ByValue 𝓤 H A at-mem run .Ghost
@@ -128,12 +130,12 @@ module _ {M : Type 1} (𝓤 : URA M) (H : Heap 𝓤) (A : Atoms 𝓤) (W : Given
         land ! (from ! (stop !)) (init ! 6 refl (LL.lawful G.the-type G′.the-laws 𝓤 H A W .typed r _ is .0)) $ rewrite ! 6 (λ (v : Val). ‵ (fat fullShare G′.mir l₄ 0 v)) (ap only (LL.tells G.the-type G′.the-laws r _ is)) refl $
         -- [the set's cell; the open borrow; obs; auth; _5; …; _4, the answer; …; _3; …; _2; …; _1; …; room for _0; …]
         assigns ! (of-opd ! (load ! (from ! (fld ! refl (stop !))) (look-in ! 6 (sub ! 1 refl (whole !))))) (from ! (hop ! (look ! 12 refl) (stop !))) (store-raw ! 0 refl (LL.lawful T.the-type T′.the-laws 𝓤 H A W .typed (r .set) _ (set-is r _ is) .0)) $
-        assigns ! (of-opd ! (load ! (from ! (fld ! refl (stop !))) (look-in ! 6 (sub ! 0 refl (whole !))))) (from ! (stop !)) (init ! 14 refl (tt, record { fits = number-fits r _ is })) $
+        assigns ! (of-opd ! (load ! (from ! (fld ! refl (stop !))) (look-in ! 6 (sub ! 0 refl (whole !))))) (from ! (stop !)) (init ! 14 refl (LL.lawful K.the-type K′.the-laws 𝓤 H A W .typed (r .tally) _ (tally-is r _ is) .0)) $
         owned ! T.the-row (Is T.the-row) (LL.makes T.the-type T′.the-plain 𝓤 H A) (r .set) (set-val (r .set) ∷ []) (set-is r _ is) $ move ! (1 ∷ 0 ∷ []) $ closes ! tt T.the-row (r .set) (set-val (r .set) ∷ []) b o $
         -- [obs; the borrow; the token; _5; …; _4; …; _3; …; _2; …; _1; …; _0; …]
         returns ! (look ! 13 refl) $ forget ! 3 refl $ forget ! 5 refl $ forget ! 7 refl $ forget ! 9 refl $ forget ! 11 refl $ forget ! 13 refl $
         move ! (13 ∷ 14 ∷ []) $ free1 ! $ move ! (11 ∷ 12 ∷ []) $ free1 ! $ move ! (9 ∷ 10 ∷ []) $ free1 ! $ move ! (7 ∷ 8 ∷ []) $ free1 ! $ move ! (5 ∷ 6 ∷ []) $ free1 ! $ move ! (3 ∷ 4 ∷ []) $ free1 ! $ free0 ! $
-        by ! (exits r (number-fits r _ is) e)))))))))))))
+        by ! (exits r (tally-is r _ is) e)))))))))))))
 
 module _ {M : Type 1} (𝓤 : URA M) (H : Heap 𝓤) (A : Atoms 𝓤) (W : Given 𝓤 H A) (mem : Memory → SProp 𝓤) (run : Routine → Fun 𝓤) where
   add-walks : (C : Calls 𝓤 H) (Λ : Loops 𝓤 H) → FmC 𝓤 H (W .laws) C → Triple 𝓤 (C #by-value) (ByValue 𝓤 H A mem run) → Walks 𝓤 H A add.ended stayed (WpFn 𝓤 H C Λ code.function) (add.clauses 𝓤 H A mem run)

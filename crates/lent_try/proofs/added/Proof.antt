@@ -9,7 +9,7 @@ added-requires : tie.Need-added-requires
 added-requires c κs = search needs
 
 returns : tie.Need-returns
-returns c = rw (c .added .ensures .1) (added-good _ _ _ (c .before .pre) (omega arith))
+returns c = rw (c .added .ensures .2) (added-good _ _ _ (c .before .pre) (omega arith))
 
 pub added-spec : {M : Type 1} → statement M
 added-spec = tie.close (tie.spec added-requires returns)

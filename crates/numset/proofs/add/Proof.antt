@@ -1,43 +1,22 @@
 -- `numset::add` meets its contract. Assumes nothing.
-use mathlib.Core.Path.{sym, _∙_}
-use Rattle.numset.proofs.Place.{added-none}
 use borrow.Author.Needs.{needs}
+use Rattle.numset.proofs.Changes.{counted}
 use Rattle.numset.proofs.add.Statement.{statement}
 use Rattle.numset.proofs.add.Tie as tie
 
-returns : tie.Need-returns
-returns c = added-none (c .before .before .pre) (c .if1 .taken)
+join-in-requires : tie.Need-join-in-requires
+join-in-requires c κs = search needs
 
-takes-in-requires : tie.Need-takes-in-requires
-takes-in-requires c κs = search needs
-
-lengthen-requires : tie.Need-lengthen-requires
-lengthen-requires c κs = (c .before .before .before .before .before .before .pre, (c .before .before .before .before .if1 .left, sym (c .before .before .takes-in .ensures) ∙ c .before .if2 .taken))
+slice-read-count : tie.Need-slice-read-count
+slice-read-count c = search needs
 
 same-length : tie.Need-same-length
 same-length c = search needs
 
-returns-2 : tie.Need-returns-2
-returns-2 c = search needs
-
-put-requires : tie.Need-put-requires
-put-requires c κs = search needs
-
-same-length-2 : tie.Need-same-length-2
-same-length-2 c = search needs
-
-returns-3 : tie.Need-returns-3
-returns-3 c = search needs
+returns : tie.Need-returns
+returns c =
+    let j = c .before .before .before .join-in .ensures in
+    (j .0, counted _ _ _ _ (j .1), j .1)
 
 pub add-spec : {M : Type 1} → statement M
-add-spec =
-    tie.close
-    (tie.spec
-    returns
-    takes-in-requires
-    lengthen-requires
-    same-length
-    returns-2
-    put-requires
-    same-length-2
-    returns-3)
+add-spec = tie.close (tie.spec join-in-requires slice-read-count same-length returns)

@@ -43,8 +43,8 @@ slice-aggregate-text c = search needs
 text-requires : tie.Need-text-requires Inv-loop μ-loop
 text-requires c κs = search needs
 
-tally-requires : tie.Need-tally-requires Inv-loop μ-loop
-tally-requires c κs = search needs
+many-requires : tie.Need-many-requires Inv-loop μ-loop
+many-requires c κs = search needs
 
 same-length : tie.Need-same-length Inv-loop μ-loop
 same-length c = search needs
@@ -68,6 +68,6 @@ fill-spec =
     loop-again
     slice-aggregate-text
     text-requires
-    tally-requires
+    many-requires
     same-length
     returns)

@@ -25,7 +25,7 @@ same-length-2 : tie.Need-same-length-2
 same-length-2 c = search needs
 
 returns-2 : tie.Need-returns-2
-returns-2 c = let s = c .before .before .before .before .before .before .before .before .before .before .before in change-1 (s .args .mode) (s .args .lower) (s .args .upper) (s .args .clock) (s .pre .0) (s .pre .1) (c .before .before .before .before .before .before .drop-before2 .ensures) (c .before .before .add .ensures .1) (c .before .before .before .before .before .before .before .before .if2 .taken)
+returns-2 c = let s = c .before .before .before .before .before .before .before .before .before .before .before in change-1 (s .args .mode) (s .args .lower) (s .args .upper) (s .args .clock) (s .pre .0) (s .pre .1) (c .before .before .before .before .before .before .drop-before2 .ensures) (c .before .before .add .ensures .2) (c .before .before .before .before .before .before .before .before .if2 .taken)
 
 clear-requires : tie.Need-clear-requires
 clear-requires c κs = search needs

@@ -25,7 +25,7 @@ const RANGES: [&str; 17] = [
 ];
 
 pub fn required() -> Vec<String> {
-    [kinds(), early_rules(), settled_rules(), ranges(), refusals()].concat()
+    [kinds(), early_rules(), settled_rules(), ranges(), counts(), refusals()].concat()
 }
 
 /// Every kind's value both ways, and its early and settled answers every way.
@@ -38,6 +38,11 @@ fn kinds() -> Vec<String> {
         }
     }
     all
+}
+
+/// The count from none to a full set.
+fn counts() -> Vec<String> {
+    ["0", "1", "over 1", "full"].map(|count| format!("count {count}")).to_vec()
 }
 
 /// Every case that an early rule tells apart.

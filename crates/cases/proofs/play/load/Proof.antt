@@ -21,8 +21,14 @@ slice-aggregate-text c = search needs
 text-requires : tie.Need-text-requires
 text-requires c κs = search needs
 
-outcome-requires : tie.Need-outcome-requires
-outcome-requires c κs = search needs
+answered-requires : tie.Need-answered-requires
+answered-requires c κs = search needs
+
+slice-aggregate-text-2 : tie.Need-slice-aggregate-text-2
+slice-aggregate-text-2 c = search needs
+
+text-requires-2 : tie.Need-text-requires-2
+text-requires-2 c κs = search needs
 
 returns : tie.Need-returns
 returns c = search needs
@@ -36,5 +42,7 @@ load-spec =
     load-requires
     slice-aggregate-text
     text-requires
-    outcome-requires
+    answered-requires
+    slice-aggregate-text-2
+    text-requires-2
     returns)

@@ -29,11 +29,11 @@ text-requires-2 c κs = search needs
 interval-requires : tie.Need-interval-requires
 interval-requires c κs = search needs
 
-slice-aggregate-result : tie.Need-slice-aggregate-result
-slice-aggregate-result c = search needs
+slice-aggregate-counted : tie.Need-slice-aggregate-counted
+slice-aggregate-counted c = search needs
 
-result-requires : tie.Need-result-requires
-result-requires c κs = rw (c .before .before .before .before .before .before .add .ensures .1) (added-good _ _ _ (c .before .before .before .before .before .before .before .before .before .before .before .before .pre) (omega arith))
+counted-requires : tie.Need-counted-requires
+counted-requires c κs = rw (c .before .before .before .before .before .before .add .ensures .2) (added-good _ _ _ (c .before .before .before .before .before .before .before .before .before .before .before .before .pre) (omega arith))
 
 returns : tie.Need-returns
 returns c = search needs
@@ -50,6 +50,6 @@ add-value-spec =
     slice-aggregate-text-2
     text-requires-2
     interval-requires
-    slice-aggregate-result
-    result-requires
+    slice-aggregate-counted
+    counted-requires
     returns)

@@ -12,7 +12,7 @@ same-length : tie.Need-same-length
 same-length c = search needs
 
 returns : tie.Need-returns
-returns c = rw (c .before .before .add .ensures .1) (added-good _ _ _ (c .before .before .before .before .before .pre) (omega arith))
+returns c = rw (c .before .before .add .ensures .2) (added-good _ _ _ (c .before .before .before .before .before .pre) (omega arith))
 
 pub added-spec : {M : Type 1} → statement M
 added-spec = tie.close (tie.spec add-requires same-length returns)

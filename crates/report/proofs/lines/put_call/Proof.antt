@@ -7,8 +7,8 @@ use Rattle.report.proofs.lines.put_call.Tie as tie
 put-numbers-requires : tie.Need-put-numbers-requires
 put-numbers-requires c κs = c .before .before .before .pre .1
 
-put-words-requires : tie.Need-put-words-requires
-put-words-requires c κs = c .before .before .before .before .before .before .before .before .pre .0
+put-rest-requires : tie.Need-put-rest-requires
+put-rest-requires c κs = c .before .before .before .before .before .before .before .before .pre .0
 
 slice-aggregate-put-bytes : tie.Need-slice-aggregate-put-bytes
 slice-aggregate-put-bytes c = search needs
@@ -20,7 +20,7 @@ same-length : tie.Need-same-length
 same-length c = search needs
 
 returns : tie.Need-returns
-returns c = line-accepted _ _ _ ((c .before .before .before .before .before .before .before .before .before .before .before .before) .put-numbers .ensures) ((c .before .before .before .before .before .before .before .before .before) .if1 .taken) ((c .before .before .before .before .before .before .before) .put-words .ensures) ((c .before .before) .put-bytes .ensures)
+returns c = line-accepted _ _ _ ((c .before .before .before .before .before .before .before .before .before .before .before .before) .put-numbers .ensures) ((c .before .before .before .before .before .before .before .before .before) .if1 .taken) ((c .before .before .before .before .before .before .before) .put-rest .ensures) ((c .before .before) .put-bytes .ensures)
 
 slice-aggregate-put-bytes-2 : tie.Need-slice-aggregate-put-bytes-2
 slice-aggregate-put-bytes-2 c = search needs
@@ -39,7 +39,7 @@ put-call-spec =
     tie.close
     (tie.spec
     put-numbers-requires
-    put-words-requires
+    put-rest-requires
     slice-aggregate-put-bytes
     put-bytes-requires
     same-length

@@ -28,7 +28,7 @@ update-time-requires c κs = search needs
 
 returns-2 : tie.Need-returns-2
 unfolding Turned
-returns-2 c = timed _ _ (sym ((c .before .before .before .before .before) .next-word .ensures) ∙ (c .before .before .before) .r .given .1) (c .update-time .ensures)
+returns-2 c = timed _ _ (sym ((c .before .before .before .before .before) .next-word .ensures) ∙ (c .before .before .before) .r .given .1) (c .update-time .ensures .0)
 
 pub time-call-spec : {M : Type 1} → statement M
 time-call-spec =

@@ -1,14 +1,14 @@
--- `cases::play::outcome` is safe and ends. The loop's invariant stands first. Assumes nothing.
+-- `cases::play::answered` is safe and ends. The loop's invariant stands first. Assumes nothing.
 use Prim.Native.Nat.{_≤_, _-_}
 use borrow.Author.Needs.{needs}
-use Rattle.cases.proofs.play.outcome.Statement.{statement}
-use Rattle.cases.proofs.play.outcome.Tie as tie
+use Rattle.cases.proofs.play.answered.Statement.{statement}
+use Rattle.cases.proofs.play.answered.Tie as tie
 
 abbrev Inv-loop : tie.InvT-loop
-Inv-loop refusal monitor count i₀ t7 i = i ≤ count
+Inv-loop refusal monitor count i₀ i = i ≤ count
 
 abbrev μ-loop : tie.MeasureT-loop
-μ-loop refusal monitor count i₀ t7 i = count - i
+μ-loop refusal monitor count i₀ i = count - i
 
 slice-aggregate-text : tie.Need-slice-aggregate-text Inv-loop μ-loop
 slice-aggregate-text c = search needs
@@ -40,17 +40,11 @@ loop-less c = search needs
 loop-again : tie.Need-loop-again Inv-loop μ-loop
 loop-again c = search needs
 
-slice-aggregate-text-2 : tie.Need-slice-aggregate-text-2 Inv-loop μ-loop
-slice-aggregate-text-2 c = search needs
-
-text-requires-2 : tie.Need-text-requires-2 Inv-loop μ-loop
-text-requires-2 c κs = search needs
-
 returns : tie.Need-returns Inv-loop μ-loop
 returns c = search needs
 
-pub outcome-spec : {M : Type 1} → statement M
-outcome-spec =
+pub answered-spec : {M : Type 1} → statement M
+answered-spec =
     tie.close
     (tie.spec
     Inv-loop
@@ -65,6 +59,4 @@ outcome-spec =
     add-i
     loop-less
     loop-again
-    slice-aggregate-text-2
-    text-requires-2
     returns)

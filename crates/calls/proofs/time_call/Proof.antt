@@ -1,11 +1,11 @@
--- `calls::update_time` meets its contract: refused for itself, or played. Assumes nothing.
+-- `calls::time_call` meets its contract: refused for itself, or played. Assumes nothing.
 use mathlib.Core.Path.{ap, sym}
 use mathlib.Core.Bool.{true≢false}
 use lib.Dec.{eqb}
 use Rattle.calls.proofs.Public.{time-early, time-late, time-full, time-due, time-done}
 use borrow.Author.Needs.{needs}
-use Rattle.calls.proofs.update_time.Statement.{statement}
-use Rattle.calls.proofs.update_time.Tie as tie
+use Rattle.calls.proofs.time_call.Statement.{statement}
+use Rattle.calls.proofs.time_call.Tie as tie
 
 clock-requires : tie.Need-clock-requires
 clock-requires c κs = search needs
@@ -34,8 +34,8 @@ renew-requires c κs = time-due ((c .before .before .before .before .before .bef
 returns-4 : tie.Need-returns-4
 returns-4 c = time-done ((c .before .before .before .before .before .before .before .before .before .before .before .before) .pre) ((c .before .before .before .before .before .before .before .before .before .before) .clock .ensures) ((c .before .before .before .before .before .before .before .before .before) .if1 .left) ((c .before .before .before .before .before .before .before .before) .if2 .left) ((c .before .before .before) .advance .ensures) ((c .before .before) .if3 .left) (c .renew .ensures)
 
-pub update-time-spec : {M : Type 1} → statement M
-update-time-spec =
+pub time-call-spec : {M : Type 1} → statement M
+time-call-spec =
     tie.close
     (tie.spec
     clock-requires

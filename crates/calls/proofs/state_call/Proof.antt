@@ -1,11 +1,11 @@
--- `calls::update_state` meets its contract: refused for itself, or played. Assumes nothing.
+-- `calls::state_call` meets its contract: refused for itself, or played. Assumes nothing.
 use mathlib.Core.Path.{ap}
 use lib.Dec.{eqb}
 use native.Mathlib.Omega.{arith}
 use Rattle.calls.proofs.Public.{state-wide, state-short, state-other, state-timely, state-full, state-roomy, state-due, state-done}
 use borrow.Author.Needs.{needs}
-use Rattle.calls.proofs.update_state.Statement.{statement}
-use Rattle.calls.proofs.update_state.Tie as tie
+use Rattle.calls.proofs.state_call.Statement.{statement}
+use Rattle.calls.proofs.state_call.Tie as tie
 
 returns : tie.Need-returns
 returns c = state-wide ((c .before .before) .pre) ((c .before .before) .args .state .now) (c .if1 .taken)
@@ -43,8 +43,8 @@ renew-requires c κs = state-due ((c .before .before .before .before .before .be
 returns-5 : tie.Need-returns-5
 returns-5 c = state-done ((c .before .before .before .before .before .before .before .before .before .before .before .before .before .before .before .before .before .before) .pre) ((c .before .before .before .before .before .before .before .before .before .before .before .before .before .before .before .before .before .before) .args .state .now) ((c .before .before .before .before .before .before .before .before .before .before .before .before .before .before .before .before) .if1 .left) ((c .before .before .before .before .before .before .before .before .before .before .before .before .before .before) .width .ensures) ((c .before .before .before .before .before .before .before .before .before .before .before .before .before) .if2 .left) ((c .before .before .before .before .before .before .before .before .before .before .before .before) .has-other .ensures) ((c .before .before .before .before .before .before .before .before .before .before .before) .if3 .left) ((c .before .before .before .before .before .before .before) .clock .ensures) ((c .before .before .before .before .before) .advance .ensures) ((c .before .before .before .before) .if4 .left) ((c .before .before) .put-atoms .ensures) (c .renew .ensures)
 
-pub update-state-spec : {M : Type 1} → statement M
-update-state-spec =
+pub state-call-spec : {M : Type 1} → statement M
+state-call-spec =
     tie.close
     (tie.spec
     returns

@@ -1,0 +1,85 @@
+-- How full the fullest set of a monitor is: no set has more runs, it is 0 for a fresh monitor, and it never passes the limit. Assumes nothing.
+use Prim.Native.Nat.{ℕ, zero, suc, max, _≤_, _<_}
+use native.Mathlib.Omega.{arith}
+use mathlib.Core.Path.{_≡_, refl, sym, _∙_}
+use mathlib.Core.Bool.{Bool, true, false}
+use mathlib.Core.Logic.{⊎-elim}
+use mathlib.Core.List.{List, [], _∷_}
+use lib.ListN.{length, getD, replicate}
+use lib.Dec.{ltb, eqb}
+use borrow.Author.Tests.{lt-ltb}
+use Rattle.numbers.specs.Limits.{MOST-RUNS}
+use Rattle.lists.proofs.Tests.{lt-or-ge, clash, fails-by, or-left, or-right}
+use Rattle.numset.specs.Runs.{Runs}
+use Rattle.pmtl.specs.Book.{Rows, some}
+use Rattle.pmtl.specs.Monitor.{Snap, State, setAt, mostRuns, fullest, initial, step}
+use Rattle.pmtl.specs.Calls.{Call, turns, refusal, crowded, Outcome, play, call, after}
+
+-- no set has more runs
+pub most-at : (ss : List Runs) (r : ℕ) → length (getD ss r []) ≤ mostRuns ss
+unfolding mostRuns
+most-at [] r = omega arith
+most-at (s ∷ ss) zero = omega arith
+most-at (s ∷ ss) (suc r) = let h = most-at ss r in omega arith
+
+-- and nothing less is as many as each has
+pub most-least : (ss : List Runs) (n : ℕ) → ((r : ℕ) → r < length ss → length (getD ss r []) ≤ n) → mostRuns ss ≤ n
+unfolding mostRuns
+most-least [] n f = omega arith
+most-least (s ∷ ss) n f =
+    let h = f 0 (omega arith) in
+    let k = most-least ss n (λ r l. f (suc r) (omega arith)) in
+    omega arith
+
+none-most : (n : ℕ) → mostRuns (replicate n []) ≡ 0
+unfolding mostRuns
+none-most zero = refl
+none-most (suc n) = rw (none-most n)
+
+-- a fresh monitor has no runs
+pub fresh-none : (b : Rows) → fullest (initial b) ≡ 0
+unfolding initial
+fresh-none b = none-most (length b)
+
+-- ---- the limit
+abbrev crowd : Runs → Bool
+crowd s = ltb MOST-RUNS (length s)
+
+few : (ss : List Runs) → some crowd ss ≡ false → mostRuns ss ≤ MOST-RUNS
+unfolding some mostRuns
+few [] e = omega arith
+few (s ∷ ss) e =
+    let k = few ss (fails-by (some crowd ss) (λ t. clash (or-right (crowd s) (some crowd ss) t) e)) in
+    ⊎-elim (λ l. absurd (clash (or-left (crowd s) (some crowd ss) (lt-ltb MOST-RUNS (length s) l)) e)) (λ g. omega arith) (lt-or-ge MOST-RUNS (length s))
+
+roomy : (st : State) → crowded st ≡ false → fullest st ≤ MOST-RUNS
+unfolding crowded
+roomy st e = few (st .sets) e
+
+abbrev Few : Outcome → Type 0
+Few o = fullest (o .state) ≤ MOST-RUNS
+
+play-few : (b : Rows) (old st : State) (ns : List Snap) → fullest old ≤ MOST-RUNS → fullest st ≤ MOST-RUNS → Few (play b old st ns)
+unfolding play
+play-few b old st [] h k = k
+play-few b old st (n ∷ ns) h k = go (crowded (step b st n)) (λ e. play-few b old (step b st n) ns h (roomy (step b st n) e)) refl
+  where
+    go : (x : Bool) → (crowded (step b st n) ≡ false → Few (play b old (step b st n) ns)) → crowded (step b st n) ≡ x
+        → Few (elim x [ true ↦ record { number = 11; state = old } | false ↦ play b old (step b st n) ns ])
+    go true ih e = h
+    go false ih e = ih e
+
+-- a call leaves no set with more runs than it may have
+pub call-few : (b : Rows) (st : State) (k : Call) → fullest st ≤ MOST-RUNS → fullest (call b st k .state) ≤ MOST-RUNS
+unfolding call
+call-few b st k h = go (eqb (refusal b (st .now) k) 0)
+  where
+    go : (x : Bool) → Few (elim x [ true ↦ play b st st (turns b (st .now) k) | false ↦ record { number = refusal b (st .now) k; state = st } ])
+    go true = play-few b st st (turns b (st .now) k) h h
+    go false = h
+
+-- the count never passes the limit, after any calls
+pub fullest-few : (b : Rows) (calls : List Call) → fullest (after b calls) ≤ MOST-RUNS
+unfolding after
+fullest-few b [] = rw (fresh-none b) (omega arith)
+fullest-few b (k ∷ ks) = call-few b (after b ks) k (fullest-few b ks)
