@@ -64,7 +64,7 @@ steps-run b [] h = refl
 steps-run b (n ∷ ns) h = steps-run b ns (n ∷ h)
 
 -- a number that does not refuse
-first-zero : (a : Bool) (n m : ℕ) → cond a (suc n) m ≡ 0 → (a ≡ false) × (m ≡ 0)
+pub first-zero : (a : Bool) (n m : ℕ) → cond a (suc n) m ≡ 0 → (a ≡ false) × (m ≡ 0)
 first-zero true n m e = absurd (omega arith)
 first-zero false n m e = (refl, e)
 
@@ -77,7 +77,7 @@ firsts-zero n m = go (eqb n 0) refl
     go false z e = absurd (eqb-false n 0 z e)
 
 -- a time that is not refused goes on from the clock
-timely : (now : Snap) (t : ℕ) → timeRefusal now t ≡ 0 → (now .clock ≤ t) × (t ≤ LAST-TIME)
+pub timely : (now : Snap) (t : ℕ) → timeRefusal now t ≡ 0 → (now .clock ≤ t) × (t ≤ LAST-TIME)
 timely now t e =
     let p = first-zero (ltb t (now .clock)) 6 (cond (ltb LAST-TIME t) 8 0) e in
     (ltb-false t (now .clock) (p .0), ltb-false LAST-TIME t (first-zero (ltb LAST-TIME t) 7 0 (p .1) .0))

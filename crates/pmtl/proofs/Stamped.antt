@@ -6,7 +6,7 @@ use mathlib.Core.Bool.{Bool, true, false, cond}
 use mathlib.Core.List.{List, [], _∷_, _++_}
 use lib.ListN.{drop}
 use lib.Dec.{eqb}
-use borrow.Author.Tests.{eq-eqb, ne-eqb, eqb-true, eqb-false}
+use borrow.Author.Tests.{eq-eqb, eqb-true, eqb-false}
 use Rattle.pmtl.specs.Book.{Rows}
 use Rattle.pmtl.specs.Monitor.{Snap, State, value, stepBy, step}
 use Rattle.pmtl.specs.Calls.{Call, time, state, stamped, timed, stated, turns, timeRefusal, stateRefusal, firstOf, refusal, crowds, Outcome, play, call, after, History, onto, accepted}

@@ -2,11 +2,10 @@
 -- the calls are any list, the newest first, refused ones among them; r is any number, of a row or of none. Nothing is assumed.
 use Prim.Native.Nat.{ℕ, _≤_}
 use native.Mathlib.Omega.{arith}
-use mathlib.Core.Path.{_≡_, refl, sym, ap, _∙_}
+use mathlib.Core.Path.{_≡_, refl, ap, _∙_}
 use mathlib.Core.Logic.{_↔_}
 use mathlib.Core.Bool.{Bool, true, false, cond, not, _&&_}
 use mathlib.Core.List.{List, _∷_, _++_}
-use lib.ListN.{length, drop}
 use Rattle.numbers.specs.Limits.{MAX}
 use Rattle.numset.specs.Runs.{Runs, has, Covers, covers, Canonical}
 use Rattle.numset.proofs.Covering.{covers-iff}
