@@ -2,7 +2,9 @@
  * Binefdar: a runtime monitor for past-time metric temporal logic, proved correct.
  *
  * One function. It takes the bytes of an input (a book of rules, then calls, as decimal words parted by
- * spaces or line feeds) and a buffer, and writes the report of that input into the buffer:
+ * spaces or line feeds) and a buffer, and writes the report of that input into the buffer. A scan is a call
+ * `2 time width` and that many words 0 or 1: its time and then its state, or neither. The two alone, `0 time` and
+ * `1 width` with its words, are for old logs and for a state that changes without a scan.
  *
  *     book 0              the book was loaded; another number says why it was not, and nothing follows
  *     1 0 022 111 1       call 1 was accepted; a word for each property: value, early, settled; and the count

@@ -192,19 +192,27 @@ fn calls(words: &mut Words, oracle: &mut PmtlOracle, width: usize, out: &mut Vec
         let refusal = match words.next()? {
             0 => {
                 let time = words.next()?;
-                if time < clock {
-                    7
-                } else if time > H {
-                    8
-                } else {
+                let refusal = judge_time(time, clock);
+                if refusal == 0 {
                     clock = time;
                     oracle.update_time(time);
-                    0
                 }
+                refusal
             }
             1 => {
                 let refusal = read_state(words, width, &mut state)?;
                 if refusal == 0 {
+                    oracle.update_state(&state);
+                }
+                refusal
+            }
+            2 => {
+                let time = words.next()?;
+                let wrong = read_state(words, width, &mut state)?;
+                let refusal = if judge_time(time, clock) > 0 { judge_time(time, clock) } else { wrong };
+                if refusal == 0 {
+                    clock = time;
+                    oracle.update_time(time);
                     oracle.update_state(&state);
                 }
                 refusal
@@ -225,6 +233,17 @@ fn calls(words: &mut Words, oracle: &mut PmtlOracle, width: usize, out: &mut Vec
         Err(1) => Ok(()),
         Err(number) => Err(number),
         Ok(_) => Err(1),
+    }
+}
+
+/// 0, or what a time is refused with.
+fn judge_time(time: u64, clock: u64) -> u64 {
+    if time < clock {
+        7
+    } else if time > H {
+        8
+    } else {
+        0
     }
 }
 

@@ -13,7 +13,8 @@ pub struct Workload {
 pub fn workloads() -> Vec<Workload> {
     vec![
         Workload { name: "whole case", case: whole_case() },
-        Workload { name: "desk of 16 kits", case: desk() },
+        Workload { name: "desk of 16 kits", case: desk(|time, state| vec![Call::Stamped(time, state)]) },
+        Workload { name: "desk, separate calls", case: desk(|time, state| vec![Call::Time(time), Call::State(state)]) },
         Workload { name: "nested temporal", case: nested() },
         Workload { name: "wide and/or", case: wide() },
         Workload { name: ONE_RUN, case: runs(RUNS_IN_ONE, [0, HALF_THE_RUNS]) },
@@ -80,8 +81,8 @@ const WINDOW: u64 = 72;
 const SCANS: u64 = 280;
 
 /// For each kit: after every call so far, a handout implies that within the window a promise was scanned with no return
-/// since. A scan is a time, a state with one bit on, and a state all clear.
-fn desk() -> Case {
+/// since. A scan is a time and a state with one bit on, stamped or as two calls, and then a state all clear.
+fn desk(scanned: fn(u64, Vec<u64>) -> Vec<Call>) -> Case {
     let mut rows = Rows::default();
     let mut guarantees = Vec::new();
     for kit in 0..KITS {
@@ -101,7 +102,8 @@ fn desk() -> Case {
         let code = if kit % 5 == 0 { 1 + round % 2 } else { round % 3 };
         let mut state = clear.clone();
         state[(3 * kit + code) as usize] = 1;
-        calls.extend([Call::Time(scan * 2), Call::State(state), Call::State(clear.clone())]);
+        calls.extend(scanned(scan * 2, state));
+        calls.push(Call::State(clear.clone()));
     }
     rows.case(vec![], guarantees, calls)
 }

@@ -38,8 +38,10 @@ pub struct Style {
     count: usize,
     pace: Pace,
     states: States,
-    /// A call is a state call once in so many.
+    /// A call has a state once in so many.
     state_in: usize,
+    /// A call with a state has a time, too, once in so many; 0 is never.
+    stamped_in: usize,
     /// A call is meant to be refused once in so many; 0 is never.
     refused_in: usize,
     /// States are as wide as the book asks, or wider.
@@ -53,6 +55,7 @@ impl Style {
             pace: chance.among(&[Pace::Slow, Pace::Slow, Pace::Bounds, Pace::Bounds, Pace::Apart, Pace::Jumps, Pace::NearH]),
             states: chance.among(&[States::OneIn(2), States::OneIn(6), States::ZeroIn(6), States::Turning, States::Turning]),
             state_in: chance.among(&[2, 2, 3, 5]),
+            stamped_in: chance.among(&[0, 1, 2, 2]),
             refused_in: chance.among(&[0, 0, 20, 8]),
             wide: chance.one_in(4),
         }
@@ -82,6 +85,7 @@ pub fn add_calls(chance: &mut Chance, case: &mut Case, style: &Style) {
         bytes += match &call {
             Call::Time(_) => 23,
             Call::State(state) => 6 + 2 * state.len(),
+            Call::Stamped(_, state) => 27 + 2 * state.len(),
         };
         if bytes > LONGEST_TEXT {
             break;
@@ -95,7 +99,7 @@ struct Drawing<'a> {
     style: &'a Style,
     bounds: Vec<u64>,
     width: usize,
-    /// The time of the last time call that was not meant to be refused.
+    /// The time of the last call with one that was not meant to be refused.
     clock: u64,
     state: Vec<u64>,
 }
@@ -103,7 +107,10 @@ struct Drawing<'a> {
 impl Drawing<'_> {
     fn call(&mut self) -> Call {
         let refused = self.style.refused_in > 0 && self.chance.one_in(self.style.refused_in);
-        match (self.chance.one_in(self.style.state_in), refused) {
+        let has_state = self.chance.one_in(self.style.state_in);
+        let stamped = has_state && self.style.stamped_in > 0 && self.chance.one_in(self.style.stamped_in);
+        match (has_state, refused) {
+            _ if stamped => self.stamped(refused),
             (true, false) => Call::State(self.next_state()),
             (true, true) => Call::State(self.bad_state()),
             (false, false) => {
@@ -112,6 +119,17 @@ impl Drawing<'_> {
             }
             (false, true) => Call::Time(self.bad_time()),
         }
+    }
+
+    /// A stamped call; one that is meant to be refused has a bad time, a bad state, or both.
+    fn stamped(&mut self, refused: bool) -> Call {
+        let (bad_time, bad_state) = if refused { self.chance.among(&[(true, false), (false, true), (true, true)]) } else { (false, false) };
+        let time = if bad_time { self.bad_time() } else { self.next_time() };
+        let state = if bad_state { self.bad_state() } else { self.next_state() };
+        if !refused {
+            self.clock = time;
+        }
+        Call::Stamped(time, state)
     }
 
     fn next_time(&mut self) -> u64 {

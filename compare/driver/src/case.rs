@@ -42,6 +42,7 @@ impl Row {
 pub enum Call {
     Time(u64),
     State(Vec<u64>),
+    Stamped(u64, Vec<u64>),
 }
 
 impl Call {
@@ -49,6 +50,25 @@ impl Call {
         match self {
             Call::Time(time) => vec![0, *time],
             Call::State(state) => [1, state.len() as u64].iter().chain(state).copied().collect(),
+            Call::Stamped(time, state) => [2, *time, state.len() as u64].iter().chain(state).copied().collect(),
+        }
+    }
+
+    /// Its time and its state, each if it has one.
+    pub fn parts(&self) -> (Option<u64>, Option<&[u64]>) {
+        match self {
+            Call::Time(time) => (Some(*time), None),
+            Call::State(state) => (None, Some(state)),
+            Call::Stamped(time, state) => (Some(*time), Some(state)),
+        }
+    }
+
+    /// The same, to be changed.
+    pub fn parts_mut(&mut self) -> (Option<&mut u64>, Option<&mut Vec<u64>>) {
+        match self {
+            Call::Time(time) => (Some(time), None),
+            Call::State(state) => (None, Some(state)),
+            Call::Stamped(time, state) => (Some(time), Some(state)),
         }
     }
 }
@@ -103,6 +123,7 @@ impl Case {
             calls.push(match read_call(&mut words).ok()? {
                 ReadCall::Time(time) => Call::Time(time),
                 ReadCall::State(state) => Call::State(state),
+                ReadCall::Stamped(time, state) => Call::Stamped(time, state),
             });
         }
         (words.next_word() == Err(ENDS_EARLY)).then(|| Case { calls, ..Case::of_book(&sections) })
@@ -173,9 +194,9 @@ mod tests {
             ],
             assumes: vec![3],
             guarantees: vec![],
-            calls: vec![Call::Time(4), Call::State(vec![0, 1, 7])],
+            calls: vec![Call::Time(4), Call::State(vec![0, 1, 7]), Call::Stamped(5, vec![1])],
         };
-        assert_eq!(case.text(), b"4\n2 3 0 0\n8 1 2 5\n4 0 0 0\n6 2 0 0\n3 0 2 1\n1 3\n0\n2\n0 4\n1 3 0 1 7\n");
+        assert_eq!(case.text(), b"4\n2 3 0 0\n8 1 2 5\n4 0 0 0\n6 2 0 0\n3 0 2 1\n1 3\n0\n3\n0 4\n1 3 0 1 7\n2 5 1 1\n");
         assert_eq!(Case::of_text(&case.text()), Some(case));
     }
 }

@@ -3,7 +3,7 @@
 
 use judge::book::{Range, Row, H, MAX};
 use judge::monitor::{Monitor, ACCEPTED, MOST_RUNS};
-use judge::report::{report, Watch};
+use judge::report::{report, Call, Watch};
 use judge::rules::Answer;
 use judge::runs::Runs;
 use std::collections::BTreeSet;
@@ -32,8 +32,8 @@ impl Watch for Seen {
         self.sentences.insert(format!("book {number}"));
     }
 
-    fn call(&mut self, number: u64, monitor: &Monitor) {
-        self.sentences.insert(format!("call {number}"));
+    fn call(&mut self, call: &Call, number: u64, monitor: &Monitor) {
+        self.sentences.insert(format!("{} call {number}", call_kind(call)));
         if number == ACCEPTED {
             self.sentences.insert(format!("count {}", count_kind(monitor.count())));
             self.fill(monitor);
@@ -82,6 +82,14 @@ pub fn told(answer: Answer) -> &'static str {
         Answer::False => "false",
         Answer::True => "true",
         Answer::Open => "open",
+    }
+}
+
+fn call_kind(call: &Call) -> &'static str {
+    match call {
+        Call::Time(_) => "time",
+        Call::State(_) => "state",
+        Call::Stamped(..) => "stamped",
     }
 }
 

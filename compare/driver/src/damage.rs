@@ -157,16 +157,17 @@ fn remove_word(chance: &mut Chance, text: &mut Vec<u8>) {
     text.drain(start..end).for_each(drop);
 }
 
-/// A call or two that no reader takes, somewhere among the calls: a kind over 1, a width over 256.
+/// A call or two that no reader takes, somewhere among the calls: a kind over 2, a width over 256.
 pub fn odd_call(chance: &mut Chance, case: &Case) -> Vec<u8> {
     let mut lines: Vec<String> = String::from_utf8_lossy(&case.text()).lines().map(str::to_string).collect();
     let calls = case.calls.len();
     let place = lines.len() - chance.below(calls + 1);
     let state: Vec<String> = vec!["1".to_string(); 257];
-    let line = match chance.below(4) {
-        0 => "2 0".to_string(),
+    let line = match chance.below(5) {
+        0 => "3 0".to_string(),
         1 => format!("1 257 {}", state.join(" ")),
         2 => format!("1 256 {}", state[1..].join(" ")),
+        3 => format!("2 {MAX} 257 {}", state.join(" ")),
         _ => format!("{} 5", MAX),
     };
     lines.insert(place, line);

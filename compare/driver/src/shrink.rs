@@ -156,28 +156,25 @@ fn cut_numbers(case: &mut Case, test: &mut Test) {
         }
     }
     for number in 0..case.calls.len() {
-        match case.calls[number].clone() {
-            Call::Time(time) => less(time).for_each(|time| try_case(case, test, |c| c.calls[number] = Call::Time(time))),
-            Call::State(state) => {
-                let shorter = |length: usize| Call::State(state[..length].to_vec());
-                for length in [0, state.len() / 2, state.len().saturating_sub(1)] {
-                    try_case(case, test, |c| c.calls[number] = shorter(length));
-                }
-                cut_state(case, number, test);
-            }
-        }
+        cut_time(case, number, test);
+        cut_state(case, number, test);
     }
 }
 
-/// Words of a state as 0, where that is enough.
+fn cut_time(case: &mut Case, number: usize, test: &mut Test) {
+    for smaller in case.calls[number].parts().0.into_iter().flat_map(less) {
+        try_case(case, test, |c| c.calls[number].parts_mut().0.into_iter().for_each(|time| *time = smaller));
+    }
+}
+
+/// A state that is shorter, and words of it as 0, where that is enough.
 fn cut_state(case: &mut Case, number: usize, test: &mut Test) {
-    let Call::State(state) = case.calls[number].clone() else { return };
-    for place in (0..state.len()).filter(|&place| state[place] > 0) {
-        try_case(case, test, |c| {
-            if let Call::State(words) = &mut c.calls[number] {
-                words[place] = 0;
-            }
-        });
+    let Some(length) = case.calls[number].parts().1.map(<[u64]>::len) else { return };
+    for shorter in [0, length / 2, length.saturating_sub(1)] {
+        try_case(case, test, |c| c.calls[number].parts_mut().1.into_iter().for_each(|state| state.truncate(shorter)));
+    }
+    for place in 0..length {
+        try_case(case, test, |c| c.calls[number].parts_mut().1.and_then(|s| s.get_mut(place)).into_iter().for_each(|word| *word = 0));
     }
 }
 
@@ -198,9 +195,9 @@ fn try_case(case: &mut Case, test: &mut Test, change: impl FnOnce(&mut Case)) {
 /// What `cut_numbers` makes smaller with every change.
 fn weight(case: &Case) -> u128 {
     let rows = case.rows.iter().map(|r| u128::from(r.atom) + u128::from(r.lower) + u128::from(r.upper)).sum::<u128>();
-    let call = |call: &Call| match call {
-        Call::Time(time) => u128::from(*time),
-        Call::State(state) => state.iter().map(|&w| u128::from(w) + 1).sum(),
+    let call = |call: &Call| {
+        let (time, state) = call.parts();
+        u128::from(time.unwrap_or(0)) + state.unwrap_or(&[]).iter().map(|&w| u128::from(w) + 1).sum::<u128>()
     };
     rows + case.calls.iter().map(call).sum::<u128>()
 }

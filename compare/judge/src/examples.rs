@@ -49,6 +49,33 @@ fn p8_a_time_call_sees_the_old_state() {
 }
 
 #[test]
+fn a_stamped_call_is_its_two_calls_in_turn() {
+    let book = "2 2 0 0 0 7 1 0 0 1 0 0 1 1";
+    assert_eq!(lines(book, &["2 4 1 1"])[0], lines(book, &["0 4", "1 1 1"])[1].replacen('2', "1", 1));
+    assert_eq!(values(book, &["2 4 1 1", "2 5 1 1"]), "01");
+}
+
+#[test]
+fn a_stamped_call_is_refused_by_the_first_wrong_thing() {
+    let book = "1 2 1 0 0 0 0 1 0";
+    let calls = ["2 5 2 0 1", "2 4 1 2", "2 9223372036854775808 1 2", "2 6 1 2", "2 6 2 0 2", "0 5"];
+    assert_eq!(lines(book, &calls), ["1 0 122 0", "2 7", "3 8", "4 9", "5 10", "6 0 122 0", "end"]);
+}
+
+#[test]
+fn a_stamped_call_has_room_at_both_steps_or_changes_nothing() {
+    let steps = every_second(126);
+    let filled = |first: &'static str, more: &[&'static str]| {
+        let calls = [&[first], &steps.iter().map(String::as_str).collect::<Vec<_>>()[..], more].concat();
+        lines("3 2 0 0 0 2 1 0 0 9 2 128 128 2 0 1 0 1 2", &calls).split_off(64)
+    };
+    // The time step would make a 65th run, and the state step would drop them all: left fails.
+    assert_eq!(filled("1 2 1 1", &["2 128 2 0 0", "0 127"]), ["65 11", "66 0 022 64", "end"]);
+    // The state step alone would make it: right holds no more when the time is set.
+    assert_eq!(filled("1 2 1 1", &["1 2 1 0", "2 128 2 1 1", "0 127"]), ["65 0 022 64", "66 11", "67 0 022 64", "end"]);
+}
+
+#[test]
 fn p9_since() {
     let book = format!("3 2 0 0 0 2 1 0 0 9 2 0 {MAX} 2 0 1 0 1 2");
     assert_eq!(values(&book, &["1 2 0 1", "1 2 1 0", "0 7", "1 2 0 0"]), "1110");
@@ -154,7 +181,11 @@ fn stops() {
     assert_eq!(reported(&format!("{book} 0 0")), "book 0\nstop 1\n");
     assert_eq!(reported(&format!("{book} 0 0\r")), "book 0\nstop 13\n");
     assert_eq!(reported(&format!("{book} {MAX} 0 3")), "book 0\n1 0 0\nstop 1\n");
-    assert_eq!(reported(&format!("{book} 1 2 x")), "book 0\nstop 13\n");
+    assert_eq!(reported(&format!("{book} 1 3 x")), "book 0\nstop 13\n");
+    assert_eq!(reported(&format!("{book} 1 2 5 257 x")), "book 0\nstop 2\n");
+    // A width that is too large is met before a time that is, and a text that ends within a stamped call has no line.
+    assert_eq!(reported(&format!("{book} 1 2 {MAX} 257")), "book 0\nstop 2\n");
+    assert_eq!(reported(&format!("{book} 1 2 {MAX}")), "book 0\nstop 1\n");
     assert_eq!(reported(&format!("{book} 1 1 257 x")), "book 0\nstop 2\n");
     assert_eq!(reported(&format!("{book} 1 1 256 x")), "book 0\nstop 13\n");
     // A text that ends within a state has no line, whatever 10 would have said.

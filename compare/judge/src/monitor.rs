@@ -18,6 +18,7 @@ pub const MOST_WIDTH: usize = 256;
 /// The most runs in a set.
 pub const MOST_RUNS: usize = 64;
 
+#[derive(Clone)]
 pub struct Monitor {
     pub book: Book,
     pub clock: u64,
@@ -38,28 +39,54 @@ impl Monitor {
     }
 
     pub fn time_call(&mut self, time: u64) -> u64 {
-        if time < self.clock {
-            return TIME_BELOW_CLOCK;
-        }
-        if time > H {
-            return TIME_ABOVE_H;
+        let wrong = self.wrong_time(time);
+        if wrong != ACCEPTED {
+            return wrong;
         }
         let atoms = self.atoms.clone();
         self.step(time, atoms)
     }
 
     pub fn state_call(&mut self, state: &[u64]) -> u64 {
-        if state.len() > MOST_WIDTH {
-            return TOO_WIDE;
-        }
-        if state.len() < self.book.width {
-            return STATE_TOO_SHORT;
-        }
-        if state.iter().any(|&word| word > 1) {
-            return BAD_STATE;
+        let wrong = self.wrong_state(state);
+        if wrong != ACCEPTED {
+            return wrong;
         }
         let atoms = state[..self.book.width].iter().map(|&word| word == 1).collect();
         self.step(self.clock, atoms)
+    }
+
+    /// The time call and then the state call, made on a copy that is kept if both are accepted; what is wrong with either comes first.
+    pub fn stamped_call(&mut self, time: u64, state: &[u64]) -> u64 {
+        let mut after = self.clone();
+        let numbers = [self.wrong_time(time), self.wrong_state(state), after.time_call(time), after.state_call(state)];
+        let refusal = numbers.into_iter().find(|&number| number != ACCEPTED);
+        if refusal.is_none() {
+            *self = after;
+        }
+        refusal.unwrap_or(ACCEPTED)
+    }
+
+    fn wrong_time(&self, time: u64) -> u64 {
+        if time < self.clock {
+            TIME_BELOW_CLOCK
+        } else if time > H {
+            TIME_ABOVE_H
+        } else {
+            ACCEPTED
+        }
+    }
+
+    fn wrong_state(&self, state: &[u64]) -> u64 {
+        if state.len() > MOST_WIDTH {
+            TOO_WIDE
+        } else if state.len() < self.book.width {
+            STATE_TOO_SHORT
+        } else if state.iter().any(|&word| word > 1) {
+            BAD_STATE
+        } else {
+            ACCEPTED
+        }
     }
 
     /// Re-evaluates every row at this clock and these atoms; nothing changes if one of the sets has no room.

@@ -14,8 +14,8 @@ pub const LONGEST_INPUT: usize = 65536;
 pub trait Watch {
     /// The book's number.
     fn book(&mut self, _number: u64) {}
-    /// A call's number of refusal, or 0, and the monitor after it.
-    fn call(&mut self, _number: u64, _monitor: &Monitor) {}
+    /// A call, its number of refusal, or 0, and the monitor after it.
+    fn call(&mut self, _call: &Call, _number: u64, _monitor: &Monitor) {}
     /// The number after `stop`.
     fn stop(&mut self, _number: u64) {}
 }
@@ -29,6 +29,7 @@ impl Watch for Nobody {}
 pub enum Call {
     Time(u64),
     State(Vec<u64>),
+    Stamped(u64, Vec<u64>),
 }
 
 /// The report expected for an input; or, in words, where the original leaves the rules of REFERENCE 4.1 and 4.3 for value and early.
@@ -73,7 +74,7 @@ fn call_lines(words: &mut Reader, book: Book, out: &mut Vec<u8>, watch: &mut imp
             Err(refusal) => return Ok(refusal),
         };
         let refusal = pair.call(&call);
-        watch.call(refusal, &pair.monitor);
+        watch.call(&call, refusal, &pair.monitor);
         write!(out, "{number} {refusal}").expect("a vector takes all bytes");
         if refusal == ACCEPTED {
             pair.answers(number, out)?;
@@ -87,22 +88,26 @@ fn call_lines(words: &mut Reader, book: Book, out: &mut Vec<u8>, watch: &mut imp
     })
 }
 
-/// A call, or the number that stops the reading: a kind over 1 and a width over 256 are refused at once.
+/// A call, or the number that stops the reading: a kind over 2 and a width over 256 are refused at once.
 pub fn read_call(words: &mut Reader) -> Result<Call, u64> {
     match words.next_word()? {
         0 => Ok(Call::Time(words.next_word()?)),
-        1 => {
-            let width = words.next_word()?;
-            if width > MOST_WIDTH as u64 {
-                return Err(PASSES_LIMIT);
-            }
-            Ok(Call::State((0..width).map(|_| words.next_word()).collect::<Result<_, _>>()?))
-        }
+        1 => Ok(Call::State(read_state(words)?)),
+        2 => Ok(Call::Stamped(words.next_word()?, read_state(words)?)),
         _ => Err(BAD_WORD),
     }
 }
 
-/// The monitor by the rules and the original beside it; a refused call does not reach the original.
+/// A width and that many words.
+fn read_state(words: &mut Reader) -> Result<Vec<u64>, u64> {
+    let width = words.next_word()?;
+    if width > MOST_WIDTH as u64 {
+        return Err(PASSES_LIMIT);
+    }
+    (0..width).map(|_| words.next_word()).collect()
+}
+
+/// The monitor by the rules and the original beside it; a refused call does not reach the original, and a stamped call is two calls there.
 struct Pair {
     monitor: Monitor,
     original: Original,
@@ -121,6 +126,14 @@ impl Pair {
             Call::State(state) => {
                 let refusal = self.monitor.state_call(state);
                 if refusal == ACCEPTED {
+                    self.original.state_call(state);
+                }
+                refusal
+            }
+            Call::Stamped(time, state) => {
+                let refusal = self.monitor.stamped_call(*time, state);
+                if refusal == ACCEPTED {
+                    self.original.time_call(*time);
                     self.original.state_call(state);
                 }
                 refusal

@@ -21,8 +21,8 @@ use Rattle.pmtl.specs.declared.Answer.{Answer}
 use Rattle.pmtl.specs.declared.Answer.the-variants.{Open}
 use Rattle.pmtl.specs.Answer.{bitOf, digitOf}
 use Rattle.pmtl.specs.Book.{Range, Rows, start, stop}
-use Rattle.pmtl.specs.Monitor.{Snap, State, setAt, value}
-use Rattle.pmtl.specs.Calls.{crowded, play}
+use Rattle.pmtl.specs.Monitor.{Snap, State, setAt, step, value}
+use Rattle.pmtl.specs.Calls.{crowded, Outcome, play}
 use Rattle.pmtl.proofs.Answers.{step-sets, step-now, step-begun}
 use Rattle.memory.specs.Layout.{ROWS, ROW, ATOMS, OWNERS, SET, VALUES, TOLD, EARLY, SETTLED, MOVES}
 use Rattle.memory.specs.Memory.{begunWord, clockOf, widthWord, temporals, rowCount, kindAt, slotAt, ownerAt, setStart, slotWords, propertyRow, valueAt, toldAt, rowsOf, setOf, stateOf, isOne, rangeAt}
@@ -30,7 +30,7 @@ use Rattle.memory.specs.Tables.{valueOf, propertyCount, Valued, Told, Answered,
 use Rattle.memory.specs.Kept.{Sound, Kept}
 use Rattle.memory.specs.Alike.{Alike}
 use Rattle.memory.proofs.Rows.{rows-length}
-use Rattle.memory.proofs.Alike.{alike-filled, alike-sound, alike-set}
+use Rattle.memory.proofs.Alike.{alike-on, alike-filled, alike-sound, alike-set, alike-rows}
 use Rattle.memory.proofs.Stepped.{Stepped, kept-step, step-book, rows-of-same, kind-same, slot-same, width-same, temporals-same, assumes-same, guarantees-same, property-same}
 use Rattle.row_answers.specs.Told.{earlyTold}
 use Rattle.row_answers.proofs.Told.{told-early, told-settled, early-same, settled-same}
@@ -38,8 +38,9 @@ use Rattle.tables.specs.Puts.{valuesPut, toldPut, countPut, toldAgain, earlyPut
 use Rattle.tables.proofs.Puts.{few-properties, answer-same, told-told, told-still, told-and-asked, count-alike, count-counts, count-valued, count-told, count-moving, count-answered, count-unused}
 use Rattle.set_change.specs.Change.{changed}
 use Rattle.set_change.proofs.Changes.{changed-under}
-use Rattle.calls.specs.Private.{Bytes, snapOf, stepOf, setAfter, valueAfter, clocked, Planned, Written, Atoms, Moved, Tried, Fitting, Asked, Due, Advanced}
+use Rattle.calls.specs.Private.{Bytes, snapOf, stepOf, ahead, setAfter, valueAfter, clocked, Planned, Written, Atoms, Moved, Tried, TriedBoth, Fitting, Asked, Due, Advanced}
 use Rattle.calls.proofs.Rules.{set-of-slot, set-of-none}
+use Rattle.calls.proofs.Ahead.{ahead-one}
 use Rattle.calls.proofs.Plans.{set-none, fits-each}
 use Rattle.calls.proofs.Commits.{room-is}
 use Rattle.calls.proofs.Heads.{clocked-length, clocked-begun, clocked-clock, clocked-other, atoms-stand}
@@ -58,19 +59,13 @@ state-is : (st : State) {begun : Bool} {now : Snap} {sets : List Runs} → st .b
 state-is st e f g = λ i. record { begun = sym e i; now = sym f i; sets = sym g i }
 
 -- a plan, where it is known whether there is room
-pub planned-as : {m : List ℕ} {c : ℕ} {atoms m′ modes : List ℕ} {room room′ : Bool} → room ≡ room′ → Planned m c atoms m′ room modes → Planned m c atoms m′ room′ modes
-planned-as {m} {c} {atoms} {m′} {modes} e p = subst (λ (b : Bool). Planned m c atoms m′ b modes) e p
+pub planned-as : {m : List ℕ} {st : State} {c : ℕ} {atoms m′ modes : List ℕ} {room room′ : Bool} → room ≡ room′ → Planned m st c atoms m′ room modes → Planned m st c atoms m′ room′ modes
+planned-as {m} {st} {c} {atoms} {m′} {modes} e p = subst (λ (b : Bool). Planned m st c atoms m′ b modes) e p
 
 -- ---- the values worked out anew from what did not change are the old ones
-pub restored : {m m₁ : List ℕ} → Kept m → (f : ℕ → ℕ) (n : ℕ) → n ≤ rowCount m → m₁ ≡ filledFrom VALUES f m n → valuesPut m₁ ≡ m
-restored {m} {m₁} kept f n few e = rw e (ext-getD 0 (valuesPut mid) m same-length (λ i h. word i))
+restored-from : {m mid : List ℕ} → Kept m → Alike m mid → ((i : ℕ) → VALUES + rowCount m ≤ i → getD mid i 0 ≡ getD m i 0) → valuesPut mid ≡ m
+restored-from {m} {mid} kept alike beyond = ext-getD 0 (valuesPut mid) m same-length (λ i h. word i)
   where
-    mid : List ℕ
-    mid = filledFrom VALUES f m n
-
-    alike : Alike m mid
-    alike = alike-filled m VALUES f n (omega arith)
-
     count : rowCount mid ≡ rowCount m
     count = alike .below 0 (omega arith)
 
@@ -96,28 +91,31 @@ restored {m} {m₁} kept f n few e = rw e (ext-getD 0 (valuesPut mid) m same-len
         ∙ ap bitOf (answer-same (kept .sound) alike value r) ∙ sym (kept .tables .valued .right r q)
         ∙ word-at m (VALUES + r) i (omega arith))
         (λ (q : rowCount m ≤ i - VALUES).
-        filledFrom-after VALUES new mid 0 (rowCount mid) i (omega (arith, count)) ∙ filledFrom-after VALUES f m 0 n i (omega arith))
+        filledFrom-after VALUES new mid 0 (rowCount mid) i (omega (arith, count)) ∙ beyond i (omega arith))
         (lt-or-ge (i - VALUES) (rowCount m)))
         (lt-or-ge i VALUES)
 
-pub tried-full : {m : List ℕ} {c : ℕ} {atoms m₁ m₂ modes : List ℕ} → Kept m → Planned m c atoms m₁ false modes → m₂ ≡ valuesPut m₁ → Tried m c atoms m₂ 11
+pub restored : {m m₁ : List ℕ} → Kept m → (f : ℕ → ℕ) (n : ℕ) → n ≤ rowCount m → m₁ ≡ filledFrom VALUES f m n → valuesPut m₁ ≡ m
+restored {m} kept f n few e = rw e (restored-from kept (alike-filled m VALUES f n (omega arith)) (λ i h. filledFrom-after VALUES f m 0 n i (omega arith)))
+
+pub tried-full : {m : List ℕ} {st : State} {c : ℕ} {atoms m₁ m₂ modes : List ℕ} → Kept m → Planned m st c atoms m₁ false modes → m₂ ≡ valuesPut m₁ → Tried m st c atoms m₂ 11
 tried-full kept p e =
     record { room = λ f. absurd (true≢false (sym (p .fits) ∙ f)); full = λ f. (refl, e ∙ restored kept _ (p .tried) (p .few) (p .values)) }
 
 -- the memory that the plan leaves is sound, whether there is room or not
-pub planned-sound : {m : List ℕ} {c : ℕ} {atoms m₁ modes : List ℕ} {room : Bool} → Sound m → Planned m c atoms m₁ room modes → Sound m₁
-planned-sound {m} {c} {atoms} sound p = rw (p .values) (alike-sound sound (alike-filled m VALUES (valueAfter m c atoms) (p .tried) (omega arith)))
+pub planned-sound : {m : List ℕ} {st : State} {c : ℕ} {atoms m₁ modes : List ℕ} {room : Bool} → Sound m → Planned m st c atoms m₁ room modes → Sound m₁
+planned-sound {m} {st} {c} {atoms} sound p = rw (p .values) (alike-sound sound (alike-filled m VALUES (valueAfter m st c atoms) (p .tried) (omega arith)))
 
 -- ---- a plan carried out
-module _ {m : List ℕ} {c : ℕ} {atoms m₁ modes : List ℕ} (sound : Sound m) (small : c ≤ LAST-TIME) (planned : Planned m c atoms m₁ true modes) where
-  roomy : crowded (stepOf m c atoms) ≡ false
+module _ {m : List ℕ} {st : State} {c : ℕ} {atoms m₁ modes : List ℕ} (sound : Sound m) (small : c ≤ LAST-TIME) (planned : Planned m st c atoms m₁ true modes) where
+  roomy : crowded (stepOf m st c atoms) ≡ false
   roomy = planned .fits
 
-  values-all : m₁ ≡ filledFrom VALUES (valueAfter m c atoms) m (rowCount m)
-  values-all = planned .values ∙ ap (filledFrom VALUES (valueAfter m c atoms) m) (planned .all refl)
+  values-all : m₁ ≡ filledFrom VALUES (valueAfter m st c atoms) m (rowCount m)
+  values-all = planned .values ∙ ap (filledFrom VALUES (valueAfter m st c atoms) m) (planned .all refl)
 
   alike : Alike m m₁
-  alike = rw values-all (alike-filled m VALUES (valueAfter m c atoms) (rowCount m) (omega arith))
+  alike = rw values-all (alike-filled m VALUES (valueAfter m st c atoms) (rowCount m) (omega arith))
 
   sound₁ : Sound m₁
   sound₁ = alike-sound sound alike
@@ -135,14 +133,14 @@ module _ {m : List ℕ} {c : ℕ} {atoms m₁ modes : List ℕ} (sound : Sound m
       ap₂ (λ (l u : ℕ). record { lower = l; upper = u }) (alike .below (ROWS + ROW * ownerAt m j + 2) (omega arith)) (alike .below (ROWS + ROW * ownerAt m j + 3) (omega arith)) in
       ap₂ (λ (g : Range) (ws : List ℕ). changed mode (start g c) (stop g c) c (runs ws)) (ap (rangeAt m₁) o ∙ range) (alike-set sound alike j (omega arith))
 
-  set-planned : (j : ℕ) → j < temporals m → setAfter m₁ c (getD modes j 0) j ≡ setAt (stepOf m c atoms) (ownerAt m j)
+  set-planned : (j : ℕ) → j < temporals m → setAfter m₁ c (getD modes j 0) j ≡ setAt (stepOf m st c atoms) (ownerAt m j)
   set-planned j h = after-same (getD modes j 0) j h ∙ planned .sets refl j h
 
   pub fitting : Fitting m₁ c modes
   fitting =
       record {
         timely = record { sound = sound₁; clock = small };
-        room = rw slots-same (λ j h. ap (fits SET) (set-planned j h) ∙ fits-each m (sound .book) c atoms roomy j h);
+        room = rw slots-same (λ j h. ap (fits SET) (set-planned j h) ∙ fits-each m (sound .book) st c atoms roomy j h);
       }
 
   abbrev after : ℕ → Runs
@@ -166,14 +164,14 @@ module _ {m : List ℕ} {c : ℕ} {atoms m₁ modes : List ℕ} (sound : Sound m
         (changed-under (2 ^ 64 + 1) (getD modes j 0) (start g c) (stop g c) c (runs (slotWords m₁ j)) (sound₁ .sets j (omega arith) .apart)
         (stop-fits g c small (b .rows (ownerAt m₁ j) (b .owned j l) .upper)))
 
-    value-word : (r : ℕ) → r < rowCount m → valueAt (clocked m₂ c) r ≡ valueAfter m c atoms r
+    value-word : (r : ℕ) → r < rowCount m → valueAt (clocked m₂ c) r ≡ valueAfter m st c atoms r
     value-word r h =
         let long = sound .book .long in
         let few = sound .book .few in
         clocked-other m₂ c (VALUES + r) (omega arith) (omega arith) ∙ w .beyond (VALUES + r) (omega arith)
-        ∙ ap (λ (x : List ℕ). valueAt x r) values-all ∙ filledFrom-at VALUES (valueAfter m c atoms) m 0 (rowCount m) r h (omega arith)
+        ∙ ap (λ (x : List ℕ). valueAt x r) values-all ∙ filledFrom-at VALUES (valueAfter m st c atoms) m 0 (rowCount m) r h (omega arith)
 
-    moved : Moved m c atoms (clocked m₂ c)
+    moved : Moved m st c atoms (clocked m₂ c)
     moved =
         record {
           long = clocked-length m₂ c ∙ w .long;
@@ -186,18 +184,32 @@ module _ {m : List ℕ} {c : ℕ} {atoms m₁ modes : List ℕ} (sound : Sound m
           values = value-word;
           beyond = λ i p.
               clocked-other m₂ c i (omega arith) (omega arith) ∙ w .beyond i (omega arith)
-              ∙ ap (λ (x : List ℕ). getD x i 0) values-all ∙ filledFrom-after VALUES (valueAfter m c atoms) m 0 (rowCount m) i p;
+              ∙ ap (λ (x : List ℕ). getD x i 0) values-all ∙ filledFrom-after VALUES (valueAfter m st c atoms) m 0 (rowCount m) i p;
         }
 
-    pub tried-room : {m₃ : List ℕ} → m₃ ≡ clocked m₂ c → Tried m c atoms m₃ 0
+    pub tried-room : {m₃ : List ℕ} → m₃ ≡ clocked m₂ c → Tried m st c atoms m₃ 0
     tried-room e = record { room = λ f. (refl, rw e moved); full = λ f. absurd (true≢false (sym f ∙ roomy)) }
 
-pub moved-width : {m : List ℕ} {c : ℕ} {atoms m′ : List ℕ} → Moved m c atoms m′ → widthWord m′ ≡ widthWord m
+-- ---- the snapshots of a call, up to the last, which is made from the state st
+abbrev pub Leads : List ℕ → List Snap → State → ℕ → List ℕ → Type 0
+Leads m ns st c atoms = play (rowsOf m) (stateOf m) (stateOf m) ns ≡ play (rowsOf m) (stateOf m) st (snapOf c atoms (widthWord m) ∷ [])
+
+one-played : (m : List ℕ) (st : State) (c : ℕ) (atoms : List ℕ) → crowded (stepOf m st c atoms) ≡ false
+    → play (rowsOf m) (stateOf m) st (snapOf c atoms (widthWord m) ∷ []) ≡ record { number = 0; state = stepOf m st c atoms }
+unfolding play
+one-played m st c atoms e = rw (e, play)
+
+none-played : (m : List ℕ) (st : State) (c : ℕ) (atoms : List ℕ) → crowded (stepOf m st c atoms) ≡ true
+    → play (rowsOf m) (stateOf m) st (snapOf c atoms (widthWord m) ∷ []) ≡ record { number = 11; state = stateOf m }
+unfolding play
+none-played m st c atoms e = rw (e, play)
+
+pub moved-width : {m : List ℕ} {st : State} {c : ℕ} {atoms m′ : List ℕ} → Moved m st c atoms m′ → widthWord m′ ≡ widthWord m
 moved-width v = v .below 3 (omega arith) (omega arith) (omega arith)
 
 -- ---- once the atoms are set, too
 module _
-    {m : List ℕ} {c : ℕ} {atoms m₁ m₂ : List ℕ} (kept : Kept m) (small : c ≤ LAST-TIME) (bytes : Bytes atoms (widthWord m)) (roomy : crowded (stepOf m c atoms) ≡ false) (v : Moved m c atoms m₁)
+    {m : List ℕ} {st : State} {c : ℕ} {atoms m₁ m₂ : List ℕ} (kept : Kept m) (small : c ≤ LAST-TIME) (bytes : Bytes atoms (widthWord m)) (roomy : crowded (stepOf m st c atoms) ≡ false) (v : Moved m st c atoms m₁)
     (a : Atoms m₁ atoms (widthWord m₁) m₂)
   where
     begun-now : begunWord m₂ ≡ 1
@@ -243,48 +255,48 @@ module _
         ∙ ap isOne (a .new i (let e = moved-width v in omega arith) ∙ sym (getD-take (widthWord m) atoms i 0 p))
         ∙ sym (List·getD-map isOne (take (widthWord m) atoms) i 0))
 
-    set-is : (r : ℕ) → r < rowCount m → setOf m₂ r ≡ setAt (stepOf m c atoms) r
+    set-is : (r : ℕ) → r < rowCount m → setOf m₂ r ≡ setAt (stepOf m st c atoms) r
     set-is r p =
         let book = kept .sound .book in
         let small : r < 128 = let f = book .few in omega arith in
         let ek = kind-same m m₂ (kept .sound) stepped r small in
         let es = slot-same m m₂ (kept .sound) stepped r small in
         ⊎-elim
-        (λ (k : kindAt m r < 7). set-of-none m₂ r (rw ek k) ∙ sym (set-none m book c atoms r p k))
+        (λ (k : kindAt m r < 7). set-of-none m₂ r (rw ek k) ∙ sym (set-none m book st c atoms r p k))
         (λ (k : 7 ≤ kindAt m r).
         let row = book .rows r p in
         let j : ℕ = slotAt m r in
         let lt : slotAt m r < temporals m = row .slot k in
         set-of-slot m₂ r (rw ek k)
         ∙ ap (λ (i : ℕ). runs (slotWords m₂ i)) es
-        ∙ ap runs (atoms-set j (let f = kept .sound .book .temporal-few in omega arith) ∙ v .new j lt) ∙ runs-pack SET (setAt (stepOf m c atoms) (ownerAt m j))
-        ∙ ap (setAt (stepOf m c atoms)) (row .owner k))
+        ∙ ap runs (atoms-set j (let f = kept .sound .book .temporal-few in omega arith) ∙ v .new j lt) ∙ runs-pack SET (setAt (stepOf m st c atoms) (ownerAt m j))
+        ∙ ap (setAt (stepOf m st c atoms)) (row .owner k))
         (lt-or-ge (kindAt m r) 7)
 
-    sets-are : listed (setOf m₂) (rowCount m₂) ≡ stepOf m c atoms .sets
+    sets-are : listed (setOf m₂) (rowCount m₂) ≡ stepOf m st c atoms .sets
     sets-are =
-        let long : length (stepOf m c atoms .sets) ≡ rowCount m = step-sets (rowsOf m) (stateOf m) (snapOf c atoms (widthWord m)) ∙ rows-length m in
+        let long : length (stepOf m st c atoms .sets) ≡ rowCount m = step-sets (rowsOf m) st (snapOf c atoms (widthWord m)) ∙ rows-length m in
         ap (listed (setOf m₂)) (stepped .rows-same)
-        ∙ ext-getD [] (listed (setOf m₂) (rowCount m)) (stepOf m c atoms .sets) (listed-length (setOf m₂) (rowCount m) ∙ sym long)
+        ∙ ext-getD [] (listed (setOf m₂) (rowCount m)) (stepOf m st c atoms .sets) (listed-length (setOf m₂) (rowCount m) ∙ sym long)
         (λ r lt.
         let p : r < rowCount m = omega (arith, listed-length (setOf m₂) (rowCount m)) in
         listed-at (setOf m₂) [] (rowCount m) r p ∙ set-is r p)
 
     -- the memory holds the next state
-    state-after : stateOf m₂ ≡ stepOf m c atoms
+    state-after : stateOf m₂ ≡ stepOf m st c atoms
     unfolding stateOf
     state-after =
-        state-is (stepOf m c atoms)
-        (step-begun (rowsOf m) (stateOf m) (snapOf c atoms (widthWord m)) ∙ sym (ap isOne begun-now))
-        (step-now (rowsOf m) (stateOf m) (snapOf c atoms (widthWord m)) ∙ sym (ap₂ (λ (t : ℕ) (bs : List Bool). record { clock = t; atoms = bs }) clock-now atoms-are))
+        state-is (stepOf m st c atoms)
+        (step-begun (rowsOf m) st (snapOf c atoms (widthWord m)) ∙ sym (ap isOne begun-now))
+        (step-now (rowsOf m) st (snapOf c atoms (widthWord m)) ∙ sym (ap₂ (λ (t : ℕ) (bs : List Bool). record { clock = t; atoms = bs }) clock-now atoms-are))
         (sym sets-are)
 
-    pub played : Advanced m (snapOf c atoms (widthWord m) ∷ []) m₂ 0
-    unfolding play
-    played =
+    pub played : {ns : List Snap} → Leads m ns st c atoms → Advanced m ns m₂ 0
+    played leads =
+        let e = leads ∙ one-played m st c atoms roomy in
         record {
-          number = sym (rw roomy);
-          state = state-after ∙ sym (rw roomy);
+          number = sym (ap (λ (o : Outcome). o .number) e);
+          state = state-after ∙ sym (ap (λ (o : Outcome). o .state) e);
           book = step-book m m₂ (kept .sound) stepped;
           refused = λ ne. absurd (ne refl);
         }
@@ -360,24 +372,25 @@ module _
     pub due : {first : Bool} → first ≡ eqb (begunWord m) 0 → Due m₂ first
     due ef = record { sound = sound-now; valued = valued-now; moving = moving-now; unused = unused-now; asked = asked-now ef }
 
-unmoved : {m : List ℕ} {c : ℕ} (atoms : List ℕ) → crowded (stepOf m c atoms) ≡ true → Advanced m (snapOf c atoms (widthWord m) ∷ []) m 11
-unfolding play
-unmoved atoms e = record { number = sym (rw e); state = sym (rw e); book = refl; refused = λ ne. refl }
+unmoved : {m : List ℕ} (st : State) (c : ℕ) (atoms : List ℕ) {ns : List Snap} → Leads m ns st c atoms → crowded (stepOf m st c atoms) ≡ true → Advanced m ns m 11
+unmoved {m} st c atoms leads e =
+    let q = leads ∙ none-played m st c atoms e in
+    record { number = sym (ap (λ (o : Outcome). o .number) q); state = sym (ap (λ (o : Outcome). o .state) q); book = refl; refused = λ ne. refl }
 
 -- ---- a call that was tried
-module _ {m : List ℕ} {c : ℕ} {atoms m₁ : List ℕ} {r : ℕ} (tried : Tried m c atoms m₁ r) where
-  pub has-room : r ≡ 0 → crowded (stepOf m c atoms) ≡ false
-  has-room z = fails-by (crowded (stepOf m c atoms)) (λ f. let e = tried .full f .0 in absurd (omega arith))
+module _ {m : List ℕ} {st : State} {c : ℕ} {atoms m₁ : List ℕ} {r : ℕ} (tried : Tried m st c atoms m₁ r) where
+  pub has-room : r ≡ 0 → crowded (stepOf m st c atoms) ≡ false
+  has-room z = fails-by (crowded (stepOf m st c atoms)) (λ f. let e = tried .full f .0 in absurd (omega arith))
 
-  pub tried-moved : r ≡ 0 → Moved m c atoms m₁
+  pub tried-moved : r ≡ 0 → Moved m st c atoms m₁
   tried-moved z = tried .room (has-room z) .1
 
-  pub tried-refused : (r ≡ 0 → ⊥) → Advanced m (snapOf c atoms (widthWord m) ∷ []) m₁ r × (m₁ ≡ m)
-  tried-refused ne =
+  pub tried-refused : {ns : List Snap} → Leads m ns st c atoms → (r ≡ 0 → ⊥) → Advanced m ns m₁ r × (m₁ ≡ m)
+  tried-refused leads ne =
       ⊎-elim
-      (λ (f : crowded (stepOf m c atoms) ≡ true). let q = tried .full f in (rw (q .0, q .1) (unmoved atoms f), q .1))
-      (λ (f : crowded (stepOf m c atoms) ≡ false). absurd (ne (tried .room f .0)))
-      (either (crowded (stepOf m c atoms)))
+      (λ (f : crowded (stepOf m st c atoms) ≡ true). let q = tried .full f in (rw (q .0, q .1) (unmoved st c atoms leads f), q .1))
+      (λ (f : crowded (stepOf m st c atoms) ≡ false). absurd (ne (tried .room f .0)))
+      (either (crowded (stepOf m st c atoms)))
 
   -- its atoms stand there already
   pub tried-stands : Sound m → ((i : ℕ) → i < widthWord m → getD m (ATOMS + i) 0 ≡ getD atoms i 0) → r ≡ 0 → Atoms m₁ atoms (widthWord m₁) m₁
@@ -414,3 +427,106 @@ module _ {m : List ℕ} {first : Bool} (due : Due m first) where
           unused = count-unused sound (due .unused);
         },
       )
+
+-- a plan of the step from the state that the modes leave is one from any state that leads to the same
+pub planned-from : {m : List ℕ} {st st′ : State} {c : ℕ} {atoms m′ modes : List ℕ} {room : Bool} → stepOf m st c atoms ≡ stepOf m st′ c atoms
+    → Planned m st c atoms m′ room modes → Planned m st′ c atoms m′ room modes
+planned-from {m} {st} {st′} {c} {atoms} e p =
+    record {
+      fits = rw (← e) (p .fits);
+      sets = λ z j l. p .sets z j l ∙ ap (λ (s : State). setAt s (ownerAt m j)) e;
+      tried = p .tried;
+      few = p .few;
+      all = p .all;
+      values = p .values ∙ ap (λ (s : State). filledFrom VALUES (λ r. bitOf (value (rowsOf m) s r)) m (p .tried)) e;
+    }
+
+-- ---- two steps, the second planned over the values that the first left
+module _ {m m₁ : List ℕ} (sound : Sound m) (alike : Alike m m₁) where
+  rows-as : rowCount m₁ ≡ rowCount m
+  rows-as = alike .below 0 (omega arith)
+
+  slots-as : temporals m₁ ≡ temporals m
+  slots-as = alike .below 4 (omega arith)
+
+  owner-as : (j : ℕ) → j < temporals m → ownerAt m₁ j ≡ ownerAt m j
+  owner-as j h = let few = sound .book .temporal-few in alike .below (OWNERS + j) (omega arith)
+
+  same-step : (st : State) (c : ℕ) (atoms : List ℕ) → stepOf m₁ st c atoms ≡ stepOf m st c atoms
+  same-step st c atoms = ap₂ (λ (b : Rows) (w : ℕ). step b st (snapOf c atoms w)) (alike-rows sound alike) (alike .below 3 (omega arith))
+
+  moved-back : ((i : ℕ) → VALUES + rowCount m ≤ i → getD m₁ i 0 ≡ getD m i 0) → (st : State) (c : ℕ) (atoms : List ℕ) {m′ : List ℕ} → Moved m₁ st c atoms m′ → Moved m st c atoms m′
+  moved-back beyond₁ st c atoms v =
+      let few = sound .book .temporal-few in
+      let same = same-step st c atoms in
+      record {
+        long = v .long;
+        begun = v .begun;
+        clock = v .clock;
+        below = λ i p q lt. v .below i p q lt ∙ alike .below i (omega arith);
+        new = λ j lt. v .new j (rw slots-as lt) ∙ ap₂ (λ (s : State) (o : ℕ). pack SET (setAt s o)) same (owner-as j lt);
+        good = λ j lt. v .good j (rw slots-as lt);
+        old = λ j p q. v .old j (rw slots-as p) q ∙ alike-set sound alike j q;
+        values = λ r h. v .values r (rw rows-as h) ∙ ap₂ (λ (b : Rows) (s : State). bitOf (value b s r)) (alike-rows sound alike) same;
+        beyond = λ i p. v .beyond i (rw rows-as p) ∙ beyond₁ i p;
+      }
+
+module _ {m : List ℕ} {c : ℕ} {old m₁ modes₁ : List ℕ} (kept : Kept m) (small : c ≤ LAST-TIME) (first : Planned m (stateOf m) c old m₁ true modes₁) where
+  abbrev f₁ : ℕ → ℕ
+  f₁ = valueAfter m (stateOf m) c old
+
+  first-alike : Alike m m₁
+  first-alike = rw (first .values) (alike-filled m VALUES f₁ (first .tried) (omega arith))
+
+  pub first-sound : Sound m₁
+  first-sound = planned-sound (kept .sound) first
+
+  pub first-width : (bytes : List ℕ) → widthWord m ≤ length bytes → widthWord m₁ ≤ length bytes
+  first-width bytes h = let e = first-alike .below 3 (omega arith) in omega arith
+
+  first-beyond : (i : ℕ) → VALUES + rowCount m ≤ i → getD m₁ i 0 ≡ getD m i 0
+  first-beyond i h = let few = first .few in ap (λ (x : List ℕ). getD x i 0) (first .values) ∙ filledFrom-after VALUES f₁ m 0 (first .tried) i (omega arith)
+
+  -- the plan of the second, from the state that the first leaves
+  pub second-from : {new m₂ modes₂ : List ℕ} {room : Bool} → Planned m₁ (ahead m₁ c modes₁) c new m₂ room modes₂ → Planned m₁ (stepOf m (stateOf m) c old) c new m₂ room modes₂
+  second-from {new} p = planned-from (ahead-one first-sound small modes₁ (stepOf m (stateOf m) c old)
+      (λ j h.
+      let l : j < temporals m = rw (← slots-as (kept .sound) first-alike) h in
+      set-planned (kept .sound) small first j l ∙ ap (setAt (stepOf m (stateOf m) c old)) (sym (owner-as (kept .sound) first-alike j l))) new) p
+
+  pub both-room : {new m₂ m₃ m₄ modes₂ : List ℕ} → Planned m₁ (stepOf m (stateOf m) c old) c new m₂ true modes₂
+      → Written m₂ (λ j. setAfter m₂ c (getD modes₂ j 0) j) (temporals m₂) m₃ → m₄ ≡ clocked m₃ c → TriedBoth m c old new m₄ 0
+  both-room {new} p w e =
+      let between : State = stepOf m (stateOf m) c old in
+      let same = same-step (kept .sound) first-alike between c new in
+      record {
+        between = λ f. absurd (true≢false (sym f ∙ first .fits));
+        last = λ z. record {
+          room = λ f. (refl, moved-back (kept .sound) first-alike first-beyond between c new (tried-room first-sound small p w e .room (p .fits) .1));
+          full = λ f. absurd (true≢false (sym f ∙ sym (ap crowded same) ∙ p .fits));
+        };
+      }
+
+  pub both-full : {new m₂ m₃ modes₂ : List ℕ} → Planned m₁ (stepOf m (stateOf m) c old) c new m₂ false modes₂ → m₃ ≡ valuesPut m₂ → TriedBoth m c old new m₃ 11
+  both-full {new} {m₂} p e =
+      let between : State = stepOf m (stateOf m) c old in
+      let f₂ : ℕ → ℕ = valueAfter m₁ between c new in
+      let few = p .few in
+      let count : rowCount m₁ ≡ rowCount m = first-alike .below 0 (omega arith) in
+      let alike₂ : Alike m₁ m₂ = rw (p .values) (alike-filled m₁ VALUES f₂ (p .tried) (omega arith)) in
+      let same = same-step (kept .sound) first-alike between c new in
+      record {
+        between = λ f. absurd (true≢false (sym f ∙ first .fits));
+        last = λ z. record {
+          room = λ f. absurd (true≢false (sym (p .fits) ∙ ap crowded same ∙ f));
+          full = λ f. (
+            refl,
+            e ∙ restored-from kept (alike-on first-alike alike₂)
+                (λ i h. ap (λ (x : List ℕ). getD x i 0) (p .values) ∙ filledFrom-after VALUES f₂ m₁ 0 (p .tried) i (omega arith) ∙ first-beyond i h),
+          );
+        };
+      }
+
+pub first-full : {m : List ℕ} {c : ℕ} {old m₁ m₂ modes : List ℕ} → Kept m → Planned m (stateOf m) c old m₁ false modes → m₂ ≡ valuesPut m₁ → (new : List ℕ) → TriedBoth m c old new m₂ 11
+first-full kept p e new =
+    record { between = λ f. (refl, e ∙ restored kept _ (p .tried) (p .few) (p .values)); last = λ f. absurd (true≢false (sym (p .fits) ∙ f)) }

@@ -1,4 +1,5 @@
 pub mod Rules
+pub mod Ahead
 pub mod Modes
 pub mod Commits
 pub mod Heads

@@ -18,11 +18,11 @@ use Rattle.pmtl.proofs.Answers.{step-now}
 use Rattle.memory.specs.Layout.{ROWS, ROW, VALUES, MOVES}
 use Rattle.memory.specs.Memory.{rowCount, widthWord, temporals, kindAt, argAt, ownerAt, atomsOf, valueAt, movesAt, rowOf, rowsOf, stateOf, isOne}
 use Rattle.memory.specs.Tables.{moveRule, moves}
-use Rattle.memory.specs.Kept.{Kept}
+use Rattle.memory.specs.Kept.{Sound, Kept}
 use Rattle.memory.proofs.Rows.{rows-length, row-at, kept-ordered}
 use Rattle.book.specs.Rows.{rowFrom}
 use Rattle.memory.proofs.Bits.{bit-back}
-use Rattle.calls.specs.Private.{atomsFor, snapOf, stepOf, heldIn, atomsIn, setNext, valueNext, Named, valueAfter}
+use Rattle.calls.specs.Private.{atomsFor, snapOf, stepOf, ahead, heldIn, atomsIn, setNext, valueNext, Named, valueAfter}
 use Rattle.calls.proofs.Plans.{Going}
 use Rattle.calls.proofs.Heads.{old-atoms}
 use Rattle.calls.proofs.Still.{still}
@@ -71,93 +71,94 @@ unfolding rowOf
 still-plain f m r h e = still-from f (kindAt m r) _ _ _ _ h e
 
 -- ---- the row that planning has come to
-module _ {m : List ℕ} (kept : Kept m) where
+module _ {m : List ℕ} (sound : Sound m) where
   abbrev of-rows : ℕ → Bool
   of-rows = moves (rowsOf m)
 
   own-rule : (n : ℕ) → n < rowCount m → of-rows n ≡ moveRule (mapRow of-rows (rowOf m n))
   own-rule n h =
-      answer-in (rowsOf m) false (λ r row. moveRule row) (kept-ordered (kept .sound .book)) n (rw rows-length h)
+      answer-in (rowsOf m) false (λ r row. moveRule row) (kept-ordered (sound .book)) n (rw rows-length h)
       ∙ ap (λ (row : Row ℕ). moveRule (mapRow of-rows row)) (row-at m n h)
 
-  module _ {c : ℕ} {atoms m′ modes : List ℕ} {n : ℕ} (g : Going m c atoms m′ modes n) (h : n < rowCount m) where
+  module _ {modes₀ : List ℕ} {c : ℕ} {atoms m′ modes : List ℕ} {n : ℕ} (g : Going m modes₀ c atoms m′ modes n) (h : n < rowCount m) where
     small : n < 128
-    small = omega (arith, kept .sound .book .few)
+    small = omega (arith, sound .book .few)
 
-    moves-now : isOne (movesAt m′ n) ≡ of-rows n
-    moves-now =
+    moves-now : Kept m → isOne (movesAt m′ n) ≡ of-rows n
+    moves-now kept =
         let s = small in
         ap (λ (x : List ℕ). isOne (movesAt x n)) (g .values)
-        ∙ ap isOne (filledFrom-after VALUES (valueAfter m c atoms) m 0 n (MOVES + n) (omega arith) ∙ kept .tables .moving .right n h) ∙ bit-back (of-rows n)
+        ∙ ap isOne (filledFrom-after VALUES (valueAfter m (ahead m c modes₀) c atoms) m 0 n (MOVES + n) (omega arith) ∙ kept .tables .moving .right n h) ∙ bit-back (of-rows n)
 
     word-now : (k : ℕ) → k < VALUES → getD m′ k 0 ≡ getD m k 0
-    word-now k l = ap (λ (x : List ℕ). getD x k 0) (g .values) ∙ filledFrom-before VALUES (valueAfter m c atoms) m 0 n k l
+    word-now k l = ap (λ (x : List ℕ). getD x k 0) (g .values) ∙ filledFrom-before VALUES (valueAfter m (ahead m c modes₀) c atoms) m 0 n k l
 
     kind-now : kindAt m′ n ≡ kindAt m n
     kind-now = let s = small in word-now (ROWS + ROW * n) (omega arith)
 
     -- one that moves is no atom
-    moving-kind : isOne (movesAt m′ n) ≡ true → kindAt m′ n ≡ 2 → ⊥
-    moving-kind e k = true≢false (sym (sym moves-now ∙ e) ∙ own-rule n h ∙ atom-still of-rows m n (sym kind-now ∙ k))
+    moving-kind : Kept m → isOne (movesAt m′ n) ≡ true → kindAt m′ n ≡ 2 → ⊥
+    moving-kind kept e k = true≢false (sym (sym (moves-now kept) ∙ e) ∙ own-rule n h ∙ atom-still of-rows m n (sym kind-now ∙ k))
 
-    pub visited-named : (fresh : Bool) (bytes : List ℕ) → (fresh ≡ true → widthWord m ≤ length bytes) → (fresh || isOne (movesAt m′ n)) ≡ true → Named m′ bytes n
-    visited-named true bytes wide e =
+    pub visited-named : (fresh : Bool) (bytes : List ℕ) → (fresh ≡ false → Kept m) → (fresh ≡ true → widthWord m ≤ length bytes) → (fresh || isOne (movesAt m′ n)) ≡ true → Named m′ bytes n
+    visited-named true bytes kept wide e =
         let s = small in
         record {
           inside = λ k.
               let arg : argAt m′ n ≡ argAt m n = word-now (ROWS + ROW * n + 1) (omega arith) in
-              let below = kept .sound .book .rows n h .atoms (sym kind-now ∙ k) in
+              let below = sound .book .rows n h .atoms (sym kind-now ∙ k) in
               let l = wide refl in
               omega arith;
         }
-    visited-named false bytes wide e = record { inside = λ k. absurd (moving-kind e k) }
+    visited-named false bytes kept wide e = record { inside = λ k. absurd (moving-kind (kept refl) e k) }
 
-    pub visited-same : (fresh : Bool) (bytes : List ℕ) → atoms ≡ atomsFor m fresh bytes → (fresh || isOne (movesAt m′ n)) ≡ true → valueNext m′ c bytes n ≡ valueNext m′ c atoms n
-    visited-same true bytes ea e = ap (λ (x : List ℕ). valueNext m′ c x n) (sym ea)
-    visited-same false bytes ea e = not-atom (atomsIn m′ bytes) (atomsIn m′ atoms) (has (setNext m′ c n) c) (heldIn m′) m′ n (moving-kind e)
+    pub visited-same : (fresh : Bool) (bytes : List ℕ) → (fresh ≡ false → Kept m) → atoms ≡ atomsFor m fresh bytes → (fresh || isOne (movesAt m′ n)) ≡ true → valueNext m′ c modes bytes n ≡ valueNext m′ c modes atoms n
+    visited-same true bytes kept ea e = ap (λ (x : List ℕ). valueNext m′ c modes x n) (sym ea)
+    visited-same false bytes kept ea e = not-atom (atomsIn m′ bytes) (atomsIn m′ atoms) (has (setNext m′ c modes n) c) (heldIn m′) m′ n (moving-kind (kept refl) e)
 
     -- one that is passed over keeps its value, and has no set
-    module _ (ea : atoms ≡ atomsOf m) (e : isOne (movesAt m′ n) ≡ false) where
+    module _ (kept : Kept m) (ea : atoms ≡ atomsOf m) (e : isOne (movesAt m′ n) ≡ false) where
       stays : of-rows n ≡ false
-      stays = sym moves-now ∙ e
+      stays = sym (moves-now kept) ∙ e
 
       plain : kindAt m n < 7
-      plain = still-plain of-rows m n (kept .sound .book .rows n h .kind) (sym (own-rule n h) ∙ stays)
+      plain = still-plain of-rows m n (sound .book .rows n h .kind) (sym (own-rule n h) ∙ stays)
 
-      value-stays : valueAfter m c atoms n ≡ valueAt m n
+      value-stays : valueAfter m (ahead m c modes₀) c atoms n ≡ valueAt m n
       unfolding stateOf
       value-stays =
-          ap bitOf (still (rowsOf m) (kept-ordered (kept .sound .book)) (stateOf m) (stepOf m c atoms)
-          (ap (λ (s : Snap). s .atoms) (step-now (rowsOf m) (stateOf m) (snapOf c atoms (widthWord m))) ∙ ap (λ (x : List ℕ). map isOne (take (widthWord m) x)) ea ∙ old-atoms (kept .sound))
+          ap bitOf (still (rowsOf m) (kept-ordered (sound .book)) (stateOf m) (stepOf m (ahead m c modes₀) c atoms)
+          (ap (λ (s : Snap). s .atoms) (step-now (rowsOf m) (ahead m c modes₀) (snapOf c atoms (widthWord m))) ∙ ap (λ (x : List ℕ). map isOne (take (widthWord m) x)) ea ∙ old-atoms (sound))
           n stays)
           ∙ sym (kept .tables .valued .right n h)
 
       value-there : valueAt m′ n ≡ valueAt m n
-      value-there = ap (λ (x : List ℕ). valueAt x n) (g .values) ∙ filledFrom-after VALUES (valueAfter m c atoms) m 0 n (VALUES + n) (omega arith)
+      value-there = ap (λ (x : List ℕ). valueAt x n) (g .values) ∙ filledFrom-after VALUES (valueAfter m (ahead m c modes₀) c atoms) m 0 n (VALUES + n) (omega arith)
 
       not-owner : (j : ℕ) → j < temporals m → ownerAt m j < n + 1 → ownerAt m j < n
       not-owner j l p =
           ⊎-elim (λ (q : ownerAt m j < n). q)
           (λ (q : n ≤ ownerAt m j).
           let z : ownerAt m j ≡ n = omega arith in
-          let t : 7 ≤ kindAt m n = rw (← z) (kept .sound .book .temporals-are j l) in
+          let t : 7 ≤ kindAt m n = rw (← z) (sound .book .temporals-are j l) in
           let low = plain in
           absurd (omega arith))
           (lt-or-ge (ownerAt m j) n)
 
-      going-past : Going m c atoms m′ modes (n + 1)
+      going-past : Going m modes₀ c atoms m′ modes (n + 1)
       going-past =
           record {
             few = omega arith;
-            values = sym (ap (set m′ (VALUES + n)) (value-stays ∙ sym value-there) ∙ set-getD m′ (VALUES + n) 0) ∙ filledFrom-more VALUES (valueAfter m c atoms) m (g .values) refl;
+            values = sym (ap (set m′ (VALUES + n)) (value-stays ∙ sym value-there) ∙ set-getD m′ (VALUES + n) 0) ∙ filledFrom-more VALUES (valueAfter m (ahead m c modes₀) c atoms) m (g .values) refl;
             modes-long = g .modes-long;
             sets = λ j l p. g .sets j l (not-owner j l p);
             room = λ j l p. g .room j l (not-owner j l p);
+            rest = λ j l p. g .rest j l (omega arith);
           }
 
-    pub going-skip : (fresh : Bool) (bytes : List ℕ) → atoms ≡ atomsFor m fresh bytes → (fresh || isOne (movesAt m′ n)) ≡ false → Going m c atoms m′ modes (n + 1)
-    going-skip true bytes ea e = absurd (true≢false e)
-    going-skip false bytes ea e = going-past ea e
+    pub going-skip : (fresh : Bool) (bytes : List ℕ) → (fresh ≡ false → Kept m) → atoms ≡ atomsFor m fresh bytes → (fresh || isOne (movesAt m′ n)) ≡ false → Going m modes₀ c atoms m′ modes (n + 1)
+    going-skip true bytes kept ea e = absurd (true≢false e)
+    going-skip false bytes kept ea e = going-past (kept refl) ea e
 
 -- ---- as the code decides it
 pub looks-all : {fresh : Bool} (moved : Bool) → fresh ≡ true → true ≡ (fresh || moved)

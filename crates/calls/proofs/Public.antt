@@ -1,29 +1,31 @@
 -- The public calls, arm by arm: refused for themselves, or played. Assumes nothing.
 use Prim.Native.Nat.{ℕ, _≤_, _<_}
 use mathlib.Core.Path.{_≡_, refl, sym, ap, ap₂, _∙_}
-use mathlib.Core.Bool.{Bool, true, false, true≢false}
+use mathlib.Core.Logic.{⊎-elim}
+use mathlib.Core.Bool.{Bool, true, false, cond, true≢false}
 use mathlib.Core.List.{List, [], _∷_, map}
 use native.Mathlib.Omega.{arith}
 use lib.ListN.{length, getD, take}
 use lib.Dec.{ltb, eqb}
-use borrow.Author.Tests.{lt-ltb, le-ltb, ltb-false, ne-eqb}
+use borrow.Author.Tests.{lt-ltb, le-ltb, ltb-false, ne-eqb, eq-eqb}
 use Rattle.numbers.specs.Limits.{LAST-TIME, MOST-ATOMS}
-use Rattle.lists.proofs.Tests.{fails-by}
+use Rattle.lists.proofs.Tests.{either, fails-by}
 use Rattle.pmtl.specs.Book.{widthOf, some}
-use Rattle.pmtl.specs.Monitor.{Snap}
-use Rattle.pmtl.specs.Calls.{Call, turns, refusal, play, call}
-use Rattle.pmtl.specs.Calls.Call.{time, state}
+use Rattle.pmtl.specs.Monitor.{Snap, State}
+use Rattle.pmtl.specs.Calls.{Call, turns, timeRefusal, stateRefusal, firstOf, refusal, crowded, play, call}
+use Rattle.pmtl.specs.Calls.Call.{time, state, stamped}
+use Rattle.pmtl.proofs.Calls.{first-zero, timely}
 use Rattle.memory.specs.Layout.{SIZE}
 use Rattle.memory.specs.Memory.{begunWord, clockOf, widthWord, rowsOf, bookOf, stateOf, isOne, atomsOf}
 use Rattle.memory.specs.Tables.{Tables}
-use Rattle.memory.specs.Kept.{Sound, Kept}
+use Rattle.memory.specs.Kept.{BookKept, Sound, Kept}
 use Rattle.memory.specs.Alike.{Alike}
 use Rattle.memory.proofs.Alike.{alike-sound, alike-book, alike-state}
-use Rattle.calls.specs.Private.{Bytes, snapOf, Atoms, Tried, Due, Advanced}
+use Rattle.calls.specs.Private.{Bytes, snapOf, stepOf, Atoms, Moved, Tried, TriedBoth, Due, Advanced}
 use Rattle.calls.specs.Called.{Called}
 use Rattle.calls.proofs.Plans.{some-hit}
 use Rattle.calls.proofs.Heads.{old-same, old-bytes, old-atoms}
-use Rattle.calls.proofs.Advances.{moved-width, played, due, has-room, tried-moved, tried-refused, tried-stands}
+use Rattle.calls.proofs.Advances.{Leads, moved-width, played, due, has-room, tried-moved, tried-refused, tried-stands}
 
 -- ---- a call that is refused for itself, and one that is not
 called-refused : {m : List ℕ} {k : Call} {n : ℕ} → Kept m → refusal (rowsOf m) (stateOf m .now) k ≡ n → (n ≡ 0 → ⊥) → Called k m m n
@@ -55,93 +57,192 @@ advanced-renewed a sound t = (
   record { sound = alike-sound sound (t .0); tables = t .1 },
 )
 
-module _ {m : List ℕ} (kept : Kept m) where
-  narrow : widthWord m ≤ 256
-  narrow = kept .sound .book .narrow
+-- ---- what is wrong with a time, and with a state
+module _ (m : List ℕ) {t clock : ℕ} (ec : clock ≡ clockOf m) where
+  pub number-early : t < clock → 7 ≡ timeRefusal (stateOf m .now) t
+  unfolding stateOf
+  number-early h = let e = lt-ltb t (clockOf m) (omega arith) in sym (rw e)
 
-  pub state-timely : {clock : ℕ} → clock ≡ clockOf m → Kept m × (clock ≤ LAST-TIME)
-  state-timely ec = (kept, rw ec (kept .sound .clock))
+  pub number-late : clock ≤ t → LAST-TIME < t → 8 ≡ timeRefusal (stateOf m .now) t
+  unfolding stateOf
+  number-late h k = let e = le-ltb t (clockOf m) (omega arith) in sym (rw (e, lt-ltb LAST-TIME t k))
 
-  -- ---- a time call
-  module _ {t clock : ℕ} (ec : clock ≡ clockOf m) where
-    pub time-early : t < clock → Called (time t) m m 7
+  pub number-timely : clock ≤ t → t ≤ LAST-TIME → 0 ≡ timeRefusal (stateOf m .now) t
+  unfolding stateOf
+  number-timely h k = let e = le-ltb t (clockOf m) (omega arith) in sym (rw (e, le-ltb LAST-TIME t k))
+
+module _ {m : List ℕ} (book : BookKept m) (s : List ℕ) where
+  pub number-wide : MOST-ATOMS < length s → 2 ≡ stateRefusal (rowsOf m) s
+  number-wide h = sym (rw (lt-ltb MOST-ATOMS (length s) h))
+
+  module _ (h : length s ≤ MOST-ATOMS) {w : ℕ} (ew : w ≡ widthWord m) where
+    width-is : widthOf (rowsOf m) ≡ w
+    width-is = sym (ew ∙ book .width)
+
+    pub number-short : length s < w → 9 ≡ stateRefusal (rowsOf m) s
+    number-short k = sym (rw (le-ltb MOST-ATOMS (length s) h, width-is, lt-ltb (length s) w k))
+
+    module _ (k : w ≤ length s) {b : Bool} (eb : b ≡ some (ltb 1) s) where
+      pub number-other : b ≡ true → 10 ≡ stateRefusal (rowsOf m) s
+      number-other e = sym (rw (le-ltb MOST-ATOMS (length s) h, width-is, le-ltb (length s) w k, ← eb, e))
+
+      pub number-bits : b ≡ false → 0 ≡ stateRefusal (rowsOf m) s
+      number-bits e = sym (rw (le-ltb MOST-ATOMS (length s) h, width-is, le-ltb (length s) w k, ← eb, e))
+
+-- a state that nothing is wrong with
+sound-bytes : {m : List ℕ} → BookKept m → (s : List ℕ) → stateRefusal (rowsOf m) s ≡ 0 → Bytes s (widthWord m)
+sound-bytes {m} book s e =
+    let p = first-zero (ltb MOST-ATOMS (length s)) 1 (cond (ltb (length s) (widthOf (rowsOf m))) 9 (cond (some (ltb 1) s) 10 0)) e in
+    let q = first-zero (ltb (length s) (widthOf (rowsOf m))) 8 (cond (some (ltb 1) s) 10 0) (p .1) in
+    let z = first-zero (some (ltb 1) s) 9 0 (q .1) .0 in
+    let long : widthOf (rowsOf m) ≤ length s = ltb-false (length s) (widthOf (rowsOf m)) (q .0) in
+    record {
+      long = rw (book .width) long;
+      bits = λ i lt. ltb-false 1 (getD s i 0) (fails-by (ltb 1 (getD s i 0)) (λ y. true≢false (sym (some-hit (ltb 1) 0 s i (let w = book .width in omega arith) y) ∙ z)));
+    }
+
+-- there is place for the atoms of a state where the sets were changed
+roomy-for : {m m₁ s : List ℕ} {st : State} {c : ℕ} → Kept m → Bytes s (widthWord m) → Moved m st c s m₁ → (length m₁ ≡ SIZE) × (widthWord m₁ ≤ length s) × (widthWord m₁ ≤ 256)
+roomy-for kept bytes v = (v .long, rw (moved-width v) (bytes .long), omega (arith, kept .sound .book .narrow, moved-width v))
+
+-- ---- a time call
+module _ {m : List ℕ} (kept : Kept m) (t : ℕ) {late : ℕ} (el : late ≡ timeRefusal (stateOf m .now) t) where
+  pub time-wrong : (late ≡ 0 → ⊥) → Called (time t) m m late
+  unfolding refusal
+  time-wrong ne = called-refused kept (sym el) ne
+
+  module _ (in-time : late ≡ 0) where
+    pub in-range : t ≤ LAST-TIME
+    in-range = timely (stateOf m .now) t (sym el ∙ in-time) .1
+
+    time-played : {m′ : List ℕ} {r : ℕ} → Advanced m (snapOf t (atomsOf m) (widthWord m) ∷ []) m′ r → Kept m′ → Called (time t) m m′ r
     unfolding refusal stateOf
-    time-early h = called-refused kept (let e = lt-ltb t (clockOf m) (omega arith) in rw e) (omega arith)
+    time-played a kept′ = called-played (sym el ∙ in-time) (ap (λ (bs : List Bool). record { clock = t; atoms = bs } ∷ []) (old-atoms (kept .sound))) a kept′
 
-    pub time-late : clock ≤ t → LAST-TIME < t → Called (time t) m m 8
-    unfolding refusal stateOf
-    time-late h k = called-refused kept (let e = le-ltb t (clockOf m) (omega arith) in rw (e, lt-ltb LAST-TIME t k)) (omega arith)
+    module _ {m₁ : List ℕ} {r : ℕ} (tried : Tried m (stateOf m) t (atomsOf m) m₁ r) where
+      pub time-full : (r ≡ 0 → ⊥) → Called (time t) m m₁ r
+      time-full ne = let q = tried-refused tried refl ne in time-played (q .0) (rw (q .1) kept)
 
-    module _ (h : clock ≤ t) (k : t ≤ LAST-TIME) where
-      time-played : {m′ : List ℕ} {r : ℕ} → Advanced m (snapOf t (atomsOf m) (widthWord m) ∷ []) m′ r → Kept m′ → Called (time t) m m′ r
+      -- its atoms stand there already
+      stands : r ≡ 0 → Atoms m₁ (atomsOf m) (widthWord m₁) m₁
+      stands = tried-stands tried (kept .sound) (old-same (kept .sound))
+
+      pub time-due : r ≡ 0 → {first : Bool} → first ≡ eqb (begunWord m) 0 → Due m₁ first
+      time-due z ef = due kept in-range (old-bytes (kept .sound)) (has-room tried z) (tried-moved tried z) (stands z) ef
+
+      pub time-done : {m₂ : List ℕ} → r ≡ 0 → Alike m₁ m₂ × Tables m₂ → Called (time t) m m₂ 0
+      time-done z renewed =
+          let a = played kept in-range (old-bytes (kept .sound)) (has-room tried z) (tried-moved tried z) (stands z) refl in
+          let q = advanced-renewed a (time-due z refl .sound) renewed in
+          time-played (q .0) (q .1)
+
+-- ---- a state call
+module _ {m : List ℕ} (kept : Kept m) (s : List ℕ) {wrong : ℕ} (ew : wrong ≡ stateRefusal (rowsOf m) s) where
+  pub state-wrong : (wrong ≡ 0 → ⊥) → Called (state s) m m wrong
+  unfolding refusal
+  state-wrong ne = called-refused kept (sym ew) ne
+
+  module _ (right : wrong ≡ 0) where
+    new-bytes : Bytes s (widthWord m)
+    new-bytes = sound-bytes (kept .sound .book) s (sym ew ∙ right)
+
+    module _ {clock : ℕ} (ec : clock ≡ clockOf m) where
+      pub state-timely : (Kept m × (clock ≤ LAST-TIME)) × (true ≡ true → widthWord m ≤ length s)
+      state-timely = ((kept, rw ec (kept .sound .clock)), λ e. new-bytes .long)
+
+      state-played : {m′ : List ℕ} {r : ℕ} → Advanced m (snapOf clock s (widthWord m) ∷ []) m′ r → Kept m′ → Called (state s) m m′ r
       unfolding refusal stateOf
-      time-played a kept′ =
-          called-played (let e = le-ltb t (clockOf m) (omega arith) in rw (e, le-ltb LAST-TIME t k)) (ap (λ (bs : List Bool). record { clock = t; atoms = bs } ∷ []) (old-atoms (kept .sound))) a kept′
+      state-played a kept′ =
+          called-played (sym ew ∙ right) (ap₂ (λ (c n : ℕ). record { clock = c; atoms = map isOne (take n s) } ∷ []) ec (kept .sound .book .width)) a kept′
 
-      module _ {m₁ : List ℕ} {r : ℕ} (tried : Tried m t (atomsOf m) m₁ r) where
-        pub time-full : (r ≡ 0 → ⊥) → Called (time t) m m₁ r
-        time-full ne = let q = tried-refused tried ne in time-played (q .0) (rw (q .1) kept)
+      module _ {m₁ : List ℕ} {r : ℕ} (tried : Tried m (stateOf m) clock s m₁ r) where
+        pub state-full : (r ≡ 0 → ⊥) → Called (state s) m m₁ r
+        state-full ne = let q = tried-refused tried refl ne in state-played (q .0) (rw (q .1) kept)
 
-        -- its atoms stand there already
-        stands : r ≡ 0 → Atoms m₁ (atomsOf m) (widthWord m₁) m₁
-        stands = tried-stands tried (kept .sound) (old-same (kept .sound))
+        pub state-roomy : r ≡ 0 → (length m₁ ≡ SIZE) × (widthWord m₁ ≤ length s) × (widthWord m₁ ≤ 256)
+        state-roomy z = roomy-for kept new-bytes (tried-moved tried z)
 
-        pub time-due : r ≡ 0 → {first : Bool} → first ≡ eqb (begunWord m) 0 → Due m₁ first
-        time-due z ef = due kept k (old-bytes (kept .sound)) (has-room tried z) (tried-moved tried z) (stands z) ef
+        module _ {m₂ : List ℕ} (z : r ≡ 0) (a : Atoms m₁ s (widthWord m₁) m₂) where
+          pub state-due : {first : Bool} → first ≡ eqb (begunWord m) 0 → Due m₂ first
+          state-due ef = due kept (state-timely .0 .1) new-bytes (has-room tried z) (tried-moved tried z) a ef
 
-        pub time-done : {m₂ : List ℕ} → r ≡ 0 → Alike m₁ m₂ × Tables m₂ → Called (time t) m m₂ 0
-        time-done z renewed =
-            let a = played kept k (old-bytes (kept .sound)) (has-room tried z) (tried-moved tried z) (stands z) in
-            let q = advanced-renewed a (time-due z refl .sound) renewed in
-            time-played (q .0) (q .1)
+          pub state-done : {m₃ : List ℕ} → Alike m₂ m₃ × Tables m₃ → Called (state s) m m₃ 0
+          state-done renewed =
+              let p = played kept (state-timely .0 .1) new-bytes (has-room tried z) (tried-moved tried z) a refl in
+              let q = advanced-renewed p (state-due refl .sound) renewed in
+              state-played (q .0) (q .1)
 
-  -- ---- a state call
-  module _ (s : List ℕ) where
-    pub state-wide : MOST-ATOMS < length s → Called (state s) m m 2
-    unfolding refusal
-    state-wide h = called-refused kept (rw (lt-ltb MOST-ATOMS (length s) h)) (omega arith)
+-- ---- a stamped call
+module _ {m : List ℕ} (kept : Kept m) (t : ℕ) (s : List ℕ) {late : ℕ} (el : late ≡ timeRefusal (stateOf m .now) t) where
+  pub stamped-late : (late ≡ 0 → ⊥) → Called (stamped t s) m m late
+  unfolding refusal firstOf
+  stamped-late ne = called-refused kept (rw (← el) (rw (ne-eqb late 0 ne))) ne
 
-    module _ (h : length s ≤ MOST-ATOMS) {w : ℕ} (ew : w ≡ widthWord m) where
-      width : widthOf (rowsOf m) ≡ w
-      width = sym (ew ∙ kept .sound .book .width)
+  module _ (in-time : late ≡ 0) {wrong : ℕ} (ew : wrong ≡ stateRefusal (rowsOf m) s) where
+    time-fine : timeRefusal (stateOf m .now) t ≡ 0
+    time-fine = sym el ∙ in-time
 
-      pub state-short : length s < w → Called (state s) m m 9
-      unfolding refusal
-      state-short k = called-refused kept (rw (le-ltb MOST-ATOMS (length s) h, width, lt-ltb (length s) w k)) (omega arith)
+    pub stamped-wrong : (wrong ≡ 0 → ⊥) → Called (stamped t s) m m wrong
+    unfolding refusal firstOf
+    stamped-wrong ne = called-refused kept (rw (eq-eqb (timeRefusal (stateOf m .now) t) 0 time-fine) (sym ew)) ne
 
-      module _ (k : w ≤ length s) {b : Bool} (eb : b ≡ some (ltb 1) s) where
-        pub state-other : b ≡ true → Called (state s) m m 10
-        unfolding refusal
-        state-other e = called-refused kept (rw (le-ltb MOST-ATOMS (length s) h, width, le-ltb (length s) w k, ← eb, e)) (omega arith)
+    module _ (right : wrong ≡ 0) where
+      state-fine : stateRefusal (rowsOf m) s ≡ 0
+      state-fine = sym ew ∙ right
 
-        module _ (e : b ≡ false) where
-          bit-each : (i : ℕ) → i < length s → getD s i 0 ≤ 1
-          bit-each i lt = ltb-false 1 (getD s i 0) (fails-by (ltb 1 (getD s i 0)) (λ z. true≢false (sym (some-hit (ltb 1) 0 s i lt z) ∙ sym eb ∙ e)))
+      bytes : Bytes s (widthWord m)
+      bytes = sound-bytes (kept .sound .book) s state-fine
 
-          new-bytes : Bytes s (widthWord m)
-          new-bytes = record { long = rw (← ew) k; bits = λ i lt. bit-each i (omega arith) }
+      small : t ≤ LAST-TIME
+      small = in-range kept t el in-time
 
-          state-played : {m′ : List ℕ} {r clock : ℕ} → clock ≡ clockOf m → Advanced m (snapOf clock s (widthWord m) ∷ []) m′ r → Kept m′ → Called (state s) m m′ r
-          unfolding refusal stateOf
-          state-played ec a kept′ =
-              called-played (rw (le-ltb MOST-ATOMS (length s) h, width, le-ltb (length s) w k, ← eb, e))
-              (ap₂ (λ (c n : ℕ). record { clock = c; atoms = map isOne (take n s) } ∷ []) ec (kept .sound .book .width)) a kept′
+      pub stamped-timely : Kept m × (t ≤ LAST-TIME) × (widthWord m ≤ length s)
+      stamped-timely = (kept, small, bytes .long)
 
-          module _ {m₁ : List ℕ} {r clock : ℕ} (ec : clock ≡ clockOf m) (tried : Tried m clock s m₁ r) where
-            pub state-full : (r ≡ 0 → ⊥) → Called (state s) m m₁ r
-            state-full ne = let q = tried-refused tried ne in state-played ec (q .0) (rw (q .1) kept)
+      abbrev snaps : List Snap
+      snaps = snapOf t (atomsOf m) (widthWord m) ∷ snapOf t s (widthWord m) ∷ []
 
-            pub state-roomy : r ≡ 0 → (length m₁ ≡ SIZE) × (widthWord m₁ ≤ length s) × (widthWord m₁ ≤ 256)
-            state-roomy z =
-                let v = tried-moved tried z in
-                (v .long, rw (moved-width v) (new-bytes .long), omega (arith, narrow, moved-width v))
+      stamped-played : {m′ : List ℕ} {r : ℕ} → Advanced m snaps m′ r → Kept m′ → Called (stamped t s) m m′ r
+      unfolding refusal firstOf stateOf
+      stamped-played a kept′ =
+          called-played (rw (eq-eqb (timeRefusal (stateOf m .now) t) 0 time-fine) state-fine)
+          (ap₂ (λ (bs : List Bool) (w : ℕ). record { clock = t; atoms = bs } ∷ record { clock = t; atoms = map isOne (take w s) } ∷ []) (old-atoms (kept .sound)) (kept .sound .book .width)) a kept′
 
-            module _ {m₂ : List ℕ} (z : r ≡ 0) (a : Atoms m₁ s (widthWord m₁) m₂) where
-              pub state-due : {first : Bool} → first ≡ eqb (begunWord m) 0 → Due m₂ first
-              state-due ef = due kept (state-timely ec .1) new-bytes (has-room tried z) (tried-moved tried z) a ef
+      abbrev between : State
+      between = stepOf m (stateOf m) t (atomsOf m)
 
-              pub state-done : {m₃ : List ℕ} → Alike m₂ m₃ × Tables m₃ → Called (state s) m m₃ 0
-              state-done renewed =
-                  let p = played kept (state-timely ec .1) new-bytes (has-room tried z) (tried-moved tried z) a in
-                  let q = advanced-renewed p (state-due refl .sound) renewed in
-                  state-played ec (q .0) (q .1)
+      leads : crowded between ≡ false → Leads m snaps between t s
+      unfolding play
+      leads e = rw (e, play)
+
+      none-between : crowded between ≡ true → Advanced m snaps m 11
+      unfolding play
+      none-between e = record { number = sym (rw (e, play)); state = sym (rw (e, play)); book = refl; refused = λ ne. refl }
+
+      module _ {m₁ : List ℕ} {r : ℕ} (tried : TriedBoth m t (atomsOf m) s m₁ r) where
+        pub stamped-full : (r ≡ 0 → ⊥) → Called (stamped t s) m m₁ r
+        stamped-full ne =
+            ⊎-elim
+            (λ (f : crowded between ≡ true). let q = tried .between f in stamped-played (rw (q .0, q .1) (none-between f)) (rw (q .1) kept))
+            (λ (f : crowded between ≡ false). let q = tried-refused (tried .last f) (leads f) ne in stamped-played (q .0) (rw (q .1) kept))
+            (either (crowded between))
+
+        module _ (z : r ≡ 0) where
+          roomy : crowded between ≡ false
+          roomy = fails-by (crowded between) (λ f. let e = tried .between f .0 in absurd (omega arith))
+
+          last : Tried m between t s m₁ r
+          last = tried .last roomy
+
+          pub stamped-roomy : (length m₁ ≡ SIZE) × (widthWord m₁ ≤ length s) × (widthWord m₁ ≤ 256)
+          stamped-roomy = roomy-for kept bytes (tried-moved last z)
+
+          module _ {m₂ : List ℕ} (a : Atoms m₁ s (widthWord m₁) m₂) where
+            pub stamped-due : {first : Bool} → first ≡ eqb (begunWord m) 0 → Due m₂ first
+            stamped-due ef = due kept small bytes (has-room last z) (tried-moved last z) a ef
+
+            pub stamped-done : {m₃ : List ℕ} → Alike m₂ m₃ × Tables m₃ → Called (stamped t s) m m₃ 0
+            stamped-done renewed =
+                let p = played kept small bytes (has-room last z) (tried-moved last z) a (leads roomy) in
+                let q = advanced-renewed p (stamped-due refl .sound) renewed in
+                stamped-played (q .0) (q .1)

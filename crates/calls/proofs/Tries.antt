@@ -4,19 +4,20 @@ use native.Mathlib.Omega.{arith}
 use mathlib.Core.Path.{_≡_, refl, sym, ap, ap₂, _∙_}
 use mathlib.Core.Bool.{Bool, true, false, cond, not, true≢false}
 use mathlib.Core.List.{List, []}
-use lib.ListN.{set}
+use lib.ListN.{getD, set}
 use lib.Dec.{eqb}
 use borrow.Author.Tests.{lt-leb, le-leb}
-use Rattle.numset.specs.Runs.{Runs, runs, has, fits}
+use Rattle.numset.specs.Runs.{Runs, has, fits}
 use Rattle.pmtl.specs.Answer.{bitOf}
-use Rattle.pmtl.specs.Book.{mapRow, start, stop}
+use Rattle.pmtl.specs.Book.{mapRow}
 use Rattle.pmtl.specs.Monitor.{valueRule}
 use Rattle.memory.specs.Layout.{SET, VALUES}
-use Rattle.memory.specs.Memory.{rowCount, kindAt, slotAt, slotWords, rowOf, setOf, rangeAt}
-use Rattle.set_change.specs.Change.{changed}
+use Rattle.memory.specs.Memory.{rowCount, kindAt, slotAt, rowOf}
+use Rattle.set_change.specs.Change.{bothOf}
 use Rattle.calls.specs.declared.RowPlan.{RowPlan}
-use Rattle.calls.specs.Private.{heldIn, atomsIn, setNext, modeAt, setAfter, rowPlan, modePut, RowTried, Timely, Slot}
-use Rattle.calls.proofs.Rules.{no-set, changed-set, set-of-slot, temporal-held}
+use Rattle.calls.specs.Private.{setAhead, heldIn, atomsIn, setNext, modeAt, modeNext, setAfter, rowPlan, modePut, RowTried, Timely, Slot}
+use Rattle.calls.proofs.Rules.{no-set, temporal-held}
+use Rattle.calls.proofs.Ahead.{rule-both}
 
 module _ {m : List ℕ} {c : ℕ} (timely : Timely m c) (atoms modes : List ℕ) {r : ℕ} (inside : r < rowCount m) {kind : ℕ} (ek : kind ≡ kindAt m r) where
   -- ---- a row that is not temporal
@@ -24,8 +25,8 @@ module _ {m : List ℕ} {c : ℕ} (timely : Timely m c) (atoms modes : List ℕ)
     low : kindAt m r < 7
     low = rw (← ek) plain
 
-    no-next : setNext m c r ≡ []
-    no-next = no-set c (setOf m r) (heldIn m) m r low
+    no-next : setNext m c modes r ≡ []
+    no-next = no-set c (setAhead m c modes r) (heldIn m) m r low
 
     pub tried-plain : {v : Bool} → v ≡ valueRule (atomsIn m atoms) false (mapRow (heldIn m) (rowOf m r)) → {m′ : List ℕ} → m′ ≡ set m (VALUES + r) (bitOf v) → RowTried m c atoms modes r m′ modes true
     unfolding has modePut
@@ -50,18 +51,17 @@ module _ {m : List ℕ} {c : ℕ} (timely : Timely m c) (atoms modes : List ℕ)
     pub tried-inside : slot < 32
     tried-inside = omega (arith, tried-slot .inside, timely .sound .book .temporal-few)
 
-    next-set : setNext m c r ≡ setAfter m c (modeAt m r) slot
-    next-set =
-        let row = timely .sound .book .rows r inside in
-        changed-set c (setOf m r) (heldIn m) m r high (row .kind)
-        ∙ ap (changed (modeAt m r) (start (rangeAt m r) c) (stop (rangeAt m r) c) c) (set-of-slot m r high ∙ ap (λ (j : ℕ). runs (slotWords m j)) (sym es))
-        ∙ ap (λ (o : ℕ). changed (modeAt m r) (start (rangeAt m o) c) (stop (rangeAt m o) c) c (runs (slotWords m slot))) (tried-slot .owner)
+    next-set : setNext m c modes r ≡ setAfter m c (modeNext m modes r) slot
+    next-set = rule-both (timely .sound) (timely .clock) inside high modes (heldIn m) ∙ ap (setAfter m c (modeNext m modes r)) (sym es)
 
-    module _ {plan : RowPlan} (ep : plan ≡ rowPlan m c (modeAt m r) slot) where
-      room-right : plan .room ≡ fits SET (setNext m c r)
+    module _ {plan : RowPlan} {before : ℕ} (eb : before ≡ getD modes slot 0) (planned : plan ≡ rowPlan m c (bothOf before (modeAt m r)) slot) where
+      ep : plan ≡ rowPlan m c (modeNext m modes r) slot
+      ep = planned ∙ ap (λ (x : ℕ). rowPlan m c (bothOf x (modeAt m r)) slot) (eb ∙ ap (λ (j : ℕ). getD modes j 0) es)
+
+      room-right : plan .room ≡ fits SET (setNext m c modes r)
       room-right = ap (λ (p : RowPlan). p .room) ep ∙ sym (ap (fits SET) next-set)
 
-      here-right : plan .here ≡ has (setNext m c r) c
+      here-right : plan .here ≡ has (setNext m c modes r) c
       here-right = ap (λ (p : RowPlan). p .here) ep ∙ sym (ap (λ (s : Runs). has s c) next-set)
 
       pub tried-temporal : plan .room ≡ true → {v : Bool} → v ≡ cond (eqb kind 7) (not (plan .here)) (plan .here) → {m′ : List ℕ} → m′ ≡ set m (VALUES + r) (bitOf v) → RowTried m c atoms modes r m′ (set modes slot (plan .mode)) true
@@ -73,7 +73,7 @@ module _ {m : List ℕ} {c : ℕ} (timely : Timely m c) (atoms modes : List ℕ)
             value-put = λ z.
                 em ∙ ap (λ (b : Bool). set m (VALUES + r) (bitOf b))
                 (ev ∙ ap₂ (λ (k : ℕ) (b : Bool). cond (eqb k 7) (not b) b) ek here-right
-                ∙ sym (temporal-held (atomsIn m atoms) (has (setNext m c r) c) (heldIn m) m r high (row .kind)));
+                ∙ sym (temporal-held (atomsIn m atoms) (has (setNext m c modes r) c) (heldIn m) m r high (row .kind)));
             mode-put = λ z. ap₂ (λ (j k : ℕ). set modes j k) es (ap (λ (p : RowPlan). p .mode) ep) ∙ sym (rw (le-leb 7 (kindAt m r) high));
             none = λ z. absurd (true≢false z);
           }

@@ -2,11 +2,11 @@
 use Prim.Native.Nat.{ℕ, _+_, _≤_, _<_}
 use mathlib.Core.Path.{_≡_}
 use mathlib.Core.Bool.{Bool, true, false, cond, not}
-use mathlib.Core.List.{List, map}
+use mathlib.Core.List.{List, [], map}
 use lib.ListN.{length, getD, set, take}
 use Rattle.numbers.specs.Limits.{MAX, LAST-TIME, MOST-ROWS, MOST-TEMPORALS}
 use Rattle.numbers.specs.Refusals.{ACCEPTED, NO-ROOM}
-use Rattle.lists.specs.Lists.{filledFrom}
+use Rattle.lists.specs.Lists.{listed, filledFrom}
 use Rattle.numset.specs.Runs.{Runs, runs, Good, has, fits, pack}
 use Rattle.pmtl.specs.Answer.{bitOf}
 use Rattle.pmtl.specs.Book.{start, stop, mapRow}
@@ -15,11 +15,11 @@ use Rattle.pmtl.specs.Monitor.{Snap, State, setAt, valueRule, value, step}
 use Rattle.pmtl.specs.Calls.{crowded, play}
 use Rattle.book.specs.Rows.{temporal, ATOM}
 use Rattle.memory.specs.Layout.{ATOMS, SETS, SET, VALUES, SIZE, BEGUN, CLOCK}
-use Rattle.memory.specs.Memory.{rowCount, rangeAt, begunWord, clockOf, widthWord, temporals, kindAt, argAt, lowerAt, upperAt, slotAt, ownerAt, slotWords, atomsOf, valueAt, earlyAt, settledAt, rowOf, rowsOf, bookOf, setOf, stateOf, isOne}
+use Rattle.memory.specs.Memory.{rowCount, rangeAt, begunWord, clockOf, widthWord, temporals, kindAt, argAt, lowerAt, upperAt, slotAt, ownerAt, slotWords, atomsOf, valueAt, earlyAt, settledAt, rowOf, rowsOf, bookOf, stateOf, isOne}
 use Rattle.memory.specs.Tables.{propertyCount, Valued, Moving, Unused}
 use Rattle.memory.specs.Kept.{Sound}
 use Rattle.tables.specs.Puts.{earlyDigit, settledDigit}
-use Rattle.set_change.specs.Change.{changed, modeIn}
+use Rattle.set_change.specs.Change.{changed, bothOf, modeIn}
 use Rattle.calls.specs.declared.RowPlan.{RowPlan}
 
 -- the atoms of a call: the bytes of a state, or those that stand there
@@ -31,33 +31,42 @@ pub record Bytes (atoms : List ℕ) (width : ℕ) : Type 0 where
   pub long : width ≤ length atoms
   pub bits : (i : ℕ) → i < width → getD atoms i 0 ≤ 1
 
--- the clock and atoms that a call leaves, and the state
+-- the clock and atoms that a step leaves, and the state after it, from the state before
 abbrev pub snapOf : ℕ → List ℕ → ℕ → Snap
 snapOf c atoms width = record { clock = c; atoms = map isOne (take width atoms) }
 
-abbrev pub stepOf : List ℕ → ℕ → List ℕ → State
-stepOf m c atoms = step (rowsOf m) (stateOf m) (snapOf c atoms (widthWord m))
+abbrev pub stepOf : List ℕ → State → ℕ → List ℕ → State
+stepOf m st c atoms = step (rowsOf m) st (snapOf c atoms (widthWord m))
+
+-- ---- the sets as modes leave them
+-- the set of slot j, changed by a mode at clock c
+abbrev pub setAfter : List ℕ → ℕ → ℕ → ℕ → Runs
+setAfter m c mode j = changed mode (start (rangeAt m (ownerAt m j)) c) (stop (rangeAt m (ownerAt m j)) c) c (runs (slotWords m j))
+
+-- that of row r; no runs where it is not temporal
+unfoldable pub setAhead : List ℕ → ℕ → List ℕ → ℕ → Runs
+setAhead m c modes r = cond (temporal (kindAt m r)) (setAfter m c (getD modes (slotAt m r) 0) (slotAt m r)) []
+
+-- and the state with those sets: what the steps planned so far leave
+unfoldable pub ahead : List ℕ → ℕ → List ℕ → State
+ahead m c modes = record { begun = stateOf m .begun; now = stateOf m .now; sets = listed (setAhead m c modes) (rowCount m) }
 
 -- ---- a row by the table: where the values of the rows below it are new, what becomes of its set, and its own new value
 abbrev pub heldIn : List ℕ → ℕ → Bool
 heldIn m r = isOne (valueAt m r)
 
-abbrev pub setNext : List ℕ → ℕ → ℕ → Runs
-setNext m c r = setRule c (setOf m r) (mapRow (heldIn m) (rowOf m r))
+abbrev pub setNext : List ℕ → ℕ → List ℕ → ℕ → Runs
+setNext m c modes r = setRule c (setAhead m c modes r) (mapRow (heldIn m) (rowOf m r))
 
 abbrev pub atomsIn : List ℕ → List ℕ → List Bool
 atomsIn m atoms = map isOne (take (widthWord m) atoms)
 
-abbrev pub valueNext : List ℕ → ℕ → List ℕ → ℕ → Bool
-valueNext m c atoms r = valueRule (atomsIn m atoms) (has (setNext m c r) c) (mapRow (heldIn m) (rowOf m r))
+abbrev pub valueNext : List ℕ → ℕ → List ℕ → List ℕ → ℕ → Bool
+valueNext m c modes atoms r = valueRule (atomsIn m atoms) (has (setNext m c modes r) c) (mapRow (heldIn m) (rowOf m r))
 
--- ---- the same as the code finds it: how the set of row r changes
+-- ---- the same as the code finds it: how the set of row r changes in this step
 abbrev pub modeAt : List ℕ → ℕ → ℕ
 modeAt m r = modeIn (mapRow (heldIn m) (rowOf m r))
-
--- the set of slot j, changed by a mode at clock c
-abbrev pub setAfter : List ℕ → ℕ → ℕ → ℕ → Runs
-setAfter m c mode j = changed mode (start (rangeAt m (ownerAt m j)) c) (stop (rangeAt m (ownerAt m j)) c) c (runs (slotWords m j))
 
 -- what is planned for slot j: the mode, whether the set will contain the clock, and whether there is room
 abbrev pub rowPlan : List ℕ → ℕ → ℕ → ℕ → RowPlan
@@ -71,29 +80,33 @@ rowPlan m c mode j = record {
 pub record Named (m bytes : List ℕ) (r : ℕ) : Type 0 where
   pub inside : kindAt m r ≡ ATOM → argAt m r < length bytes
 
+-- and in this step and those before it
+abbrev pub modeNext : List ℕ → List ℕ → ℕ → ℕ
+modeNext m modes r = bothOf (getD modes (slotAt m r) 0) (modeAt m r)
+
 -- modes with that of row r, if it is temporal
 unfoldable pub modePut : List ℕ → List ℕ → ℕ → List ℕ
-modePut m modes r = cond (temporal (kindAt m r)) (set modes (slotAt m r) (modeAt m r)) modes
+modePut m modes r = cond (temporal (kindAt m r)) (set modes (slotAt m r) (modeNext m modes r)) modes
 
 -- row r was tried: its set has room, and its value and mode are noted; or it lacks room, and nothing is
 pub record RowTried (m : List ℕ) (c : ℕ) (atoms modes : List ℕ) (r : ℕ) (m′ modes′ : List ℕ) (room : Bool) : Type 0 where
-  pub room-is : room ≡ fits SET (setNext m c r)
-  pub value-put : room ≡ true → m′ ≡ set m (VALUES + r) (bitOf (valueNext m c atoms r))
+  pub room-is : room ≡ fits SET (setNext m c modes r)
+  pub value-put : room ≡ true → m′ ≡ set m (VALUES + r) (bitOf (valueNext m c modes atoms r))
   pub mode-put : room ≡ true → modes′ ≡ modePut m modes r
   pub none : room ≡ false → m′ ≡ m
 
--- the value of each row after the call, as a word
-abbrev pub valueAfter : List ℕ → ℕ → List ℕ → ℕ → ℕ
-valueAfter m c atoms r = bitOf (value (rowsOf m) (stepOf m c atoms) r)
+-- the value of each row after the step, as a word
+abbrev pub valueAfter : List ℕ → State → ℕ → List ℕ → ℕ → ℕ
+valueAfter m st c atoms r = bitOf (value (rowsOf m) (stepOf m st c atoms) r)
 
 -- the plan of a call: whether every set has room, and if so the modes; the values of the rows that were tried are new in m′
-pub record Planned (m : List ℕ) (c : ℕ) (atoms m′ : List ℕ) (room : Bool) (modes : List ℕ) : Type 0 where
-  pub fits : crowded (stepOf m c atoms) ≡ not room
-  pub sets : room ≡ true → (j : ℕ) → j < temporals m → setAfter m c (getD modes j 0) j ≡ setAt (stepOf m c atoms) (ownerAt m j)
+pub record Planned (m : List ℕ) (st : State) (c : ℕ) (atoms m′ : List ℕ) (room : Bool) (modes : List ℕ) : Type 0 where
+  pub fits : crowded (stepOf m st c atoms) ≡ not room
+  pub sets : room ≡ true → (j : ℕ) → j < temporals m → setAfter m c (getD modes j 0) j ≡ setAt (stepOf m st c atoms) (ownerAt m j)
   pub tried : ℕ
   pub few : tried ≤ rowCount m
   pub all : room ≡ true → tried ≡ rowCount m
-  pub values : m′ ≡ filledFrom VALUES (valueAfter m c atoms) m tried
+  pub values : m′ ≡ filledFrom VALUES (valueAfter m st c atoms) m tried
 
 -- m′ is m with the sets of the slots below n as f says
 pub record Written (m : List ℕ) (f : ℕ → Runs) (n : ℕ) (m′ : List ℕ) : Type 0 where
@@ -115,21 +128,27 @@ abbrev pub clocked : List ℕ → ℕ → List ℕ
 clocked m c = set (set m BEGUN 1) CLOCK c
 
 -- m′ is m after a call at clock c and atoms, with the atoms still those of m, and but for what is told and the digits
-pub record Moved (m : List ℕ) (c : ℕ) (atoms m′ : List ℕ) : Type 0 where
+pub record Moved (m : List ℕ) (st : State) (c : ℕ) (atoms m′ : List ℕ) : Type 0 where
   pub long : length m′ ≡ SIZE
   pub begun : begunWord m′ ≡ 1
   pub clock : clockOf m′ ≡ c
   pub below : (i : ℕ) → (i ≡ BEGUN → ⊥) → (i ≡ CLOCK → ⊥) → i < SETS → getD m′ i 0 ≡ getD m i 0
-  pub new : (j : ℕ) → j < temporals m → slotWords m′ j ≡ pack SET (setAt (stepOf m c atoms) (ownerAt m j))
+  pub new : (j : ℕ) → j < temporals m → slotWords m′ j ≡ pack SET (setAt (stepOf m st c atoms) (ownerAt m j))
   pub good : (j : ℕ) → j < temporals m → Good (slotWords m′ j)
   pub old : (j : ℕ) → temporals m ≤ j → j < MOST-TEMPORALS → slotWords m′ j ≡ slotWords m j
-  pub values : (r : ℕ) → r < rowCount m → valueAt m′ r ≡ valueAfter m c atoms r
+  pub values : (r : ℕ) → r < rowCount m → valueAt m′ r ≡ valueAfter m st c atoms r
   pub beyond : (i : ℕ) → VALUES + rowCount m ≤ i → getD m′ i 0 ≡ getD m i 0
 
 -- a call tried: every set has room, r is 0 and m is moved to m′; or one lacks it, r is 11 and m′ is m
-pub record Tried (m : List ℕ) (c : ℕ) (atoms m′ : List ℕ) (r : ℕ) : Type 0 where
-  pub room : crowded (stepOf m c atoms) ≡ false → (r ≡ ACCEPTED) × Moved m c atoms m′
-  pub full : crowded (stepOf m c atoms) ≡ true → (r ≡ NO-ROOM) × (m′ ≡ m)
+pub record Tried (m : List ℕ) (st : State) (c : ℕ) (atoms m′ : List ℕ) (r : ℕ) : Type 0 where
+  pub room : crowded (stepOf m st c atoms) ≡ false → (r ≡ ACCEPTED) × Moved m st c atoms m′
+  pub full : crowded (stepOf m st c atoms) ≡ true → (r ≡ NO-ROOM) × (m′ ≡ m)
+
+-- a stamped call tried at clock c, with the atoms before it and those that come: the time step lacks room, r is 11 and m′ is m; or it has room, and
+-- the state step was tried from what it leaves
+pub record TriedBoth (m : List ℕ) (c : ℕ) (old new m′ : List ℕ) (r : ℕ) : Type 0 where
+  pub between : crowded (stepOf m (stateOf m) c old) ≡ true → (r ≡ NO-ROOM) × (m′ ≡ m)
+  pub last : crowded (stepOf m (stateOf m) c old) ≡ false → Tried m (stepOf m (stateOf m) c old) c new m′ r
 
 -- a row whose range can be counted from clock c: no sum wraps
 pub record Bounded (m : List ℕ) (c r : ℕ) : Type 0 where

@@ -10,14 +10,14 @@ ghost use Rattle.numset.specs.Runs.{kept, pack, runs};
 ghost use Rattle.pmtl.specs.Answer.{bitOf};
 ghost use Rattle.pmtl.specs.Book.{start, stop, some, mapRow};
 ghost use Rattle.pmtl.specs.Monitor.{fullest, valueRule};
-ghost use Rattle.pmtl.specs.Calls.{Call};
+ghost use Rattle.pmtl.specs.Calls.{Call, timeRefusal, stateRefusal};
 ghost use Rattle.memory.specs.Layout.{SET, VALUES, SIZE};
-ghost use Rattle.memory.specs.Memory.{rowCount, widthWord, temporals, kindAt, setStart, slotWords, movesAt, rangeAt, rowOf, isOne, stateOf};
+ghost use Rattle.memory.specs.Memory.{rowCount, widthWord, temporals, kindAt, setStart, slotWords, movesAt, rangeAt, rowOf, rowsOf, stateOf, atomsOf, isOne};
 ghost use Rattle.memory.specs.Tables.{Tables};
-ghost use Rattle.memory.specs.Kept.{BookKept, Kept};
+ghost use Rattle.memory.specs.Kept.{BookKept, Sound, Kept};
 ghost use Rattle.memory.specs.Alike.{Alike};
-ghost use Rattle.set_change.specs.Change.{changed};
-ghost use Rattle.calls.specs.Private.{atomsFor, heldIn, atomsIn, Named, modeAt, setAfter, rowPlan, RowTried, clocked, Bounded, Slot, Planned, Timely, Held, Roomy, Fit, Fitting, Written, Atoms, Tried, Due};
+ghost use Rattle.set_change.specs.Change.{changed, bothOf};
+ghost use Rattle.calls.specs.Private.{ahead, atomsFor, heldIn, atomsIn, Named, modeAt, setAfter, rowPlan, RowTried, clocked, Bounded, Slot, Planned, Timely, Held, Roomy, Fit, Fitting, Written, Atoms, Tried, TriedBoth, Due};
 ghost use Rattle.calls.specs.Called.{Called};
 ghost use Rattle.book.specs.Rows.{HISTORICALLY};
 ghost use Rattle.numbers.specs.Limits.{LAST-TIME, MOST-ATOMS, MOST-ROWS, MOST-TEMPORALS};
@@ -129,11 +129,11 @@ fn stop_of(monitor: &[u64; SIZE], clock: u64, row: usize) -> u64
 }
 
 // The plan of one temporal row, most of which stay as they are, where the values of the rows below it are new in the table.
-fn plan_row(monitor: &[u64; SIZE], clock: u64, slot: usize, row: usize) -> RowPlan
+fn plan_row(monitor: &[u64; SIZE], clock: u64, slot: usize, row: usize, before: u8) -> RowPlan
     requires { ⌜ Slot (now monitor) clock slot row ⌝ }
-    ensures { λ r. ⌜ r ≡ rowPlan (now (monitor .entry)) clock (modeAt (now (monitor .entry)) row) slot ⌝ }
+    ensures { λ r. ⌜ r ≡ rowPlan (now (monitor .entry)) clock (bothOf before (modeAt (now (monitor .entry)) row)) slot ⌝ }
 {
-    let mode = mode_of(monitor, row);
+    let mode = set_change::both(before, mode_of(monitor, row));
     let set = set_at(monitor, slot);
     if mode == set_change::STAYS {
         return RowPlan {
@@ -184,7 +184,7 @@ fn try_row(
         return true;
     }
     let slot = memory::slot_at(monitor, row);
-    let plan = plan_row(monitor, clock, slot, row);
+    let plan = plan_row(monitor, clock, slot, row, modes[slot]);
     let room = plan.room;
     if room {
         modes[slot] = plan.mode;
@@ -214,9 +214,9 @@ fn plan_call(
     fresh: bool,
     modes: &mut [u8],
 ) -> bool
-    requires { ⌜ Kept (now monitor) × (clock ≤ LAST-TIME) ⌝ }
+    requires { ⌜ Sound (now monitor) × (clock ≤ LAST-TIME) × (fresh ≡ false → Kept (now monitor)) ⌝ }
     requires { ⌜ (length (now modes) ≡ MOST-TEMPORALS) × (fresh ≡ true → widthWord (now monitor) ≤ length (now atoms)) ⌝ }
-    ensures { λ r. ⌜ Planned (now (monitor .entry)) clock (atomsFor (now (monitor .entry)) fresh (now (atoms .entry))) (now (monitor .exit)) r (now (modes .exit)) ⌝ }
+    ensures { λ r. ⌜ Planned (now (monitor .entry)) (ahead (now (monitor .entry)) clock (now (modes .entry))) clock (atomsFor (now (monitor .entry)) fresh (now (atoms .entry))) (now (monitor .exit)) r (now (modes .exit)) ⌝ }
 {
     let count = memory::row_count(monitor);
     let mut row = 0;
@@ -309,13 +309,33 @@ fn put_atoms(monitor: &mut [u64; SIZE], atoms: &[u8])
 fn advance(monitor: &mut [u64; SIZE], clock: u64, atoms: &[u8], fresh: bool) -> u64
     requires { ⌜ Kept (now monitor) × (clock ≤ LAST-TIME) ⌝ }
     requires { ⌜ (fresh ≡ true → widthWord (now monitor) ≤ length (now atoms)) ⌝ }
-    ensures { λ r. ⌜ Tried (now (monitor .entry)) clock (atomsFor (now (monitor .entry)) fresh (now (atoms .entry))) (now (monitor .exit)) r ⌝ }
+    ensures { λ r. ⌜ Tried (now (monitor .entry)) (stateOf (now (monitor .entry))) clock (atomsFor (now (monitor .entry)) fresh (now (atoms .entry))) (now (monitor .exit)) r ⌝ }
 {
     let mut modes = [0u8; MOST_TEMPORALS];
     if plan_call(monitor, clock, atoms, fresh, &mut modes) {
         commit(monitor, clock, &modes);
         put_clock(monitor, clock);
         return ACCEPTED;
+    }
+    tables::fill_values(monitor);
+    NO_ROOM
+}
+
+// A stamped call at a clock and the bytes of its state, all but its atoms: the time step is planned with the atoms that stand there, then
+// the state step over the values and modes that the first left. The sets change once, when both have room.
+fn advance_both(monitor: &mut [u64; SIZE], clock: u64, state: &[u8]) -> u64
+    requires { ⌜ Kept (now monitor) × (clock ≤ LAST-TIME) × (widthWord (now monitor) ≤ length (now state)) ⌝ }
+    ensures { λ r. ⌜ TriedBoth (now (monitor .entry)) clock (atomsOf (now (monitor .entry))) (now (state .entry)) (now (monitor .exit)) r ⌝ }
+{
+    let mut modes = [0u8; MOST_TEMPORALS];
+    if plan_call(monitor, clock, b"", false, &mut modes) {
+        if plan_call(monitor, clock, state, true, &mut modes) {
+            commit(monitor, clock, &modes);
+            put_clock(monitor, clock);
+            return ACCEPTED;
+        }
+        tables::fill_values(monitor);
+        return NO_ROOM;
     }
     tables::fill_values(monitor);
     NO_ROOM
@@ -352,16 +372,44 @@ fn has_other(state: &[u8]) -> bool
     false
 }
 
-// The clock becomes `time`, and every row is evaluated anew. The answer is 0, or the number of the refusal: then nothing changed.
-fn time_call(monitor: &mut [u64; SIZE], time: u64) -> u64
-    requires { ⌜ Kept (now monitor) ⌝ }
-    ensures { λ r. ⌜ Called (Call.time time) (now (monitor .entry)) (now (monitor .exit)) r ⌝ }
+// What is wrong with a time, or 0.
+fn time_number(monitor: &[u64; SIZE], time: u64) -> u64
+    ensures { λ r. ⌜ r ≡ timeRefusal (stateOf (now (monitor .entry)) .now) time ⌝ }
 {
     if time < memory::clock(monitor) {
         return TOO_EARLY;
     }
     if LAST_TIME < time {
         return TOO_LATE;
+    }
+    ACCEPTED
+}
+
+// What is wrong with a state, or 0.
+fn state_number(monitor: &[u64; SIZE], state: &[u8]) -> u64
+    requires { ⌜ BookKept (now monitor) ⌝ }
+    ensures { λ r. ⌜ r ≡ stateRefusal (rowsOf (now (monitor .entry))) (now (state .entry)) ⌝ }
+{
+    if MOST_ATOMS < state.len() {
+        return PAST_LIMIT;
+    }
+    if state.len() < memory::width(monitor) {
+        return TOO_NARROW;
+    }
+    if has_other(state) {
+        return NOT_A_BIT;
+    }
+    ACCEPTED
+}
+
+// The clock becomes `time`, and every row is evaluated anew. The answer is 0, or the number of the refusal: then nothing changed.
+fn time_call(monitor: &mut [u64; SIZE], time: u64) -> u64
+    requires { ⌜ Kept (now monitor) ⌝ }
+    ensures { λ r. ⌜ Called (Call.time time) (now (monitor .entry)) (now (monitor .exit)) r ⌝ }
+{
+    let late = time_number(monitor, time);
+    if late != ACCEPTED {
+        return late;
     }
     let first = memory::begun(monitor) == 0;
     let number = advance(monitor, time, b"", false);
@@ -377,19 +425,37 @@ fn state_call(monitor: &mut [u64; SIZE], state: &[u8]) -> u64
     requires { ⌜ Kept (now monitor) ⌝ }
     ensures { λ r. ⌜ Called (Call.state (now (state .entry))) (now (monitor .entry)) (now (monitor .exit)) r ⌝ }
 {
-    if MOST_ATOMS < state.len() {
-        return PAST_LIMIT;
-    }
-    let count = memory::width(monitor);
-    if state.len() < count {
-        return TOO_NARROW;
-    }
-    if has_other(state) {
-        return NOT_A_BIT;
+    let wrong = state_number(monitor, state);
+    if wrong != ACCEPTED {
+        return wrong;
     }
     let first = memory::begun(monitor) == 0;
     let clock = memory::clock(monitor);
     let number = advance(monitor, clock, state, true);
+    if number != ACCEPTED {
+        return number;
+    }
+    put_atoms(monitor, state);
+    renew(monitor, first);
+    ACCEPTED
+}
+
+// The clock becomes `time` and then the atoms the bytes of `state`, every row evaluated anew at each of the two steps; or neither. The
+// answer is as that of `time_call`.
+fn stamped_call(monitor: &mut [u64; SIZE], time: u64, state: &[u8]) -> u64
+    requires { ⌜ Kept (now monitor) ⌝ }
+    ensures { λ r. ⌜ Called (Call.stamped time (now (state .entry))) (now (monitor .entry)) (now (monitor .exit)) r ⌝ }
+{
+    let late = time_number(monitor, time);
+    if late != ACCEPTED {
+        return late;
+    }
+    let wrong = state_number(monitor, state);
+    if wrong != ACCEPTED {
+        return wrong;
+    }
+    let first = memory::begun(monitor) == 0;
+    let number = advance_both(monitor, time, state);
     if number != ACCEPTED {
         return number;
     }
@@ -415,6 +481,16 @@ pub fn update_state(monitor: &mut [u64; SIZE], state: &[u8]) -> Tally
     ensures { λ r. ⌜ Called (Call.state (now (state .entry))) (now (monitor .entry)) (now (monitor .exit)) (r .number) × (r .count ≡ fullest (stateOf (now (monitor .exit)))) ⌝ }
 {
     let number = state_call(monitor, state);
+    let count = memory::fullest(monitor);
+    Tally { number, count }
+}
+
+// A stamped call: a time call and then a state call, or neither. What it hands back is as with `update_time`, of the monitor after both.
+pub fn update_stamped(monitor: &mut [u64; SIZE], time: u64, state: &[u8]) -> Tally
+    requires { ⌜ Kept (now monitor) ⌝ }
+    ensures { λ r. ⌜ Called (Call.stamped time (now (state .entry))) (now (monitor .entry)) (now (monitor .exit)) (r .number) × (r .count ≡ fullest (stateOf (now (monitor .exit)))) ⌝ }
+{
+    let number = stamped_call(monitor, time, state);
     let count = memory::fullest(monitor);
     Tally { number, count }
 }

@@ -16,8 +16,10 @@ use oracle::SINCE;
 use oracle::SIZE;
 use oracle::TRUE;
 use play::load;
+use play::stamped;
 use play::state;
 use play::time;
+use play::wide_stamped;
 use show::text;
 use words::Words;
 
@@ -223,6 +225,37 @@ fn refusals(monitor: &mut [u64; SIZE])
     state(monitor, &[0, 0, 2]);
 }
 
+// The first call sees the old state at its time. Then each refusal of a stamped call in its order, the last two for room: where only the
+// time step lacks it, since the state step would drop the set, and where only the state step does. A time below 128 shows that nothing
+// was kept of them.
+fn stamped_calls() {
+    text(b"Since(a0,a1)[128,128] and Historically[0,0] a0, with stamped calls\n");
+    let book = Words::of(5)
+        .row(ATOM, 0, 0, 0)
+        .row(ATOM, 1, 0, 0)
+        .row(SINCE, 2, 128, 128)
+        .row(ATOM, 0, 0, 0)
+        .row(HISTORICALLY, 1, 0, 0)
+        .section(&[0, 1, 3])
+        .section(&[])
+        .section(&[2, 4]);
+    let mut monitor = [0u64; SIZE];
+    load(&mut monitor, book);
+    stamped(&mut monitor, 0, &[1, 1]);
+    fill(&mut monitor);
+    wide_stamped(&mut monitor, 125);
+    wide_stamped(&mut monitor, LAST_TIME + 1);
+    wide_stamped(&mut monitor, 127);
+    stamped(&mut monitor, 127, &[2]);
+    stamped(&mut monitor, 127, &[1, 2]);
+    stamped(&mut monitor, 128, &[0, 0]);
+    time(&mut monitor, 126);
+    state(&mut monitor, &[1, 0]);
+    stamped(&mut monitor, 128, &[1, 1]);
+    time(&mut monitor, 127);
+    stamped(&mut monitor, 128, &[0, 0]);
+}
+
 // A refused book gives an empty one, which takes calls.
 fn refused_book() {
     text(b"A book of one row that is not there\n");
@@ -335,6 +368,7 @@ fn main() {
     touched();
     last_time();
     refused_calls();
+    stamped_calls();
     refused_book();
     early_of_one();
     early_at_once();

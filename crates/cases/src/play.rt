@@ -104,3 +104,29 @@ pub fn wide_state(monitor: &mut [u64; SIZE])
     text(b"  s of 257 bytes");
     outcome(made, monitor);
 }
+
+// A time and a state in one call.
+pub fn stamped(monitor: &mut [u64; SIZE], t: u64, state: &[u8])
+    requires { ⌜ Kept (now monitor) ⌝ }
+    ensures { λ _. ⌜ Kept (now (monitor .exit)) ⌝ }
+{
+    let made = oracle::update_stamped(monitor, t, state);
+    text(b"  t ");
+    number(t);
+    text(b" s ");
+    bytes(state);
+    outcome(made, monitor);
+}
+
+// The same with a state that is too wide, and otherwise good.
+pub fn wide_stamped(monitor: &mut [u64; SIZE], t: u64)
+    requires { ⌜ Kept (now monitor) ⌝ }
+    ensures { λ _. ⌜ Kept (now (monitor .exit)) ⌝ }
+{
+    let state = [0u8; TOO_WIDE];
+    let made = oracle::update_stamped(monitor, t, &state);
+    text(b"  t ");
+    number(t);
+    text(b" s of 257 bytes");
+    outcome(made, monitor);
+}

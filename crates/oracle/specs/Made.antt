@@ -1,4 +1,4 @@
--- A memory that came of loading words and of calls, by what load and the two calls promise. Definitions only.
+-- A memory that came of loading words and of calls, by what load and the calls promise. Definitions only.
 use Prim.Native.Nat.{ℕ}
 use mathlib.Core.List.{List, [], _∷_}
 use Rattle.pmtl.specs.Calls.{Call}

@@ -13,6 +13,7 @@ pub use book::ONCE;
 pub use book::OR;
 pub use book::SINCE;
 pub use book::TRUE;
+pub use calls::update_stamped;
 pub use calls::update_state;
 pub use calls::update_time;
 pub use loader::load;

@@ -7,7 +7,7 @@ use Rattle.numbers.specs.Limits.{MAX}
 use Rattle.numset.specs.Runs.{run}
 use Rattle.pmtl.specs.Book.{stop, Rows, table, answer}
 use Rattle.pmtl.specs.Book.Row.{never, always, atom, conj, disj, historically, once, since}
-use Rattle.pmtl.specs.Calls.{Call, time, state}
+use Rattle.pmtl.specs.Calls.{Call, time, state, stamped}
 use Rattle.original.specs.Rust.{Ran, each, index, last, binary-search-by-key}
 use Rattle.original.specs.Rust.Ran.{panic, done}
 use Rattle.original.specs.Rust.Option.{None, Some}
@@ -77,6 +77,8 @@ traces =
     ∷ (ran (atom 0 ∷ once (1 to 1) 0 ∷ []) 1 (s1 ∷ time 5 ∷ []) gives untold false ∷ untold false ∷ untold false ∷ [])
     -- P8 Historically[0,0] a; t4, s1: value 0
     ∷ (ran (atom 0 ∷ historically (0 to 0) 0 ∷ []) 1 (time 4 ∷ s1 ∷ []) gives untold true ∷ untold false ∷ untold false ∷ [])
+    -- the same as one stamped call, (t4, s1)
+    ∷ (ran (atom 0 ∷ historically (0 to 0) 0 ∷ []) 1 (stamped 4 (1 ∷ []) ∷ []) gives untold true ∷ untold false ∷ [])
     -- P9 Since(a,b)[0,MAX]; s01, s10, t7, s00: values 1, 1, 1, 0
     ∷ (ran (atom 0 ∷ atom 1 ∷ since (0 to MAX) 0 1 ∷ []) 2 (s 0 1 ∷ s 1 0 ∷ time 7 ∷ s 0 0 ∷ [])
     gives untold false ∷ untold true ∷ untold true ∷ untold true ∷ untold false ∷ [])

@@ -12,7 +12,7 @@ use Rattle.lists.proofs.Tests.{lt-or-ge}
 use Rattle.numbers.specs.Limits.{LAST-TIME}
 use Rattle.pmtl.specs.Book.{Row, mapRow, Rows, rowAt, Book, AllBelow, Below, Ordered, atomWidth, widthOf}
 use Rattle.pmtl.specs.Book.Row.{never, always, atom, conj, disj, neg, implies, historically, once, since}
-use Rattle.pmtl.specs.Calls.{time, state, History, nowOf}
+use Rattle.pmtl.specs.Calls.{time, state, stamped, timed, History, nowOf}
 use Rattle.original.specs.Rust.{Ran, _>>=_, index, each}
 use Rattle.original.specs.NumSet.{NumSet}
 use Rattle.original.specs.ValPmtl.{ValPmtl, output, update-state as update-state-of, update-states}
@@ -24,7 +24,7 @@ use Rattle.original.specs.Rust.Ran.{panic, done}
 use Rattle.original.specs.Proper.UsedIn.{assume, guarantee, operand}
 use Rattle.original.proofs.Fulls.{Clocks}
 use Rattle.original.proofs.Grown.{setOf, grown, grown-fix}
-use Rattle.original.proofs.Replays.{isOne, oracleAt, time-at, state-at}
+use Rattle.original.proofs.Replays.{isOne, oracleAt, time-at, state-at, stamped-at}
 
 -- a panic later on
 then-panic : {A B : Type 0} (x : Ran A) (f : A → Ran B) → ((a : A) → f a ≡ panic) → (x >>= f) ≡ panic
@@ -182,4 +182,23 @@ module _ (b : Book) (w : Ordered (b .rows)) (fit : Fits (b .rows)) (h : History)
   state-panics used bytes = (
     λ e. ⊎-elim (λ p. p) (λ p. absurd (done-not-panic _ _ (state-at b w fit h l bytes p .is) e)) (lt-or-ge (length bytes) (widthOf (b .rows))),
     λ p. short-panics b w used h (map isOne bytes) (omega (arith, length-map bytes isOne)),
+  )
+
+-- either, in a stamped call
+module _ (b : Book) (w : Ordered (b .rows)) (fit : Fits (b .rows)) (h : History) (l : Clocks (b .rows) h) (used : Used b) (t : ℕ) (k : t ≤ LAST-TIME) (bytes : List ℕ) where
+  early-panics : t < nowOf (b .rows) h .clock → made (oracleAt b h) (stamped t bytes) ≡ panic
+  unfolding made
+  early-panics p = rw (late (oracleAt b h) t p)
+
+  narrow-panics : nowOf (b .rows) h .clock ≤ t → length bytes < widthOf (b .rows) → made (oracleAt b h) (stamped t bytes) ≡ panic
+  unfolding made
+  narrow-panics p q =
+      let first = time-at b w fit h l t p k in
+      rw (first .is) (state-panics b w fit (timed (nowOf (b .rows) h) t ∷ h) (first .clocks) used bytes .1 q)
+
+  pub stamped-panics : (made (oracleAt b h) (stamped t bytes) ≡ panic) ↔ ((t < nowOf (b .rows) h .clock) ⊎ (length bytes < widthOf (b .rows)))
+  stamped-panics = (
+    λ e. ⊎-elim inl (λ p. ⊎-elim inr (λ q. absurd (done-not-panic b w fit h l _ _ (stamped-at b w fit h l t bytes p k q .is) e)) (lt-or-ge (length bytes) (widthOf (b .rows))))
+        (lt-or-ge t (nowOf (b .rows) h .clock)),
+    λ e. ⊎-elim early-panics (λ p. narrow-panics p (⊎-elim (λ q. absurd (omega arith)) (λ q. q) e)) (lt-or-ge t (nowOf (b .rows) h .clock)),
   )

@@ -11,8 +11,9 @@ use borrow.Author.Tests.{ltb-false, eqb-true, le-leb}
 use Rattle.numbers.specs.Limits.{LAST-TIME, MOST-ATOMS}
 use Rattle.pmtl.specs.Book.{Rows, Book, Ordered, widthOf, some}
 use Rattle.pmtl.specs.Monitor.{Snap, State}
-use Rattle.pmtl.specs.Calls.{Call, time, state, turns, refusal, Outcome, play, call, after, History, nowOf, onto, accepted}
+use Rattle.pmtl.specs.Calls.{Call, time, state, stamped, timed, turns, timeRefusal, stateRefusal, refusal, Outcome, play, call, after, History, nowOf, onto, accepted}
 use Rattle.pmtl.proofs.History.{now-run}
+use Rattle.pmtl.proofs.Calls.{first-zero, firsts-zero, timely}
 use Rattle.pmtl.proofs.Theorems.{after-is}
 use Rattle.original.specs.Rust.{Ran, _>>=_, index, each}
 use Rattle.original.specs.ValPmtl.{ValPmtl, from, update-state as update-state-of, update-states, update-time as update-time-of, update-times}
@@ -61,19 +62,8 @@ sound b st k = go (eqb (refusal b (st .now) k) 0) refl
     go true e h = eqb-true (refusal b (st .now) k) 0 e
     go false e h = eqb-true (refusal b (st .now) k) 0 h
 
-first-zero : (a : Bool) (n m : ℕ) → cond a (suc n) m ≡ 0 → (a ≡ false) × (m ≡ 0)
-first-zero true n m e = absurd (omega arith)
-first-zero false n m e = (refl, e)
-
-time-sound : (b : Rows) (now : Snap) (t : ℕ) → refusal b now (time t) ≡ 0 → (now .clock ≤ t) × (t ≤ LAST-TIME)
-unfolding refusal
-time-sound b now t e =
-    let p = first-zero (ltb t (now .clock)) 6 (cond (ltb LAST-TIME t) 8 0) e in
-    (ltb-false t (now .clock) (p .0), ltb-false LAST-TIME t (first-zero (ltb LAST-TIME t) 7 0 (p .1) .0))
-
-state-sound : (b : Rows) (now : Snap) (bytes : List ℕ) → refusal b now (state bytes) ≡ 0 → widthOf b ≤ length bytes
-unfolding refusal
-state-sound b now bytes e =
+state-sound : (b : Rows) (bytes : List ℕ) → stateRefusal b bytes ≡ 0 → widthOf b ≤ length bytes
+state-sound b bytes e =
     let p = first-zero (ltb MOST-ATOMS (length bytes)) 1 (cond (ltb (length bytes) (widthOf b)) 9 (cond (some (ltb 1) bytes) 10 0)) e in
     ltb-false (length bytes) (widthOf b) (first-zero (ltb (length bytes) (widthOf b)) 8 (cond (some (ltb 1) bytes) 10 0) (p .1) .0)
 
@@ -121,10 +111,23 @@ module _ (b : Book) (w : Ordered (b .rows)) (fit : Fits (b .rows)) (h : History)
       (λ a k. rw (index-at bytes (widthOf (b .rows)) a k p))) in
       record { clocks = l′; is = state-done (oracleAt b h) _ _ (map isOne bytes) (each (b .assumes)) (each (b .guarantees)) }
 
+module _ (b : Book) (w : Ordered (b .rows)) (fit : Fits (b .rows)) (h : History) (l : Clocks (b .rows) h) where
+  -- a stamped call: the state call after the time call
+  pub stamped-at : (t : ℕ) (bytes : List ℕ) → nowOf (b .rows) h .clock ≤ t → t ≤ LAST-TIME → widthOf (b .rows) ≤ length bytes
+      → At b (onto (turns (b .rows) (nowOf (b .rows) h) (stamped t bytes)) h) (made (oracleAt b h) (stamped t bytes))
+  unfolding onto made
+  stamped-at t bytes p q m =
+      let first = time-at b w fit h l t p q in
+      rw (first .is) (state-at b w fit (timed (nowOf (b .rows) h) t ∷ h) (first .clocks) bytes m)
+
   made-at : (k : Call) → refusal (b .rows) (nowOf (b .rows) h) k ≡ 0 → At b (onto (turns (b .rows) (nowOf (b .rows) h) k) h) (made (oracleAt b h) k)
-  unfolding onto
-  made-at (time t) e = let p = time-sound (b .rows) (nowOf (b .rows) h) t e in time-at t (p .0) (p .1)
-  made-at (state bytes) e = state-at bytes (state-sound (b .rows) (nowOf (b .rows) h) bytes e)
+  unfolding onto refusal
+  made-at (time t) e = let p = timely (nowOf (b .rows) h) t e in time-at b w fit h l t (p .0) (p .1)
+  made-at (state bytes) e = state-at b w fit h l bytes (state-sound (b .rows) bytes e)
+  made-at (stamped t bytes) e =
+      let z = firsts-zero (timeRefusal (nowOf (b .rows) h) t) (stateRefusal (b .rows) bytes) e in
+      let p = timely (nowOf (b .rows) h) t (z .0) in
+      stamped-at t bytes (p .0) (p .1) (state-sound (b .rows) bytes (z .1))
 
 -- ---- all of them
 module _ (b : Book) (w : Ordered (b .rows)) (fit : Fits (b .rows)) where

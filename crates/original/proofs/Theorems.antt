@@ -2,7 +2,7 @@
 -- Of a book it is asked that it is one as loading accepts them (`Proper`); the calls are any list, the newest first, refused ones among them.
 use Prim.Native.Nat.{ℕ, _≤_, _<_}
 use mathlib.Core.Path.{_≡_, refl, sym, ap, ap₂, _∙_}
-use mathlib.Core.Logic.{_↔_}
+use mathlib.Core.Logic.{_⊎_, _↔_}
 use mathlib.Core.Bool.{Bool}
 use mathlib.Core.List.{List, [], _∷_, map}
 use lib.ListN.{length, drop}
@@ -11,7 +11,7 @@ use Rattle.numbers.specs.Limits.{LAST-TIME, MOST-ATOMS}
 use Rattle.pmtl.specs.Book.{Rows, Book, AllBelow}
 use Rattle.pmtl.specs.Monitor.{Snap, State, initial, value}
 use Rattle.pmtl.specs.Early.{early}
-use Rattle.pmtl.specs.Calls.{Call, time, state, call, after, History, nowOf, accepted}
+use Rattle.pmtl.specs.Calls.{Call, time, state, stamped, call, after, History, nowOf, accepted}
 use Rattle.pmtl.specs.Past.{runBy, run as state-after}
 use Rattle.pmtl.proofs.History.{now-run}
 use Rattle.pmtl.proofs.Values.{values-mean}
@@ -31,8 +31,8 @@ use Rattle.original.proofs.Sorted.{split-increases}
 use Rattle.original.proofs.Fulls.{Clocks}
 use Rattle.original.proofs.Grown.{grown, tree-of, output-grown}
 use Rattle.original.proofs.Valuations.{legal, valuation-grown}
-use Rattle.original.proofs.Panics.{time-panics, state-panics}
-use Rattle.original.proofs.Numbers.{number-seven, number-nine}
+use Rattle.original.proofs.Panics.{time-panics, state-panics, stamped-panics}
+use Rattle.original.proofs.Numbers.{number-seven, number-nine, number-either}
 use Rattle.original.proofs.Replays.{oracleAt, replay, replay-all}
 
 -- ---- lists of properties
@@ -154,6 +154,16 @@ module _ (b : Book) (w : Proper b) (calls : List Call) where
   unfolding h
   panics-as-9 bytes k = rw (is b w calls)
       (both (state-panics b (w .ordered) (w .ranges) (h b w calls) (clocks b w calls) (w .used) bytes) (number-nine (b .rows) (after (b .rows) calls) bytes k))
+
+  -- and a stamped call panics where ours is refused with the one or the other
+  pub panics-as-7-or-9 : (t : ℕ) → t ≤ LAST-TIME → (bytes : List ℕ) → length bytes ≤ MOST-ATOMS
+      → ((replayed b calls >>= λ o. made o (stamped t bytes)) ≡ panic)
+      ↔ ((call (b .rows) (after (b .rows) calls) (stamped t bytes) .number ≡ 7) ⊎ (call (b .rows) (after (b .rows) calls) (stamped t bytes) .number ≡ 9))
+  unfolding h
+  panics-as-7-or-9 t k bytes n = rw (is b w calls)
+      (both (stamped-panics b (w .ordered) (w .ranges) (h b w calls) (clocks b w calls) (w .used) t k bytes)
+      (number-either (b .rows) (after (b .rows) calls) t bytes k n (nowOf (b .rows) (h b w calls) .clock)
+      (ap (λ (st : State). st .now .clock) (after-is (b .rows) calls) ∙ ap (λ (s : Snap). s .clock) (now-run (b .rows) (h b w calls)))))
 
 -- where keys increase, as those of the sets of `Follows` do, the search does what its page says, and nothing else does
 pub search-is-documented : {A : Type 0} (d : A) (key : A → ℕ) (xs : List A) (k : ℕ) → Increasing d key xs

@@ -1,19 +1,25 @@
 -- Calls made on the original: those that our monitor accepts, and all those that REFERENCE 5.3 allows. Definitions only.
-use mathlib.Core.Bool.{true, false, cond}
+use Prim.Native.Nat.{ℕ}
+use mathlib.Core.Bool.{Bool, true, false, cond}
 use mathlib.Core.List.{List, [], _∷_, map}
 use lib.Dec.{eqb}
 use Rattle.pmtl.specs.Book.{Rows, Book}
 use Rattle.pmtl.specs.Monitor.{State, initial, step}
-use Rattle.pmtl.specs.Calls.{Call, time, state, turns, refusal, call, after, History, nowOf, onto}
+use Rattle.pmtl.specs.Calls.{Call, time, state, stamped, turns, refusal, call, after, History, nowOf, onto}
 use Rattle.original.specs.Rust.{Ran, _>>=_}
 use Rattle.original.specs.Rust.Ran.{done}
 use Rattle.original.specs.PmtlOracle.{PmtlOracle, update-state, update-time}
 use Rattle.original.specs.Formulas.{oracleOf}
 
--- a call made on the original; atom n is byte n
+-- a state of the original: atom n is byte n
+abbrev pub bitsOf : List ℕ → List Bool
+bitsOf bytes = map (λ x. eqb x 1) bytes
+
+-- a call made on the original, which has no stamped calls: that is its two, the one after the other
 unfoldable pub made : PmtlOracle → Call → Ran PmtlOracle
 made o (time t) = update-time o t
-made o (state bytes) = update-state o (map (λ x. eqb x 1) bytes)
+made o (state bytes) = update-state o (bitsOf bytes)
+made o (stamped t bytes) = update-time o t >>= λ p. update-state p (bitsOf bytes)
 
 -- the original after calls, the newest first, of which those are made that our monitor accepts
 unfoldable pub replayed : Book → List Call → Ran PmtlOracle

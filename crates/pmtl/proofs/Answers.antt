@@ -15,7 +15,7 @@ use Rattle.pmtl.specs.Sets.{gone, Renew, renewed, setRuleBy, setRule}
 use Rattle.pmtl.specs.Monitor.{Snap, State, setAt, valueRule, Cell, setIn, valueIn, noCell, cellRuleBy, cellRule, stepBy, step, value}
 use Rattle.pmtl.specs.Early.{earlyRule, early}
 use Rattle.pmtl.specs.Settled.{settledRule, settled}
-use Rattle.pmtl.proofs.Table.{answer-in, answer-out, answer-made, answer-fix, answer-only, mapRow-mapRow, mapRow-local, table-length, by-rows}
+use Rattle.pmtl.proofs.Table.{answer-in, answer-out, answer-made, answer-fix, answer-only, mapRow-mapRow, mapRow-local, table-length, table-local, by-rows}
 
 module _ (b : Rows) (st : State) where
   -- rows that are not there
@@ -78,6 +78,17 @@ module _ (b : Rows) (st : State) (now : Snap) where
 
   pub step-begun : step b st now .begun ≡ true
   step-begun = step-begun-by renewed b st now
+
+-- a step looks at the sets before it only through what the rule makes of them
+module _ (b : Rows) (st st′ : State) (now : Snap)
+    (same : (r : ℕ) → r < length b → (f : ℕ → Bool) → setRule (now .clock) (setAt st r) (mapRow f (rowAt b r)) ≡ setRule (now .clock) (setAt st′ r) (mapRow f (rowAt b r))) where
+  same-cell : (r : ℕ) → r < length b → (f : ℕ → Cell) → cellRule st now r (mapRow f (rowAt b r)) ≡ cellRule st′ now r (mapRow f (rowAt b r))
+  same-cell r h f = ap (λ (s : Runs). record { set = s; value = valueRule (now .atoms) (has s (now .clock)) (mapRow valueIn (mapRow f (rowAt b r))) })
+      (rw (mapRow-mapRow valueIn f (rowAt b r)) (same r h (λ o. f o .value)))
+
+  pub step-same : step b st now ≡ step b st′ now
+  unfolding stepBy
+  step-same = ap (λ t. record { begun = true; now = now; sets = map setIn t }) (table-local b noCell (cellRule st now) (cellRule st′ now) (length b) same-cell)
 
 module _ (b : Rows) (w : Ordered b) where
   module _ (st : State) where

@@ -1,22 +1,20 @@
 -- Lists of calls, refused ones among them: a call leaves the state, or goes on along the history. Assumes nothing.
-use Prim.Native.Nat.{ℕ, zero, suc, _≤_}
+use Prim.Native.Nat.{ℕ, suc, _≤_}
 use native.Mathlib.Omega.{arith}
-use native.Mathlib.Nat.{not-suc-le-zero, le-of-suc-le-suc}
-use mathlib.Core.Path.{_≡_, refl, sym, ap, ap₂, _∙_}
+use mathlib.Core.Path.{_≡_, refl, ap, ap₂, _∙_}
 use mathlib.Core.Bool.{Bool, true, false, cond}
 use mathlib.Core.List.{List, [], _∷_, _++_}
-use lib.ListN.{length, drop}
 use lib.Dec.{ltb, eqb}
-use borrow.Author.Tests.{ltb-false, eqb-true, ne-eqb}
+use borrow.Author.Tests.{ltb-false, eqb-true, eqb-false, eq-eqb, ne-eqb}
 use Rattle.numbers.specs.Limits.{LAST-TIME}
 use Rattle.pmtl.specs.Book.{Rows}
 use Rattle.pmtl.specs.Monitor.{Snap, State, step}
-use Rattle.pmtl.specs.Calls.{Call, time, state, turns, refusal, crowds, Outcome, play, call, after, History, nowOf, onto, accepted}
+use Rattle.pmtl.specs.Calls.{Call, time, state, stamped, turns, timeRefusal, firstOf, refusal, crowds, Outcome, play, call, after, History, nowOf, onto, accepted}
 use Rattle.pmtl.specs.Past.{runBy, run}
 use Rattle.pmtl.proofs.History.{Legal, now-run, small-clock}
 
 -- the state after snapshots in turn
-unfoldable steps : Rows → State → List Snap → State
+unfoldable pub steps : Rows → State → List Snap → State
 steps b st [] = st
 steps b st (n ∷ ns) = steps b (step b st n) ns
 
@@ -65,19 +63,33 @@ unfolding steps onto runBy
 steps-run b [] h = refl
 steps-run b (n ∷ ns) h = steps-run b ns (n ∷ h)
 
--- a call that is not refused for what it is is legal
-first-zero : (a : Bool) (n m : ℕ) → cond a (suc n) m ≡ 0 → (a ≡ false) × (m ≡ 0)
+-- a number that does not refuse
+pub first-zero : (a : Bool) (n m : ℕ) → cond a (suc n) m ≡ 0 → (a ≡ false) × (m ≡ 0)
 first-zero true n m e = absurd (omega arith)
 first-zero false n m e = (refl, e)
 
+pub firsts-zero : (n m : ℕ) → firstOf n m ≡ 0 → (n ≡ 0) × (m ≡ 0)
+unfolding firstOf
+firsts-zero n m = go (eqb n 0) refl
+  where
+    go : (z : Bool) → eqb n 0 ≡ z → cond z m n ≡ 0 → (n ≡ 0) × (m ≡ 0)
+    go true z e = (eqb-true n 0 z, e)
+    go false z e = absurd (eqb-false n 0 z e)
+
+-- a time that is not refused goes on from the clock
+pub timely : (now : Snap) (t : ℕ) → timeRefusal now t ≡ 0 → (now .clock ≤ t) × (t ≤ LAST-TIME)
+timely now t e =
+    let p = first-zero (ltb t (now .clock)) 6 (cond (ltb LAST-TIME t) 8 0) e in
+    (ltb-false t (now .clock) (p .0), ltb-false LAST-TIME t (first-zero (ltb LAST-TIME t) 7 0 (p .1) .0))
+
+-- a call that is not refused for what it is is legal
 pub legal-call : (b : Rows) (h : History) → Legal b h → (k : Call) → refusal b (nowOf b h) k ≡ 0 → Legal b (onto (turns b (nowOf b h) k) h)
 unfolding onto refusal
-legal-call b h l (time t) e =
-    let p = first-zero (ltb t (nowOf b h .clock)) 6 (cond (ltb LAST-TIME t) 8 0) e in
-    let q = first-zero (ltb LAST-TIME t) 7 0 (p .1) in
-    let up : t ≤ LAST-TIME = ltb-false LAST-TIME t (q .0) in
-    (ltb-false t (nowOf b h .clock) (p .0), omega arith, l)
+legal-call b h l (time t) e = let p = timely (nowOf b h) t e in (p .0, omega (arith, p .1), l)
 legal-call b h l (state bs) e = (omega arith, small-clock b h l, l)
+legal-call b h l (stamped t bs) e =
+    let p = timely (nowOf b h) t (firsts-zero _ _ e .0) in
+    (omega arith, omega (arith, p .1), (p .0, omega (arith, p .1), l))
 
 -- calls leave the state of a legal history, that of the accepted ones
 pub record Trail (b : Rows) (ks : List Call) (h : History) : Type 0 where
@@ -130,31 +142,43 @@ module _ (b : Rows) (k : Call) (calls : List Call) (n : ¬ (call b (after b call
   accepted-refused [] = rw (ne-eqb (call b (after b calls) k .number) 0 n)
   accepted-refused (m ∷ more) = ap₂ (λ st h. cond (eqb (call b st m .number) 0) (onto (turns b (st .now) m) h) h) (after-refused more) (accepted-refused more)
 
--- the calls up to the one that was accepted k accepted calls ago
-abbrev pub Past : Rows → List Call → ℕ → Type 0
-Past b calls k = (past : List Call) × ((newer : List Call) × (calls ≡ newer ++ past)) × (accepted b past ≡ drop k (accepted b calls))
+-- ---- when a call is accepted, and what it leaves then
+-- there is room for each snapshot in turn
+abbrev pub Roomy : Rows → State → List Snap → Type 0
+Roomy b st [] = Unit {0}
+Roomy b st (n ∷ ns) = (crowds b st n ≡ false) × Roomy b (step b st n) ns
 
--- each call leaves one snapshot, so that what the history was k snapshots ago is the history of those calls
-one-turn : (b : Rows) (now : Snap) (k : Call) (h : History) → (s : Snap) × (onto (turns b now k) h ≡ s ∷ h)
-unfolding onto
-one-turn b now (time t) h = (_, refl)
-one-turn b now (state bytes) h = (_, refl)
+pub record Accepts (b : Rows) (st : State) (k : Call) : Type 0 where
+  pub fine : refusal b (st .now) k ≡ 0
+  pub room : Roomy b st (turns b (st .now) k)
 
-pub past-calls : (b : Rows) (calls : List Call) (k : ℕ) → k ≤ length (accepted b calls) → Past b calls k
-unfolding accepted
-past-calls b [] zero h = ([], ([], refl), refl)
-past-calls b [] (suc k) h = absurd (not-suc-le-zero h)
-past-calls b (c ∷ ks) zero h = (c ∷ ks, ([], refl), refl)
-past-calls b (c ∷ ks) (suc k) h = go (eqb (call b (after b ks) c .number) 0) (past-calls b ks (suc k)) (past-calls b ks k) h
+play-roomy : (b : Rows) (old st : State) (ns : List Snap) → play b old st ns .number ≡ 0 → Roomy b st ns
+unfolding play
+play-roomy b old st [] e = tt
+play-roomy b old st (n ∷ ns) e = go (crowds b st n) refl e (play-roomy b old (step b st n) ns)
   where
-    ns : List Snap
-    ns = turns b (after b ks .now) c
+    go : (z : Bool) → crowds b st n ≡ z
+        → (elim z as (λ x. Outcome) [ true ↦ record { number = 11; state = old } | false ↦ play b old (step b st n) ns ]) .number ≡ 0
+        → (play b old (step b st n) ns .number ≡ 0 → Roomy b (step b st n) ns) → Roomy b st (n ∷ ns)
+    go true z q ih = absurd (omega arith)
+    go false z q ih = (z, ih q)
 
-    go : (z : Bool) → (suc k ≤ length (accepted b ks) → Past b ks (suc k)) → (k ≤ length (accepted b ks) → Past b ks k)
-        → suc k ≤ length (cond z (onto ns (accepted b ks)) (accepted b ks))
-        → (past : List Call) × ((newer : List Call) × (c ∷ ks ≡ newer ++ past)) × (accepted b past ≡ drop (suc k) (cond z (onto ns (accepted b ks)) (accepted b ks)))
-    go true ih ih′ l =
-        let o = one-turn b (after b ks .now) c (accepted b ks) in
-        let p = ih′ (le-of-suc-le-suc (rw (o .1) at l)) in
-        (p .0, (c ∷ p .1 .0, ap (λ q. c ∷ q) (p .1 .1)), p .2 ∙ sym (ap (drop (suc k)) (o .1)))
-    go false ih ih′ l = let p = ih l in (p .0, (c ∷ p .1 .0, ap (λ q. c ∷ q) (p .1 .1)), p .2)
+roomy-play : (b : Rows) (old st : State) (ns : List Snap) → Roomy b st ns → play b old st ns ≡ record { number = 0; state = steps b st ns }
+unfolding play steps
+roomy-play b old st [] r = refl
+roomy-play b old st (n ∷ ns) r = rw (r .0, play) (roomy-play b old (step b st n) ns (r .1))
+
+pub call-accepts : (b : Rows) (st : State) (k : Call) → call b st k .number ≡ 0 → Accepts b st k
+unfolding call
+call-accepts b st k = go (eqb (refusal b (st .now) k) 0) refl
+  where
+    go : (z : Bool) → eqb (refusal b (st .now) k) 0 ≡ z → (elim z as (λ x. Outcome) [
+      | true ↦ play b st st (turns b (st .now) k)
+      | false ↦ record { number = refusal b (st .now) k; state = st }
+    ]) .number ≡ 0 → Accepts b st k
+    go true z e = record { fine = eqb-true (refusal b (st .now) k) 0 z; room = play-roomy b st st (turns b (st .now) k) e }
+    go false z e = absurd (eqb-false (refusal b (st .now) k) 0 z e)
+
+pub accepts-call : (b : Rows) (st : State) (k : Call) → Accepts b st k → call b st k ≡ record { number = 0; state = steps b st (turns b (st .now) k) }
+unfolding call
+accepts-call b st k a = rw (eq-eqb (refusal b (st .now) k) 0 (a .fine), call) (roomy-play b st st (turns b (st .now) k) (a .room))

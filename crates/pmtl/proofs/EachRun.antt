@@ -1,6 +1,7 @@
 -- What is so of every run of a set stays so of what is kept of it, and where an interval is added. Assumes nothing.
 use Prim.Native.Nat.{ℕ, _+_, _≤_, min, max}
 use native.Mathlib.Omega.{arith}
+use mathlib.Core.Path.{_≡_, refl, ap, _∙_}
 use mathlib.Core.Logic.{⊎-elim}
 use mathlib.Core.Bool.{Bool, true, false}
 use mathlib.Core.List.{[], _∷_}
@@ -53,3 +54,9 @@ kept-none-before c (run l u ∷ rs) =
 -- nor one of a set that a call renews
 pub renewed-none-before : (k x : Bool) (g : Range) (c : ℕ) (s : Runs) → c ≤ MAX → NoneBefore c (renewed k x g c s)
 renewed-none-before k x g c s h = renewed-all (λ l u. c ≤ u) (λ l u a b p q. omega arith) k x g c s (λ p. stop-after g c h) (kept-none-before c s)
+
+-- where none does, all is kept
+pub none-before-kept : (c : ℕ) (s : Runs) → NoneBefore c s → kept c s ≡ s
+unfolding kept AllRuns
+none-before-kept c [] h = refl
+none-before-kept c (run l u ∷ rs) h = kept-in c l u rs (h .0) ∙ ap (λ q. run l u ∷ q) (none-before-kept c rs (h .1))

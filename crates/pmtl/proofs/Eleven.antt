@@ -13,7 +13,7 @@ use Rattle.numset.specs.Runs.{Runs, has, Canonical}
 use Rattle.lists.proofs.Tests.{or-elim, or-left, or-right}
 use Rattle.pmtl.specs.Book.{mapRow, Rows, rowAt, widthOf, some}
 use Rattle.pmtl.specs.Monitor.{Snap, State, setAt, step}
-use Rattle.pmtl.specs.Calls.{Call, time, state, turns, refusal, crowded, crowds, Outcome, play, call, History, nowOf}
+use Rattle.pmtl.specs.Calls.{Call, time, state, stamped, turns, timeRefusal, stateRefusal, firstOf, refusal, crowded, crowds, Outcome, play, call, History, nowOf}
 use Rattle.pmtl.specs.Meaning.{instants, meaning}
 use Rattle.pmtl.specs.Kept.{NoneBefore, Full, FullIn}
 use Rattle.pmtl.proofs.Cut.{length-more, more-length}
@@ -58,13 +58,21 @@ first-eleven : (a : Bool) (n m : ℕ) → (n ≡ 11 → ⊥) → (m ≡ 11 → �
 first-eleven true n m p q e = p e
 first-eleven false n m p q e = q e
 
-not-eleven : (b : Rows) (now : Snap) (k : Call) → refusal b now k ≡ 11 → ⊥
-unfolding refusal
-not-eleven b now (time t) = first-eleven (ltb t (now .clock)) 7 _ (λ e. omega arith) (first-eleven (ltb LAST-TIME t) 8 0 (λ e. omega arith) (λ e. omega arith))
-not-eleven b now (state bytes) =
+time-not-eleven : (now : Snap) (t : ℕ) → timeRefusal now t ≡ 11 → ⊥
+time-not-eleven now t = first-eleven (ltb t (now .clock)) 7 _ (λ e. omega arith) (first-eleven (ltb LAST-TIME t) 8 0 (λ e. omega arith) (λ e. omega arith))
+
+state-not-eleven : (b : Rows) (bytes : List ℕ) → stateRefusal b bytes ≡ 11 → ⊥
+state-not-eleven b bytes =
     first-eleven (ltb MOST-ATOMS (length bytes)) 2 _ (λ e. omega arith)
     (first-eleven (ltb (length bytes) (widthOf b)) 9 _ (λ e. omega arith)
     (first-eleven (some (ltb 1) bytes) 10 0 (λ e. omega arith) (λ e. omega arith)))
+
+not-eleven : (b : Rows) (now : Snap) (k : Call) → refusal b now k ≡ 11 → ⊥
+unfolding refusal firstOf
+not-eleven b now (time t) = time-not-eleven now t
+not-eleven b now (state bytes) = state-not-eleven b bytes
+not-eleven b now (stamped t bytes) =
+    first-eleven (eqb (timeRefusal now t) 0) (stateRefusal b bytes) (timeRefusal now t) (state-not-eleven b bytes) (time-not-eleven now t)
 
 module _ (b : Rows) where
   -- each step crowds exactly if the history is full after it

@@ -1,8 +1,9 @@
--- P1 to P12 of REFERENCE, and what lapses, computed by the definitions.
+-- P1 to P12 of REFERENCE, what lapses, and stamped calls, computed by the definitions.
 use Prim.Native.Nat.{ℕ, zero, suc, _*_}
 use mathlib.Core.Path.{_≡_, refl}
 use mathlib.Core.List.{List, [], _∷_, map}
-use Rattle.numbers.specs.Limits.{MAX}
+use lib.ListN.{replicate}
+use Rattle.numbers.specs.Limits.{MAX, LAST-TIME, MOST-ATOMS}
 use Rattle.numset.specs.Runs.{run, Runs, has, covers, kept, insert, union}
 use Rattle.pmtl.specs.Answer.{bitOf, digitOf}
 use Rattle.pmtl.specs.Book.{Range, stop, Row, Rows, widthOf, table, answer, every, some}
@@ -11,7 +12,7 @@ use Rattle.pmtl.specs.Sets.{gone, staysIf, addedIf, renewed, setRuleBy}
 use Rattle.pmtl.specs.Monitor.{State, setAt, initial, valueRule, value, stepBy}
 use Rattle.pmtl.specs.Early.{earlyRule, early}
 use Rattle.pmtl.specs.Settled.{settledTrue, settledFalse, settled}
-use Rattle.pmtl.specs.Calls.{Call, time, state, refusal, crowded, play, call, after}
+use Rattle.pmtl.specs.Calls.{Call, time, state, stamped, firstOf, refusal, crowded, play, call, after}
 
 -- what an example gives: a set; a row's value after each of some calls; its value, early and settled answer after each
 pub data Result : Type 0 where
@@ -116,17 +117,44 @@ pub lapses-so : map foundIn lapses ≡ map statedIn lapses
 unfolding has covers insert union stop widthOf table answer every some kept gone staysIf addedIf renewed setRuleBy initial valueRule value stepBy earlyRule early settledTrue settledFalse settled refusal crowded play call after
 lapses-so = refl
 
--- s1, then t2, t4 up to t126, the newest first
-unfoldable pub evens : ℕ → List Call
-evens zero = s1 ∷ []
-evens (suc n) = time (2 * suc n) ∷ evens n
+-- a first call, then t2, t4 up to t126, the newest first
+unfoldable pub evens : Call → ℕ → List Call
+evens first zero = first ∷ []
+evens first (suc n) = time (2 * suc n) ∷ evens first n
 
--- the number that a further time call hands back, where the rule is Once g a
+-- the number that a time call hands back after s1 and those, where the rule is Once g a
 abbrev pub numberAt : Range → ℕ → ℕ
-numberAt g t = let b : Rows = atom 0 ∷ once g 0 ∷ [] in call b (after b (evens 63)) (time t) .number
+numberAt g t = let b : Rows = atom 0 ∷ once g 0 ∷ [] in call b (after b (evens s1 63)) (time t) .number
 
 -- Once[0,0] a: every episode is over at the next. Once[127,127] a: the oldest is over at 128. Once[128,128] a: it is over at 129, and not yet at 128,
 -- where the 65th is refused
 pub room-again : numberAt (range 0 0) 128 ∷ numberAt (range 127 127) 128 ∷ numberAt (range 128 128) 128 ∷ numberAt (range 128 128) 129 ∷ [] ≡ 0 ∷ 0 ∷ 11 ∷ 0 ∷ []
 unfolding evens has covers insert union stop widthOf table answer every some kept gone staysIf addedIf renewed setRuleBy initial valueRule value stepBy earlyRule early settledTrue settledFalse settled refusal crowded play call after
 room-again = refl
+
+-- ---- stamped calls
+abbrev pub stamps : List Example
+stamps =
+    -- P8 as one call, Historically[0,0] a; (t4, s1): the old state is still seen at the new time
+    (valuesOf (atom 0 ∷ historically (range 0 0) 0 ∷ []) 1 [] (stamped 4 (1 ∷ []) ∷ []) gives values (0 ∷ []))
+    -- the other order, s1 and then t4, would give 1
+    ∷ (valuesOf (atom 0 ∷ historically (range 0 0) 0 ∷ []) 1 (s1 ∷ []) (time 4 ∷ []) gives values (1 ∷ []))
+    ∷ []
+
+pub stamps-so : map foundIn stamps ≡ map statedIn stamps
+unfolding eachAfter has covers insert union stop widthOf table answer every some kept gone staysIf addedIf renewed setRuleBy initial valueRule value stepBy firstOf refusal crowded play call after
+stamps-so = refl
+
+-- what is refused, in order: at clock 5 a time too early, too late, then with the time in order a state too wide, too narrow, with a byte 2
+pub stamped-refused : let b : Rows = atom 0 ∷ [] in
+    map (λ k. call b (after b (time 5 ∷ [])) k .number)
+    (stamped 4 (replicate (suc MOST-ATOMS) 2) ∷ stamped (suc LAST-TIME) [] ∷ stamped 6 (replicate (suc MOST-ATOMS) 2) ∷ stamped 6 [] ∷ stamped 6 (0 ∷ 2 ∷ []) ∷ stamped 5 (1 ∷ []) ∷ [])
+    ≡ 7 ∷ 8 ∷ 2 ∷ 9 ∷ 10 ∷ 0 ∷ []
+unfolding has covers insert union stop widthOf table answer every some kept gone staysIf addedIf renewed setRuleBy initial valueRule value stepBy firstOf refusal crowded play call after
+stamped-refused = refl
+
+-- Since(a, b)[200,200] with 64 runs: at 128 there is no room for one more, whether the state that comes would drop the set or not; at 126 that state drops it
+pub stamped-between : let b : Rows = atom 0 ∷ atom 1 ∷ since (range 200 200) 0 1 ∷ [] in
+    map (λ k. call b (after b (evens (s 1 1) 63)) k .number) (stamped 128 (0 ∷ 0 ∷ []) ∷ stamped 128 (1 ∷ 0 ∷ []) ∷ stamped 126 (0 ∷ 0 ∷ []) ∷ []) ≡ 11 ∷ 11 ∷ 0 ∷ []
+unfolding evens has covers insert union stop widthOf table answer every some kept gone staysIf addedIf renewed setRuleBy initial valueRule value stepBy firstOf refusal crowded play call after
+stamped-between = refl

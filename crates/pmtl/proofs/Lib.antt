@@ -7,8 +7,10 @@ pub mod Values
 pub mod Settled
 pub mod Ago
 pub mod Calls
+pub mod Stamped
 pub mod Theorems
 pub mod EachRun
+pub mod Twice
 pub mod Cut
 pub mod Alike
 pub mod Eleven

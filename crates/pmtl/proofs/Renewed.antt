@@ -13,7 +13,7 @@ use Rattle.pmtl.specs.Sets.{gone, staysIf, addedIf, Renew, renewed, rene
 use Rattle.pmtl.proofs.Seams.{gone-none, kept-gone}
 
 -- the set stays or is dropped
-stays-canonical : (k : Bool) (s : Runs) → Canonical s → Canonical (staysIf k s)
+pub stays-canonical : (k : Bool) (s : Runs) → Canonical s → Canonical (staysIf k s)
 unfolding staysIf Canonical
 stays-canonical true s h = h
 stays-canonical false s h = tt

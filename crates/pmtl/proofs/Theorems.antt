@@ -2,11 +2,10 @@
 -- the calls are any list, the newest first, refused ones among them; r is any number, of a row or of none. Nothing is assumed.
 use Prim.Native.Nat.{ℕ, _≤_}
 use native.Mathlib.Omega.{arith}
-use mathlib.Core.Path.{_≡_, refl, sym, ap, _∙_}
+use mathlib.Core.Path.{_≡_, refl, ap, _∙_}
 use mathlib.Core.Logic.{_↔_}
 use mathlib.Core.Bool.{Bool, true, false, cond, not, _&&_}
 use mathlib.Core.List.{List, _∷_, _++_}
-use lib.ListN.{length, drop}
 use Rattle.numbers.specs.Limits.{MAX}
 use Rattle.numset.specs.Runs.{Runs, has, Covers, covers, Canonical}
 use Rattle.numset.proofs.Covering.{covers-iff}
@@ -26,7 +25,7 @@ use Rattle.pmtl.proofs.History.{small-clock, now-run, run-canonical}
 use Rattle.pmtl.proofs.Values.{values-mean, sets-mean}
 use Rattle.pmtl.proofs.Ago.{once-held, historically-held, since-held}
 use Rattle.pmtl.proofs.Settled.{settles, tests-apart, covers-not-gone}
-use Rattle.pmtl.proofs.Calls.{trail, further, refused-stays, after-refused, accepted-refused, past-calls}
+use Rattle.pmtl.proofs.Calls.{trail, further, refused-stays, after-refused, accepted-refused}
 
 -- the state after calls is that of the history of the accepted ones
 pub after-is : (b : Rows) (calls : List Call) → after b calls ≡ run b (accepted b calls)
@@ -42,12 +41,6 @@ clock-small b calls = rw (clock-is b calls) (small-clock b (accepted b calls) (t
 -- a set's runs are sorted, disjoint and never adjacent: they are the longest stretches of consecutive instants
 pub sets-are-canonical : (b : Rows) (calls : List Call) (r : ℕ) → Canonical (setAt (after b calls) r)
 sets-are-canonical b calls r = rw (after-is b calls) (run-canonical b (accepted b calls) r)
-
--- what held k accepted calls ago is the value after the calls up to that one
-pub held-is : (b : Rows) (calls : List Call) (r k : ℕ) → k ≤ length (accepted b calls)
-    → (past : List Call) × ((newer : List Call) × (calls ≡ newer ++ past)) × (held b r (drop k (accepted b calls)) ≡ value b (after b past) r)
-held-is b calls r k h = let p = past-calls b calls k h in
-    (p .0, p .1, ap (λ x. held b r x) (sym (p .2)) ∙ ap (λ st. value b st r) (sym (after-is b (p .0))))
 
 module _ (b : Rows) (w : Ordered b) (calls : List Call) (r : ℕ) where
   -- each temporal row has, from the clock on, the set of instants that REFERENCE 3.5 defines from the accepted calls so far

@@ -11,23 +11,45 @@ use Rattle.pmtl.specs.Book.{Rows, widthOf, some}
 use Rattle.pmtl.specs.Sets.{renewed}
 use Rattle.pmtl.specs.Monitor.{Snap, State, fresh, initial, stepBy, step}
 
--- a time call, a state call
+-- a time call, a state call, and a stamped call: a time and a state together
 pub data Call : Type 0 where
   time : ℕ → Call
   state : List ℕ → Call
+  stamped : ℕ → List ℕ → Call
 
--- what a call leaves if it is accepted, one snapshot after the other: a time call sets the clock, a state call atom n from byte n
+-- a time sets the clock
+abbrev pub timed : Snap → ℕ → Snap
+timed now t = record { clock = t; atoms = now .atoms }
+
+-- a state sets atom n from byte n
+abbrev pub stated : Rows → Snap → List ℕ → Snap
+stated b now bytes = record { clock = now .clock; atoms = map (λ x. eqb x 1) (take (widthOf b) bytes) }
+
+-- what a call leaves if it is accepted, one snapshot after the other: a stamped call does the time call and then the state call
 abbrev pub turns : Rows → Snap → Call → List Snap
-turns b now (time t) = record { clock = t; atoms = now .atoms } ∷ []
-turns b now (state bytes) = record { clock = now .clock; atoms = map (λ x. eqb x 1) (take (widthOf b) bytes) } ∷ []
+turns b now (time t) = timed now t ∷ []
+turns b now (state bytes) = stated b now bytes ∷ []
+turns b now (stamped t bytes) = timed now t ∷ stated b (timed now t) bytes ∷ []
 
--- the number of what is wrong with a call itself. A time: below the clock, above the last. A state: too wide, shorter than the
--- largest atom plus 1, a byte, used or not, other than 0 or 1
-unfoldable pub refusal : Rows → Snap → Call → ℕ
-refusal b now (time t) = cond (ltb t (now .clock)) TOO-EARLY (cond (ltb LAST-TIME t) TOO-LATE ACCEPTED)
-refusal b now (state bytes) =
+-- the number of what is wrong with a time: below the clock, above the last
+abbrev pub timeRefusal : Snap → ℕ → ℕ
+timeRefusal now t = cond (ltb t (now .clock)) TOO-EARLY (cond (ltb LAST-TIME t) TOO-LATE ACCEPTED)
+
+-- with a state: too wide, shorter than the largest atom plus 1, a byte, used or not, other than 0 or 1
+abbrev pub stateRefusal : Rows → List ℕ → ℕ
+stateRefusal b bytes =
     cond (ltb MOST-ATOMS (length bytes)) PAST-LIMIT
     (cond (ltb (length bytes) (widthOf b)) TOO-NARROW (cond (some (ltb 1) bytes) NOT-A-BIT ACCEPTED))
+
+-- the first of two numbers that refuses
+unfoldable pub firstOf : ℕ → ℕ → ℕ
+firstOf n m = cond (eqb n ACCEPTED) m n
+
+-- with a call itself: of a stamped call first with its time
+unfoldable pub refusal : Rows → Snap → Call → ℕ
+refusal b now (time t) = timeRefusal now t
+refusal b now (state bytes) = stateRefusal b bytes
+refusal b now (stamped t bytes) = firstOf (timeRefusal now t) (stateRefusal b bytes)
 
 -- a set has more runs than it may
 unfoldable pub crowded : State → Bool
@@ -60,7 +82,7 @@ unfoldable pub after : Rows → List Call → State
 after b [] = initial b
 after b (k ∷ ks) = call b (after b ks) k .state
 
--- a history: what each accepted call left, the newest first
+-- a history: what each accepted call left, the newest first; a stamped call leaves two snapshots
 abbrev pub History : Type 0
 History = List Snap
 

@@ -1,6 +1,6 @@
 -- A state's words and the bytes that stand for them are one call. Assumes nothing.
 use Prim.Native.Nat.{ℕ, zero, suc}
-use mathlib.Core.Path.{_≡_, refl, sym, ap₂, _∙_}
+use mathlib.Core.Path.{_≡_, refl, sym, ap, ap₂, _∙_}
 use mathlib.Core.Bool.{Bool, true, false}
 use mathlib.Core.List.{List, [], _∷_, map}
 use native.Mathlib.Omega.{arith}
@@ -9,8 +9,8 @@ use lib.Dec.{ltb, eqb}
 use borrow.Author.Tests.{ltb-true, ne-eqb}
 use Rattle.pmtl.specs.Book.{Rows, widthOf, some}
 use Rattle.pmtl.specs.Monitor.{Snap, State}
-use Rattle.pmtl.specs.Calls.{Call, Outcome, turns, refusal, play, call}
-use Rattle.pmtl.specs.Calls.Call.{state}
+use Rattle.pmtl.specs.Calls.{Call, Outcome, timeRefusal, stateRefusal, firstOf, turns, refusal, play, call}
+use Rattle.pmtl.specs.Calls.Call.{state, stamped}
 use Rattle.calls.specs.Called.{Called}
 use Rattle.text_reader.specs.Reads.{byteOf}
 
@@ -46,22 +46,31 @@ by-outcome : (b : Rows) (st : State) (k : Call) → call b st k ≡ outcome b st
 unfolding call
 by-outcome b st k = refl
 
-module _ (b : Rows) (st : State) (ws : List ℕ) where
-  same-refusal : refusal b (st .now) (state (map byteOf ws)) ≡ refusal b (st .now) (state ws)
-  unfolding refusal
-  same-refusal = rw (length-map ws byteOf, same-some ws)
+-- a call that has a state is the same with its words and with their bytes
+abbrev pub Bytewise : (List ℕ → Call) → Type 0
+Bytewise asCall = (b : Rows) (st : State) (ws : List ℕ) → call b st (asCall (map byteOf ws)) ≡ call b st (asCall ws)
 
-  same-turns : turns b (st .now) (state (map byteOf ws)) ≡ turns b (st .now) (state ws)
-  same-turns = rw (same-bits (widthOf b) ws)
+by-parts : (asCall : List ℕ → Call) → ((b : Rows) (now : Snap) (ws : List ℕ) → refusal b now (asCall (map byteOf ws)) ≡ refusal b now (asCall ws))
+    → ((b : Rows) (now : Snap) (ws : List ℕ) → turns b now (asCall (map byteOf ws)) ≡ turns b now (asCall ws)) → Bytewise asCall
+by-parts asCall e f b st ws =
+    by-outcome b st (asCall (map byteOf ws)) ∙ ap₂ (outcome b st) (e b (st .now) ws) (f b (st .now) ws) ∙ sym (by-outcome b st (asCall ws))
 
-  same-call : call b st (state (map byteOf ws)) ≡ call b st (state ws)
-  same-call = by-outcome b st (state (map byteOf ws)) ∙ ap₂ (outcome b st) same-refusal same-turns ∙ sym (by-outcome b st (state ws))
+same-wrong : (b : Rows) (ws : List ℕ) → stateRefusal b (map byteOf ws) ≡ stateRefusal b ws
+same-wrong b ws = rw (length-map ws byteOf, same-some ws)
 
-pub as-words : {ws m m′ : List ℕ} {r : ℕ} → Called (state (map byteOf ws)) m m′ r → Called (state ws) m m′ r
-as-words {ws} {m} c =
+pub state-bytewise : Bytewise state
+unfolding refusal
+state-bytewise = by-parts state (λ b now ws. same-wrong b ws) (λ b now ws. rw (same-bits (widthOf b) ws))
+
+pub stamped-bytewise : (t : ℕ) → Bytewise (stamped t)
+unfolding refusal
+stamped-bytewise t = by-parts (stamped t) (λ b now ws. ap (firstOf (timeRefusal now t)) (same-wrong b ws)) (λ b now ws. rw (same-bits (widthOf b) ws))
+
+pub as-words : (asCall : List ℕ → Call) → Bytewise asCall → (ws : List ℕ) {m m′ : List ℕ} {r : ℕ} → Called (asCall (map byteOf ws)) m m′ r → Called (asCall ws) m m′ r
+as-words asCall same ws c =
     record {
-      number = c .number ∙ rw (same-call _ _ ws);
-      state = c .state ∙ rw (same-call _ _ ws);
+      number = c .number ∙ ap (λ (o : Outcome). o .number) (same _ _ ws);
+      state = c .state ∙ ap (λ (o : Outcome). o .state) (same _ _ ws);
       book = c .book;
       refused = c .refused;
       kept = c .kept;

@@ -16,12 +16,12 @@ use Rattle.book.specs.Judging.{temporalsIn, startIn, firstTo, allTo, argGood, f
 use Rattle.property_answers.specs.Verdict.{verdictIn}
 use Rattle.text.specs.Words.{pick, parts, digit, letters, allDigits, said, plain, good, begun, writtenWords, supplied, supply}
 use Rattle.text.specs.Decimals.{digitsBefore, decimal}
-use Rattle.report.specs.Lines.{timeFrom, stateFrom, callFrom, orStop, endingOf, callsFrom, callsAfter, lineOf, linesOf, linesFrom, callLines, bookThen, bookLines, lines}
+use Rattle.report.specs.Lines.{timeFrom, stateFrom, stampedFrom, callFrom, orStop, endingOf, callsFrom, callsAfter, lineOf, linesOf, linesFrom, callLines, bookThen, bookLines, lines}
 use Rattle.report.specs.Report.{bookLine, stopLine, endLine, lastLine, propertyWord, propertyWords, restWords, callLine, line, written, report}
 
 -- the report, by what every definition says
 unfoldable pub reportOf : List ℕ → List ℕ
-unfolding has covers insert union stop widthOf table answer every some kept gone staysIf addedIf renewed setRuleBy mostRuns initial valueRule value stepBy earlyRule early settledTrue settledFalse settled refusal crowded play call rowFrom countOf listed section next sections temporalsIn startIn firstTo allTo argGood formGood rangeGood rowNumber operandsGood linksGood timesIn usedOnce judged rowIn bookIn loadedFrom verdictIn pick parts digit letters allDigits said plain good begun writtenWords supplied supply digitsBefore decimal timeFrom stateFrom callFrom orStop endingOf callsFrom callsAfter lineOf linesOf linesFrom callLines bookThen bookLines lines bookLine stopLine endLine lastLine propertyWord propertyWords restWords callLine line written report
+unfolding has covers insert union stop widthOf table answer every some kept gone staysIf addedIf renewed setRuleBy mostRuns initial valueRule value stepBy earlyRule early settledTrue settledFalse settled refusal crowded play call rowFrom countOf listed section next sections temporalsIn startIn firstTo allTo argGood formGood rangeGood rowNumber operandsGood linksGood timesIn usedOnce judged rowIn bookIn loadedFrom verdictIn pick parts digit letters allDigits said plain good begun writtenWords supplied supply digitsBefore decimal timeFrom stateFrom stampedFrom callFrom orStop endingOf callsFrom callsAfter lineOf linesOf linesFrom callLines bookThen bookLines lines bookLine stopLine endLine lastLine propertyWord propertyWords restWords callLine line written report
 reportOf s = report s
 
 pub opened : (s : List ℕ) → report s ≡ reportOf s

@@ -9,16 +9,16 @@ use Rattle.text.specs.Words.{nextWord, supplyFrom}
 use Rattle.text.specs.declared.words.Read.the-variants.{Word, Refused}
 use Rattle.text.proofs.Supplies.{word, refused as ended}
 use Rattle.pmtl.specs.Calls.{Call}
-use Rattle.pmtl.specs.Calls.Call.{time, state}
+use Rattle.pmtl.specs.Calls.Call.{time, state, stamped}
 use Rattle.book.specs.Reading.{Read, refused, next as andNext}
 use Rattle.calls.specs.Called.{Called}
 use Rattle.text_reader.specs.declared.Part as reader
 use Rattle.text_reader.specs.Reads.{StateTook, StateRead}
 use Rattle.report.specs.declared.text_calls.Turn.{Turn}
 use Rattle.report.specs.declared.text_calls.Turn.the-variants.{Made, Stopped}
-use Rattle.report.specs.Lines.{timeFrom, stateFrom, callFrom}
+use Rattle.report.specs.Lines.{timeFrom, stateFrom, stampedFrom, callFrom}
 use Rattle.report.specs.Private.{turnNumber, CallMade, Turned}
-use Rattle.report.proofs.Alike.{as-words}
+use Rattle.report.proofs.Alike.{Bytewise, as-words}
 
 pub turn-stopped : {t : Turn} {n : ℕ} → t ≡ Stopped n → n ≡ turnNumber t
 unfolding turnNumber
@@ -44,24 +44,42 @@ module _ (input : List ℕ) (at : ℕ) where
         called = c;
       }
 
-  -- ---- state calls
-  pub no-state : (m′ : List ℕ) {p : reader.Part} {r n : ℕ} → StateRead input at m′ p → p ≡ reader.the-variants.Refused r → n ≡ r → stateFrom (supplyFrom input at .ending) (supplyFrom input at .words) ≡ refused n
+  -- ---- a state, and the call that has it
+  pub no-state : (asCall : List ℕ → Call) (m′ : List ℕ) {p : reader.Part} {r n : ℕ} → StateRead input at m′ p → p ≡ reader.the-variants.Refused r → n ≡ r → stateFrom asCall (supplyFrom input at .ending) (supplyFrom input at .words) ≡ refused n
   unfolding stateFrom andNext StateRead
-  no-state m′ k e f = rw (rw e at k, f)
+  no-state asCall m′ k e f = rw (rw e at k, f)
 
   pub state-there : (m′ : List ℕ) {p : reader.Part} {end next : ℕ} → StateRead input at m′ p → p ≡ reader.the-variants.Words end next → StateTook input at m′ end next
   unfolding StateRead
   state-there m′ k e = rw e at k
 
-  pub stated : {bytes : List ℕ} {width next : ℕ} {m m′ : List ℕ} {r : ℕ} → StateTook input at bytes width next → Called (state (take width bytes)) m m′ r → CallMade input (supplyFrom input at .ending) (stateFrom (supplyFrom input at .ending) (supplyFrom input at .words)) m m′ r next
+  pub stated : (asCall : List ℕ → Call) → Bytewise asCall → {bytes : List ℕ} {width next : ℕ} {m m′ : List ℕ} {r : ℕ} → StateTook input at bytes width next → Called (asCall (take width bytes)) m m′ r → CallMade input (supplyFrom input at .ending) (stateFrom asCall (supplyFrom input at .ending) (supplyFrom input at .words)) m m′ r next
   unfolding stateFrom andNext
-  stated k c =
+  stated asCall same k c =
       record {
-        what = state (k .words);
+        what = asCall (k .words);
         read = rw (k .read);
         ending-on = k .ending;
-        called = as-words (rw (k .stand) at c);
+        called = as-words asCall same (k .words) (rw (k .stand) at c);
       }
+
+  -- ---- a word, and what is read after it
+  module _ {kind from : ℕ} (e : nextWord input at ≡ Word kind from) where
+    ending-kept : supplyFrom input from .ending ≡ supplyFrom input at .ending
+    ending-kept = rw (word input at e .gave)
+
+    turned : {asked asked′ : Read Call} (m m′ : List ℕ) (t : Turn) → asked ≡ asked′ → Turned input (supplyFrom input from .ending) asked m m′ t → Turned input (supplyFrom input at .ending) asked′ m m′ t
+    unfolding Turned
+    turned m m′ t f k = rw (← f, ← ending-kept) k
+
+  -- ---- stamped calls
+  pub no-stamp : {r n : ℕ} → nextWord input at ≡ Refused r → n ≡ r → stampedFrom (supplyFrom input at .ending) (supplyFrom input at .words) ≡ refused n
+  unfolding stampedFrom
+  no-stamp e f = rw (ended input at e, f)
+
+  pub stamped-on : {t from : ℕ} → nextWord input at ≡ Word t from → (m m′ : List ℕ) (turn : Turn) → Turned input (supplyFrom input from .ending) (stateFrom (stamped t) (supplyFrom input from .ending) (supplyFrom input from .words)) m m′ turn → Turned input (supplyFrom input at .ending) (stampedFrom (supplyFrom input at .ending) (supplyFrom input at .words)) m m′ turn
+  unfolding stampedFrom
+  stamped-on e m m′ turn k = turned e m m′ turn (rw (word input at e .gave)) k
 
   -- ---- calls
   pub no-kind : {r n : ℕ} → nextWord input at ≡ Refused r → n ≡ r → callFrom (supplyFrom input at .ending) (supplyFrom input at .words) ≡ refused n
@@ -69,27 +87,27 @@ module _ (input : List ℕ) (at : ℕ) where
   no-kind e f = rw (ended input at e, f)
 
   module _ {kind from : ℕ} (e : nextWord input at ≡ Word kind from) where
-    ending-kept : supplyFrom input from .ending ≡ supplyFrom input at .ending
-    ending-kept = rw (word input at e .gave)
-
     is-time : kind ≡ 0 → timeFrom (supplyFrom input from .ending) (supplyFrom input from .words) ≡ callFrom (supplyFrom input at .ending) (supplyFrom input at .words)
     unfolding callFrom
     is-time h = rw (word input at e .gave, h)
 
-    is-state : kind ≡ 1 → stateFrom (supplyFrom input from .ending) (supplyFrom input from .words) ≡ callFrom (supplyFrom input at .ending) (supplyFrom input at .words)
+    is-state : kind ≡ 1 → stateFrom state (supplyFrom input from .ending) (supplyFrom input from .words) ≡ callFrom (supplyFrom input at .ending) (supplyFrom input at .words)
     unfolding callFrom
     is-state h = rw (word input at e .gave, h)
 
-    pub other-kind : (kind ≡ 0 → ⊥) → (kind ≡ 1 → ⊥) → callFrom (supplyFrom input at .ending) (supplyFrom input at .words) ≡ refused BAD-WORD
+    is-stamped : kind ≡ 2 → stampedFrom (supplyFrom input from .ending) (supplyFrom input from .words) ≡ callFrom (supplyFrom input at .ending) (supplyFrom input at .words)
     unfolding callFrom
-    other-kind h k = rw (word input at e .gave, ne-eqb kind 0 h, ne-eqb kind 1 k)
+    is-stamped h = rw (word input at e .gave, h)
 
-    turned : {asked asked′ : Read Call} (m m′ : List ℕ) (t : Turn) → asked ≡ asked′ → Turned input (supplyFrom input from .ending) asked m m′ t → Turned input (supplyFrom input at .ending) asked′ m m′ t
-    unfolding Turned
-    turned m m′ t f k = rw (← f, ← ending-kept) k
+    pub other-kind : (kind ≡ 0 → ⊥) → (kind ≡ 1 → ⊥) → (kind ≡ 2 → ⊥) → callFrom (supplyFrom input at .ending) (supplyFrom input at .words) ≡ refused BAD-WORD
+    unfolding callFrom
+    other-kind h k l = rw (word input at e .gave, ne-eqb kind 0 h, ne-eqb kind 1 k, ne-eqb kind 2 l)
 
     pub turned-time : (m m′ : List ℕ) (t : Turn) → kind ≡ 0 → Turned input (supplyFrom input from .ending) (timeFrom (supplyFrom input from .ending) (supplyFrom input from .words)) m m′ t → Turned input (supplyFrom input at .ending) (callFrom (supplyFrom input at .ending) (supplyFrom input at .words)) m m′ t
-    turned-time m m′ t h k = turned m m′ t (is-time h) k
+    turned-time m m′ t h k = turned e m m′ t (is-time h) k
 
-    pub turned-state : (m m′ : List ℕ) (t : Turn) → kind ≡ 1 → Turned input (supplyFrom input from .ending) (stateFrom (supplyFrom input from .ending) (supplyFrom input from .words)) m m′ t → Turned input (supplyFrom input at .ending) (callFrom (supplyFrom input at .ending) (supplyFrom input at .words)) m m′ t
-    turned-state m m′ t h k = turned m m′ t (is-state h) k
+    pub turned-state : (m m′ : List ℕ) (t : Turn) → kind ≡ 1 → Turned input (supplyFrom input from .ending) (stateFrom state (supplyFrom input from .ending) (supplyFrom input from .words)) m m′ t → Turned input (supplyFrom input at .ending) (callFrom (supplyFrom input at .ending) (supplyFrom input at .words)) m m′ t
+    turned-state m m′ t h k = turned e m m′ t (is-state h) k
+
+    pub turned-stamped : (m m′ : List ℕ) (t : Turn) → kind ≡ 2 → Turned input (supplyFrom input from .ending) (stampedFrom (supplyFrom input from .ending) (supplyFrom input from .words)) m m′ t → Turned input (supplyFrom input at .ending) (callFrom (supplyFrom input at .ending) (supplyFrom input at .words)) m m′ t
+    turned-stamped m m′ t h k = turned e m m′ t (is-stamped h) k

@@ -12,7 +12,7 @@ use Rattle.pmtl.specs.Answer.{bitOf, digitOf}
 use Rattle.pmtl.specs.Monitor.{State, fullest, initial}
 use Rattle.numbers.specs.Limits.{MOST-ATOMS, LONGEST-INPUT}
 use Rattle.pmtl.specs.Calls.{Call, Outcome, call}
-use Rattle.pmtl.specs.Calls.Call.{time, state}
+use Rattle.pmtl.specs.Calls.Call.{time, state, stamped}
 use Rattle.book.specs.Reading.{Read, section, next, Sections, sections}
 use Rattle.book.specs.Reading.Read.{got, refused}
 use Rattle.book.specs.Judging.{Loaded, loadedFrom}
@@ -57,17 +57,23 @@ pub data Line : Type 0 where
   called : CallLine → Line
   last : Ending → Line
 
--- ---- reading calls: `0 time`, or `1 width` and that many state words; another kind is 13
+-- ---- reading calls: `0 time`; or `1 width` and that many state words; or `2 time width` and those; another kind is 13
 unfoldable pub timeFrom : ℕ → List ℕ → Read Call
 timeFrom ending [] = refused ending
 timeFrom ending (t ∷ ws) = got (time t) ws
 
-unfoldable pub stateFrom : ℕ → List ℕ → Read Call
-stateFrom ending ws = next (section ending MOST-ATOMS 1 ws) λ bytes rest. got (state bytes) rest
+-- a width and its state words, and the call that has them
+unfoldable pub stateFrom : (List ℕ → Call) → ℕ → List ℕ → Read Call
+stateFrom asCall ending ws = next (section ending MOST-ATOMS 1 ws) λ bytes rest. got (asCall bytes) rest
+
+unfoldable pub stampedFrom : ℕ → List ℕ → Read Call
+stampedFrom ending [] = refused ending
+stampedFrom ending (t ∷ ws) = stateFrom (stamped t) ending ws
 
 unfoldable pub callFrom : ℕ → List ℕ → Read Call
 callFrom ending [] = refused ending
-callFrom ending (kind ∷ ws) = cond (eqb kind 0) (timeFrom ending ws) (cond (eqb kind 1) (stateFrom ending ws) (refused BAD-WORD))
+callFrom ending (kind ∷ ws) =
+    cond (eqb kind 0) (timeFrom ending ws) (cond (eqb kind 1) (stateFrom state ending ws) (cond (eqb kind 2) (stampedFrom ending ws) (refused BAD-WORD)))
 
 -- the calls that are read, in order, and how reading them ended
 pub record CallsRead : Type 0 where

@@ -6,7 +6,7 @@ ghost use Rattle.text.specs.Words.{supplyFrom};
 ghost use Rattle.pmtl.specs.Calls.{Call};
 ghost use Rattle.memory.specs.Kept.{Kept};
 ghost use Rattle.calls.specs.Called.{Called};
-ghost use Rattle.report.specs.Lines.{timeFrom, stateFrom, callFrom};
+ghost use Rattle.report.specs.Lines.{timeFrom, stateFrom, stampedFrom, callFrom};
 ghost use Rattle.report.specs.Private.{turnNumber, Turned};
 use memory::SIZE;
 use numbers::BAD_WORD;
@@ -18,6 +18,8 @@ use text_reader::Part;
 const TIME: u64 = 0;
 
 const STATE: u64 = 1;
+
+const STAMPED: u64 = 2;
 
 // A call that was made, with its number and the place after it; or the number that ends the reading.
 pub enum Turn {
@@ -63,13 +65,56 @@ fn state_call(
     monitor: &mut [u64; SIZE],
 ) -> Turn
     requires { ⌜ Kept (now monitor) ⌝ }
-    ensures { λ t. ⌜ Turned (now (input .entry)) (supplyFrom (now (input .entry)) at .ending) (stateFrom (supplyFrom (now (input .entry)) at .ending) (supplyFrom (now (input .entry)) at .words)) (now (monitor .entry)) (now (monitor .exit)) t ⌝ }
+    ensures { λ t. ⌜ Turned (now (input .entry)) (supplyFrom (now (input .entry)) at .ending) (stateFrom Call.state (supplyFrom (now (input .entry)) at .ending) (supplyFrom (now (input .entry)) at .words)) (now (monitor .entry)) (now (monitor .exit)) t ⌝ }
 {
     let p = text_reader::state(input, at, bytes);
     let Part::Words(width, next) = p else {
         return Turn::Stopped(text_reader::part_number(p));
     };
     Turn::Made(state_made(monitor, bytes, width), next)
+}
+
+// A stamped call of the first `width` bytes.
+fn stamped_made(monitor: &mut [u64; SIZE], time: u64, bytes: &[u8], width: usize) -> u64
+    requires { ⌜ Kept (now monitor) × (width ≤ length (now bytes)) ⌝ }
+    ensures { λ r. ⌜ Called (Call.stamped time (take width (now (bytes .entry)))) (now (monitor .entry)) (now (monitor .exit)) r ⌝ }
+{
+    let made = calls::update_stamped(monitor, time, &bytes[..width]);
+    made.number
+}
+
+// The rest of a stamped call, after its time.
+fn stamped_at(
+    input: &[u8],
+    at: usize,
+    time: u64,
+    bytes: &mut [u8; MOST_ATOMS],
+    monitor: &mut [u64; SIZE],
+) -> Turn
+    requires { ⌜ Kept (now monitor) ⌝ }
+    ensures { λ t. ⌜ Turned (now (input .entry)) (supplyFrom (now (input .entry)) at .ending) (stateFrom (Call.stamped time) (supplyFrom (now (input .entry)) at .ending) (supplyFrom (now (input .entry)) at .words)) (now (monitor .entry)) (now (monitor .exit)) t ⌝ }
+{
+    let p = text_reader::state(input, at, bytes);
+    let Part::Words(width, next) = p else {
+        return Turn::Stopped(text_reader::part_number(p));
+    };
+    Turn::Made(stamped_made(monitor, time, bytes, width), next)
+}
+
+fn stamped_call(
+    input: &[u8],
+    at: usize,
+    bytes: &mut [u8; MOST_ATOMS],
+    monitor: &mut [u64; SIZE],
+) -> Turn
+    requires { ⌜ Kept (now monitor) ⌝ }
+    ensures { λ t. ⌜ Turned (now (input .entry)) (supplyFrom (now (input .entry)) at .ending) (stampedFrom (supplyFrom (now (input .entry)) at .ending) (supplyFrom (now (input .entry)) at .words)) (now (monitor .entry)) (now (monitor .exit)) t ⌝ }
+{
+    let r = text::next_word(input, at);
+    let Read::Word(time, next) = r else {
+        return Turn::Stopped(text_reader::number_of(r));
+    };
+    stamped_at(input, next, time, bytes, monitor)
 }
 
 // The next call. `bytes` is room for a state, whatever stands there.
@@ -91,6 +136,9 @@ pub fn call(
     }
     if kind == STATE {
         return state_call(input, next, bytes, monitor);
+    }
+    if kind == STAMPED {
+        return stamped_call(input, next, bytes, monitor);
     }
     Turn::Stopped(BAD_WORD)
 }

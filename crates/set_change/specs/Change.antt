@@ -20,6 +20,18 @@ changed (suc zero) l u c rs = union l u (kept c rs)
 changed (suc (suc zero)) l u c rs = []
 changed (suc (suc (suc k))) l u c rs = union l u []
 
+-- a change that adds the range, too
+unfoldable pub adding : ℕ → ℕ
+adding zero = 1
+adding (suc zero) = 1
+adding (suc (suc k)) = 3
+
+-- two changes at one clock, as one: the second where it drops the set, whatever was there; else the first, with the range if the second adds it
+unfoldable pub bothOf : ℕ → ℕ → ℕ
+bothOf first zero = first
+bothOf first (suc zero) = adding first
+bothOf first (suc (suc k)) = suc (suc k)
+
 -- what a call does to a temporal row's set, by its operands' values after the call
 unfoldable pub modeIn : Row Bool → ℕ
 modeIn never = 0

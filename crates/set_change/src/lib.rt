@@ -6,7 +6,7 @@ ghost use mathlib.Core.Bool.{true};
 ghost use Prim.Native.Nat.{_<_};
 ghost use lib.ListN.{length};
 ghost use Rattle.numset.specs.Runs.{Good, runs, has, fits, pack, within};
-ghost use Rattle.set_change.specs.Change.{modeOf, changed};
+ghost use Rattle.set_change.specs.Change.{modeOf, changed, adding, bothOf};
 
 // The changes: the set stays, or is dropped; the range is added, or is not.
 pub const STAYS: u8 = 0;
@@ -26,6 +26,31 @@ pub fn mode(stays: bool, adds: bool) -> u8
     } else {
         if adds { DROPPED_AND_ADDS } else { DROPPED }
     }
+}
+
+// A change that adds the range, too.
+fn with_range(mode: u8) -> u8
+    ensures { λ r. ⌜ r ≡ adding mode ⌝ }
+{
+    if mode < DROPPED {
+        STAYS_AND_ADDS
+    } else {
+        DROPPED_AND_ADDS
+    }
+}
+
+// Two changes at one clock, as one: the range is the same, and what the first dropped for its age is gone. So the room after the
+// second step, and what the set will then hold, are asked of the set as it is before both.
+pub fn both(first: u8, second: u8) -> u8
+    ensures { λ r. ⌜ r ≡ bothOf first second ⌝ }
+{
+    if second == STAYS {
+        return first;
+    }
+    if second == STAYS_AND_ADDS {
+        return with_range(first);
+    }
+    second
 }
 
 fn inside(lower: u64, upper: u64, t: u64) -> bool

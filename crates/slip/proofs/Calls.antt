@@ -8,7 +8,7 @@ use mathlib.Core.List.{List, [], _∷_, _++_, append-assoc}
 use lib.Dec.{eqb}
 use lib.ListN.{length, length-append}
 use Rattle.numbers.specs.Refusals.{BAD-WORD}
-use Rattle.pmtl.specs.Calls.{Call, time, state}
+use Rattle.pmtl.specs.Calls.{Call, time, state, stamped}
 use Rattle.book.specs.Reading.{Read, got, refused}
 use Rattle.report.specs.Lines.{Ending, end, stop, callFrom, CallsRead, callThen, orStop, endingOf, callsFrom}
 use Rattle.slip.specs.TakenOut.{callWords, allWords, Fits, AllFit}
@@ -24,6 +24,7 @@ all-words (k ∷ xs) ys = ap (λ l. callWords k ++ l) (all-words xs ys) ∙ sym 
 two-words : (k : Call) → 2 ≤ length (callWords k)
 two-words (time t) = omega arith
 two-words (state bytes) = omega arith
+two-words (stamped t bytes) = omega arith
 
 pub two-words-each : (ks : List Call) → 2 * length ks ≤ length (allWords ks)
 unfolding allWords

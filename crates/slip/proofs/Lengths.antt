@@ -17,7 +17,7 @@ use Rattle.text.specs.Decimals.{decimal}
 use Rattle.text.proofs.Digits.{at-most}
 use Rattle.pmtl.specs.Book.{Rows, Book, properties, widthOf, some}
 use Rattle.pmtl.specs.Monitor.{Snap, State, fullest, initial, step}
-use Rattle.pmtl.specs.Calls.{Call, time, state, turns, refusal, crowded, Outcome, play, call}
+use Rattle.pmtl.specs.Calls.{Call, time, state, stamped, turns, timeRefusal, stateRefusal, firstOf as firstNumber, refusal, crowded, Outcome, play, call}
 use Rattle.pmtl.proofs.Fullest.{fresh-none, call-few}
 use Rattle.book.specs.Rows.{temporal}
 use Rattle.book.specs.Reading.{Read, got, refused, Sections}
@@ -44,11 +44,22 @@ one-of-three false true z p q r = q
 one-of-three false false true p q r = r
 one-of-three false false false p q r = omega arith
 
-small-refusal : (b : Rows) (now : Snap) (k : Call) → refusal b now k < 100
-unfolding refusal
-small-refusal b now (time t) = one-of-two (ltb t (now .clock)) (ltb LAST-TIME t) {a = TOO-EARLY} {b = TOO-LATE} (omega arith) (omega arith)
-small-refusal b now (state bytes) =
+small-time : (now : Snap) (t : ℕ) → timeRefusal now t < 100
+small-time now t = one-of-two (ltb t (now .clock)) (ltb LAST-TIME t) {a = TOO-EARLY} {b = TOO-LATE} (omega arith) (omega arith)
+
+small-state : (b : Rows) (bytes : List ℕ) → stateRefusal b bytes < 100
+small-state b bytes =
     one-of-three (ltb MOST-ATOMS (length bytes)) (ltb (length bytes) (widthOf b)) (some (ltb 1) bytes) {a = PAST-LIMIT} {b = TOO-NARROW} {c = NOT-A-BIT} (omega arith) (omega arith) (omega arith)
+
+either-small : (z : Bool) {n m : ℕ} → n < 100 → m < 100 → cond z m n < 100
+either-small true p q = q
+either-small false p q = p
+
+small-refusal : (b : Rows) (now : Snap) (k : Call) → refusal b now k < 100
+unfolding refusal firstNumber
+small-refusal b now (time t) = small-time now t
+small-refusal b now (state bytes) = small-state b bytes
+small-refusal b now (stamped t bytes) = either-small (eqb (timeRefusal now t) 0) (small-time now t) (small-state b bytes)
 
 small-play : (b : Rows) (old st : State) (ns : List Snap) → play b old st ns .number < 100
 unfolding play

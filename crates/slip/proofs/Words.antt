@@ -2,18 +2,18 @@
 use Prim.Native.Nat.{ℕ, suc, _+_, _*_, _≤_, _<_}
 use native.Mathlib.Omega.{arith}
 use native.Mathlib.Nat.{mul-le-mul-left}
-use mathlib.Core.Path.{_≡_, refl, sym, ap₂, _∙_}
+use mathlib.Core.Path.{_≡_, refl, sym, ap, ap₂, _∙_}
 use mathlib.Core.Bool.{Bool, true, false, cond, not, _&&_}
-use mathlib.Core.List.{List, [], _∷_, _++_}
+use mathlib.Core.List.{List, [], _∷_, _++_, append-assoc}
 use lib.Dec.{ltb, eqb}
 use lib.ListN.{length, take, drop, length-append, length-drop, take-append-drop}
 use lib.Seq.{length-take-le, take-append-seam, drop-append-seam}
 use borrow.Author.Tests.{ltb-false, eqb-true, le-ltb}
 use Rattle.numbers.specs.Limits.{MOST-ATOMS}
 use Rattle.text.specs.Words.{pick, parts, letters, said, good, Supply, begun, writtenWords, supplied, supply}
-use Rattle.pmtl.specs.Calls.{Call, time, state}
+use Rattle.pmtl.specs.Calls.{Call, time, state, stamped}
 use Rattle.book.specs.Reading.{Read, got, refused, section, next, Sections, sections}
-use Rattle.report.specs.Lines.{timeFrom, stateFrom, callFrom}
+use Rattle.report.specs.Lines.{timeFrom, stateFrom, stampedFrom, callFrom}
 use Rattle.slip.specs.TakenOut.{callWords, Fits}
 
 -- ---- the words of a text: each takes a byte, and a byte parts it from the next
@@ -130,34 +130,53 @@ module _ (ending : ℕ) (small : Small ending) where
   time-read [] = small
   time-read (t ∷ ws) = (refl, tt)
 
-  state-read : (ws : List ℕ) → ReadCall (1 ∷ ws) (stateFrom ending ws)
-  unfolding ReadCall stateFrom next section
-  state-read [] = small
-  state-read (n ∷ ws) = go (ltb MOST-ATOMS n) refl (ltb (length ws) (1 * n)) refl
-    where
-      go : (y : Bool) → ltb MOST-ATOMS n ≡ y → (z : Bool) → ltb (length ws) (1 * n) ≡ z
-          → ReadCall (1 ∷ n ∷ ws) (next (cond y (refused 2) (cond z (refused ending) (got (take (1 * n) ws) (drop (1 * n) ws)))) λ bytes rest. got (state bytes) rest)
-      go true e z f = (omega arith, omega arith)
-      go false e true f = small
-      go false e false f =
-          let l : length (take (1 * n) ws) ≡ n = length-take-le (1 * n) ws (ltb-false (length ws) (1 * n) f) ∙ omega arith in
-          let k = ltb-false MOST-ATOMS n e in
-          (ap₂ (λ m xs. 1 ∷ m ∷ xs) (sym l) (sym (take-append-drop (1 * n) ws)), omega arith)
+  -- a call that has a state, whose words are those before it, the width and the state's
+  module _ (asCall : List ℕ → Call) (head : List ℕ) (are : (bytes : List ℕ) → callWords (asCall bytes) ≡ head ++ length bytes ∷ bytes) (fit : (bytes : List ℕ) → length bytes ≤ MOST-ATOMS → Fits (asCall bytes)) where
+    held-read : (ws : List ℕ) → ReadCall (head ++ ws) (stateFrom asCall ending ws)
+    unfolding ReadCall stateFrom next section
+    held-read [] = small
+    held-read (n ∷ ws) = go (ltb MOST-ATOMS n) refl (ltb (length ws) (1 * n)) refl
+      where
+        go : (y : Bool) → ltb MOST-ATOMS n ≡ y → (z : Bool) → ltb (length ws) (1 * n) ≡ z
+            → ReadCall (head ++ n ∷ ws) (next (cond y (refused 2) (cond z (refused ending) (got (take (1 * n) ws) (drop (1 * n) ws)))) λ bytes rest. got (asCall bytes) rest)
+        go true e z f = (omega arith, omega arith)
+        go false e true f = small
+        go false e false f =
+            let bytes : List ℕ = take (1 * n) ws in
+            let l : length bytes ≡ n = length-take-le (1 * n) ws (ltb-false (length ws) (1 * n) f) ∙ omega arith in
+            let k = ltb-false MOST-ATOMS n e in
+            (ap₂ (λ m xs. head ++ m ∷ xs) (sym l) (sym (take-append-drop (1 * n) ws)) ∙ sym (append-assoc head (length bytes ∷ bytes) (drop (1 * n) ws)) ∙ ap (λ l. l ++ drop (1 * n) ws) (sym (are bytes)), fit bytes (omega arith))
+
+  state-read : (ws : List ℕ) → ReadCall (1 ∷ ws) (stateFrom state ending ws)
+  state-read = held-read state (1 ∷ []) (λ bytes. refl) (λ bytes h. h)
+
+  stamped-read : (ws : List ℕ) → ReadCall (2 ∷ ws) (stampedFrom ending ws)
+  unfolding stampedFrom ReadCall
+  stamped-read [] = small
+  stamped-read (t ∷ ws) = held-read (stamped t) (2 ∷ t ∷ []) (λ bytes. refl) (λ bytes h. h) ws
 
   pub call-read : (ws : List ℕ) → ReadCall ws (callFrom ending ws)
   unfolding ReadCall callFrom
   call-read [] = small
-  call-read (kind ∷ ws) = go (eqb kind 0) refl (eqb kind 1) refl
+  call-read (kind ∷ ws) = go (eqb kind 0) refl (eqb kind 1) refl (eqb kind 2) refl
     where
-      go : (y : Bool) → eqb kind 0 ≡ y → (z : Bool) → eqb kind 1 ≡ z → ReadCall (kind ∷ ws) (cond y (timeFrom ending ws) (cond z (stateFrom ending ws) (refused 13)))
-      go true e z f = rw (eqb-true kind 0 e) (time-read ws)
-      go false e true f = rw (eqb-true kind 1 f) (state-read ws)
-      go false e false f = (omega arith, omega arith)
+      go : (y : Bool) → eqb kind 0 ≡ y → (z : Bool) → eqb kind 1 ≡ z → (x : Bool) → eqb kind 2 ≡ x
+          → ReadCall (kind ∷ ws) (cond y (timeFrom ending ws) (cond z (stateFrom state ending ws) (cond x (stampedFrom ending ws) (refused 13))))
+      go true e z f x g = rw (eqb-true kind 0 e) (time-read ws)
+      go false e true f x g = rw (eqb-true kind 1 f) (state-read ws)
+      go false e false f true g = rw (eqb-true kind 2 g) (stamped-read ws)
+      go false e false f false g = (omega arith, omega arith)
 
--- and the other way: a call's words are read as that call, whatever follows them
-pub call-back : (ending : ℕ) (k : Call) (rest : List ℕ) → Fits k → callFrom ending (callWords k ++ rest) ≡ got k rest
-unfolding callFrom timeFrom stateFrom next section
-call-back ending (time t) rest f = refl
-call-back ending (state bytes) rest f =
+-- and the other way: a state's words are read as the call that has it, whatever follows them
+held-back : (asCall : List ℕ → Call) (ending : ℕ) (bytes rest : List ℕ) → length bytes ≤ MOST-ATOMS → stateFrom asCall ending (length bytes ∷ bytes ++ rest) ≡ got (asCall bytes) rest
+unfolding stateFrom next section
+held-back asCall ending bytes rest f =
     let e : 1 * length bytes ≡ length bytes = omega arith in
     rw (le-ltb MOST-ATOMS (length bytes) f, e, le-ltb (length (bytes ++ rest)) (length bytes) (omega (arith, length-append bytes rest)), take-append-seam bytes rest, drop-append-seam bytes rest)
+
+-- and so a call's
+pub call-back : (ending : ℕ) (k : Call) (rest : List ℕ) → Fits k → callFrom ending (callWords k ++ rest) ≡ got k rest
+unfolding callFrom timeFrom stampedFrom
+call-back ending (time t) rest f = refl
+call-back ending (state bytes) rest f = held-back state ending bytes rest f
+call-back ending (stamped t bytes) rest f = held-back (stamped t) ending bytes rest f

@@ -5,7 +5,7 @@ use mathlib.Core.List.{List, [], _∷_, _++_, map}
 use lib.ListN.{length}
 use Rattle.numbers.specs.Limits.{MOST-ATOMS, LONGEST-INPUT}
 use Rattle.text.specs.Words.{supply}
-use Rattle.pmtl.specs.Calls.{Call, time, state}
+use Rattle.pmtl.specs.Calls.{Call, time, state, stamped}
 use Rattle.book.specs.Reading.{got, Sections}
 use Rattle.report.specs.Lines.{Line, book, called, last}
 use Rattle.slip.specs.Says.{sectionsSaid}
@@ -14,6 +14,7 @@ use Rattle.slip.specs.Says.{sectionsSaid}
 abbrev pub callWords : Call → List ℕ
 callWords (time t) = 0 ∷ t ∷ []
 callWords (state bytes) = 1 ∷ length bytes ∷ bytes
+callWords (stamped t bytes) = 2 ∷ t ∷ length bytes ∷ bytes
 
 unfoldable pub allWords : List Call → List ℕ
 allWords [] = []
@@ -23,6 +24,7 @@ allWords (k ∷ ks) = callWords k ++ allWords ks
 abbrev pub Fits : Call → Type 0
 Fits (time t) = Unit {0}
 Fits (state bytes) = length bytes ≤ MOST-ATOMS
+Fits (stamped t bytes) = length bytes ≤ MOST-ATOMS
 
 abbrev pub AllFit : List Call → Type 0
 AllFit [] = Unit {0}

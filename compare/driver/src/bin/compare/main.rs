@@ -7,7 +7,7 @@ mod ours;
 use compare::inputs::input;
 use compare::shrink::shrink;
 use judge::monitor::{Monitor, ACCEPTED};
-use judge::report::{report, Watch};
+use judge::report::{report, Call, Watch};
 use ours::Ours;
 use std::collections::BTreeMap;
 use std::path::PathBuf;
@@ -64,6 +64,8 @@ struct Tally {
     inputs: u64,
     books: BTreeMap<u64, u64>,
     calls: BTreeMap<u64, u64>,
+    /// Those of the calls that were stamped.
+    stamped: BTreeMap<u64, u64>,
     stops: BTreeMap<u64, u64>,
 }
 
@@ -72,8 +74,11 @@ impl Watch for Tally {
         *self.books.entry(number).or_default() += 1;
     }
 
-    fn call(&mut self, number: u64, _: &Monitor) {
+    fn call(&mut self, call: &Call, number: u64, _: &Monitor) {
         *self.calls.entry(number).or_default() += 1;
+        if matches!(call, Call::Stamped(..)) {
+            *self.stamped.entry(number).or_default() += 1;
+        }
     }
 
     fn stop(&mut self, number: u64) {
@@ -96,7 +101,7 @@ impl Tally {
             all(&self.calls),
             self.accepted()
         );
-        for (what, counts) in [("books", &self.books), ("calls", &self.calls), ("stops", &self.stops)] {
+        for (what, counts) in [("books", &self.books), ("calls", &self.calls), ("stamped calls", &self.stamped), ("stops", &self.stops)] {
             let each: Vec<String> = counts.iter().map(|(number, count)| format!("{number}: {count}")).collect();
             println!("{what} by number: {}", each.join(", "));
         }

@@ -9,6 +9,8 @@ const OVER_H: &str = "9223372036854775808";
 /// Once[0,0] a, whose runs are over one instant later, and Once[128,128] a, whose runs are all ahead at first.
 const NOW: &str = "2\n2 0 0 0\n8 1 0 0\n1 0\n0\n1 1\n";
 const AHEAD: &str = "2\n2 0 0 0\n8 1 128 128\n1 0\n0\n1 1\n";
+/// Since(a0, a1)[128,128], whose runs are all ahead at first, and dropped where a0 fails.
+const SINCE_AHEAD: &str = "3\n2 0 0 0\n2 1 0 0\n9 2 128 128\n2 0 1\n0\n1 2\n";
 /// Once[0,5] a.
 const SHORT: &str = "2\n2 0 0 0\n8 1 0 5\n1 0\n0\n1 1\n";
 
@@ -61,6 +63,10 @@ fn of_document() -> Vec<(&'static str, String)> {
         ("lapsed-later", case(LAPSED_LATER, &["1 1 1", "1 1 0", "0 1", "0 5", "0 6"])),
         ("full-set", joined(AHEAD, full("1 1 1", &["0 128", "0 128", "0 129", "0 130", "0 131"]))),
         ("full-later-row", joined(full_later, full("1 2 1 1", &["1 2 1 0", "0 128", "0 127", "1 2 0 1", "0 129"]))),
+        ("full-by-a-state", joined(SINCE_AHEAD, full("1 2 1 1", &["1 2 1 0", "0 128", "1 2 1 1", "0 129", "1 2 1 1"]))),
+        ("p08-stamped", case("2\n2 0 0 0\n7 1 0 0\n1 0\n0\n1 1\n", &["2 4 1 1", "2 5 1 1", "2 5 1 0"])),
+        ("stamped-full-between", joined(SINCE_AHEAD, full("1 2 1 1", &["2 128 2 0 0", "0 127", "2 128 2 0 0"]))),
+        ("stamped-full-after", joined(SINCE_AHEAD, full("1 2 1 1", &["1 2 1 0", "2 128 2 1 1", "0 127", "2 129 2 1 1"]))),
         ("old-set", joined(NOW, full("1 1 1", &["0 128", "0 127", "0 130", "0 1000"]))),
         ("old-run", case(SHORT, &["1 1 1", "1 1 0", "0 5", "0 6", "1 1 1", "0 12", "1 1 0", "0 17", "0 18"])),
         ("time-h", case(NOW, &["1 1 1", &format!("0 {OVER_H}"), &format!("0 {H}"), &format!("0 {MAX}"), "0 5"])),
@@ -109,6 +115,7 @@ fn refused_calls() -> Vec<(&'static str, String)> {
     vec![
         ("call-states", case(atom, &states)),
         ("call-times", case(atom, &["0 5", "0 4", "0 5", "0 6", "0 0"])),
+        ("call-stamped", case(atom, &["2 5 2 0 1", "2 4 1 2", &format!("2 {OVER_H} 1 2"), "2 6 1 2", "2 6 2 0 2", "2 6 2 0 1"])),
         ("stop-no-count", atom.to_string()),
         ("stop-bad-count", format!("{atom}1x")),
         ("stop-large-count", format!("{atom}{MAX} 0 3")),
@@ -116,7 +123,9 @@ fn refused_calls() -> Vec<(&'static str, String)> {
         ("stop-bad-left-over", format!("{atom}1 0 3\r")),
         ("stop-in-state", format!("{atom}2 0 1 1 2 7")),
         ("stop-bad-state-word", format!("{atom}2 0 1 1 2 0 {OVER_MAX}")),
-        ("stop-kind", format!("{atom}2 0 1 2 x")),
+        ("stop-kind", format!("{atom}2 0 1 3 x")),
+        ("stop-in-stamped", format!("{atom}2 2 1 2 0 1 2 0 2 0")),
+        ("stop-stamped-width", format!("{atom}2 2 1 2 0 1 2 {MAX} 257 x")),
         ("stop-width", wide(257)),
         ("call-widest", wide(256)),
         ("spaces", "  \n1  2 0\n\n0 0 0 0 1 0\n   1 0  7  ".to_string()),
@@ -124,16 +133,16 @@ fn refused_calls() -> Vec<(&'static str, String)> {
 }
 
 /// Since whose left is false early while its value holds, with a set that covers: Not Historically Once a, after a failed
-/// and then held.
+/// and then held. Its right is true early, false, or open.
 fn early_turned() -> String {
     let mut rows = String::new();
     let mut operands = String::new();
-    // Five of them, rows 0 to 19, each with its last row as the result.
-    for first in (0..20).step_by(4) {
+    // Six of them, rows 0 to 23, each with its last row as the result.
+    for first in (0..24).step_by(4) {
         rows += &format!("2 0 0 0\n8 1 0 {MAX}\n7 1 0 {MAX}\n5 1 0 0\n");
         operands += &format!(" {} {} {}", first, first + 1, first + 2);
     }
-    rows += &format!("1 0 0 0\n9 2 1 {MAX}\n9 2 0 {MAX}\n9 2 1 {MAX}\n");
-    operands += " 3 20 7 11 15 19";
-    case(&format!("24\n{rows}21{operands}\n0\n3 21 22 23\n"), &["0 0", "1 1 1", "0 1", "0 2"])
+    rows += &format!("1 0 0 0\n2 0 0 0\n9 2 1 {MAX}\n9 2 0 {MAX}\n9 2 1 {MAX}\n9 2 1 {MAX}\n");
+    operands += " 3 24 7 11 15 19 23 25";
+    case(&format!("30\n{rows}26{operands}\n0\n4 26 27 28 29\n"), &["0 0", "1 1 1", "0 1", "0 2"])
 }

@@ -2,7 +2,7 @@
 use mathlib.Core.Path.{_∙_, sym}
 use Rattle.report.specs.Private.{Turned}
 use Rattle.text_reader.proofs.Taking.{number}
-use Rattle.report.proofs.Turns.{no-kind, other-kind, turned-time, turned-state}
+use Rattle.report.proofs.Turns.{no-kind, other-kind, turned-time, turned-state, turned-stamped}
 use borrow.Author.Needs.{needs}
 use Rattle.report.proofs.text_calls.call.Statement.{statement}
 use Rattle.report.proofs.text_calls.call.Tie as tie
@@ -35,9 +35,15 @@ state-call-requires c κs = search needs
 returns-3 : tie.Need-returns-3
 returns-3 c = turned-state _ _ (sym ((c .before .before .before .before .before .before .before .before) .next-short .ensures) ∙ (c .before .before .before .before .before .before) .r .given .1) _ _ _ ((c .before .before .before) .if2 .taken) (c .state-call .ensures)
 
+stamped-call-requires : tie.Need-stamped-call-requires
+stamped-call-requires c κs = search needs
+
 returns-4 : tie.Need-returns-4
+returns-4 c = turned-stamped _ _ (sym ((c .before .before .before .before .before .before .before .before .before) .next-short .ensures) ∙ (c .before .before .before .before .before .before .before) .r .given .1) _ _ _ ((c .before .before .before) .if3 .taken) (c .stamped-call .ensures)
+
+returns-5 : tie.Need-returns-5
 unfolding Turned
-returns-4 c = other-kind _ _ (sym (c .before .before .before .before .before .next-short .ensures) ∙ c .before .before .before .r .given .1) (c .before .if1 .left) (c .if2 .left)
+returns-5 c = other-kind _ _ (sym (c .before .before .before .before .before .before .next-short .ensures) ∙ c .before .before .before .before .r .given .1) (c .before .before .if1 .left) (c .before .if2 .left) (c .if3 .left)
 
 pub call-spec : {M : Type 1} → statement M
 call-spec =
@@ -52,4 +58,6 @@ call-spec =
     returns-2
     state-call-requires
     returns-3
-    returns-4)
+    stamped-call-requires
+    returns-4
+    returns-5)

@@ -4,6 +4,8 @@ use native.Mathlib.Omega.{arith}
 use mathlib.Core.Path.{_∙_, sym}
 use Rattle.report.specs.Private.{Turned}
 use Rattle.report.proofs.Turns.{no-state, state-there, stated}
+use Rattle.report.proofs.Alike.{state-bytewise}
+use Rattle.pmtl.specs.Calls.Call.{state}
 use borrow.Author.Needs.{needs}
 use Rattle.report.proofs.text_calls.state_call.Statement.{statement}
 use Rattle.report.proofs.text_calls.state_call.Tie as tie
@@ -22,14 +24,14 @@ part-number-requires c κs = search needs
 
 returns : tie.Need-returns
 unfolding Turned
-returns c = let e = c .before .enum-told .given .1 in no-state _ _ _ (c .before .before .before .state .ensures) e (c .part-number .ensures ∙ sym (part-refused e))
+returns c = let e = c .before .enum-told .given .1 in no-state _ _ state _ (c .before .before .before .state .ensures) e (c .part-number .ensures ∙ sym (part-refused e))
 
 state-made-requires : tie.Need-state-made-requires
 state-made-requires c κs = let k = state-there _ _ _ ((c .before .before .before .before .before .before) .state .ensures) ((c .before .before .before .before) .p .given .1) in ((c .before .before .before .before .before .before .before .before .before) .pre, omega (arith, k .place))
 
 returns-2 : tie.Need-returns-2
 unfolding Turned
-returns-2 c = stated _ _ (state-there _ _ _ ((c .before .before .before .before .before .before .before) .state .ensures) ((c .before .before .before .before .before) .p .given .1)) (c .state-made .ensures)
+returns-2 c = stated _ _ state state-bytewise (state-there _ _ _ ((c .before .before .before .before .before .before .before) .state .ensures) ((c .before .before .before .before .before) .p .given .1)) (c .state-made .ensures)
 
 pub state-call-spec : {M : Type 1} → statement M
 state-call-spec =

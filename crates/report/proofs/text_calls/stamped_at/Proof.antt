@@ -1,0 +1,46 @@
+-- `report::text_calls::stamped_at` meets its contract. Assumes nothing.
+use Rattle.text_reader.proofs.Taking.{part-refused}
+use native.Mathlib.Omega.{arith}
+use mathlib.Core.Path.{_∙_, sym}
+use Rattle.report.specs.Private.{Turned}
+use Rattle.report.proofs.Turns.{no-state, state-there, stated}
+use Rattle.report.proofs.Alike.{stamped-bytewise}
+use Rattle.pmtl.specs.Calls.Call.{stamped}
+use borrow.Author.Needs.{needs}
+use Rattle.report.proofs.text_calls.stamped_at.Statement.{statement}
+use Rattle.report.proofs.text_calls.stamped_at.Tie as tie
+
+state-requires : tie.Need-state-requires
+state-requires c κs = search needs
+
+enum-known-p : tie.Need-enum-known-p
+enum-known-p c = search needs
+
+enum-told : tie.Need-enum-told
+enum-told c = search needs
+
+part-number-requires : tie.Need-part-number-requires
+part-number-requires c κs = search needs
+
+returns : tie.Need-returns
+unfolding Turned
+returns c = let e = c .before .enum-told .given .1 in no-state _ _ (stamped ((c .before .before .before .before .before .before) .args .time)) _ (c .before .before .before .state .ensures) e (c .part-number .ensures ∙ sym (part-refused e))
+
+stamped-made-requires : tie.Need-stamped-made-requires
+stamped-made-requires c κs = let k = state-there _ _ _ ((c .before .before .before .before .before .before) .state .ensures) ((c .before .before .before .before) .p .given .1) in ((c .before .before .before .before .before .before .before .before .before) .pre, omega (arith, k .place))
+
+returns-2 : tie.Need-returns-2
+unfolding Turned
+returns-2 c = stated _ _ (stamped ((c .before .before .before .before .before .before .before .before .before .before) .args .time)) (stamped-bytewise _) (state-there _ _ _ ((c .before .before .before .before .before .before .before) .state .ensures) ((c .before .before .before .before .before) .p .given .1)) (c .stamped-made .ensures)
+
+pub stamped-at-spec : {M : Type 1} → statement M
+stamped-at-spec =
+    tie.close
+    (tie.spec
+    state-requires
+    enum-known-p
+    enum-told
+    part-number-requires
+    returns
+    stamped-made-requires
+    returns-2)
