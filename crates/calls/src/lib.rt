@@ -128,7 +128,8 @@ fn stop_of(monitor: &[u64; SIZE], clock: u64, row: usize) -> u64
     clock + upper
 }
 
-// The plan of one temporal row, most of which stay as they are, where the values of the rows below it are new in the table.
+// The plan of one temporal row, most of which stay as they are, where the values of the rows below it are new in the table. `before` is
+// the change that a step before this one planned in the same call, and STAYS if there is none: the plan is of both.
 fn plan_row(monitor: &[u64; SIZE], clock: u64, slot: usize, row: usize, before: u8) -> RowPlan
     requires { ⌜ Slot (now monitor) clock slot row ⌝ }
     ensures { λ r. ⌜ r ≡ rowPlan (now (monitor .entry)) clock (bothOf before (modeAt (now (monitor .entry)) row)) slot ⌝ }
@@ -206,7 +207,8 @@ fn visits(monitor: &[u64; SIZE], row: usize, fresh: bool) -> bool
     }
 }
 
-// The plan of a call, from row 0 upward, up to the first row whose set lacks room. A call with no fresh atoms has no bytes for them.
+// The plan of a step, from row 0 upward, up to the first row whose set lacks room, over the modes that the steps before it left. A step
+// with no fresh atoms has no bytes for them.
 fn plan_call(
     monitor: &mut [u64; SIZE],
     clock: u64,
@@ -321,8 +323,8 @@ fn advance(monitor: &mut [u64; SIZE], clock: u64, atoms: &[u8], fresh: bool) -> 
     NO_ROOM
 }
 
-// A stamped call at a clock and the bytes of its state, all but its atoms: the time step is planned with the atoms that stand there, then
-// the state step over the values and modes that the first left. The sets change once, when both have room.
+// A stamped call at a clock and the bytes of its state, planned and carried out, all but the atoms: the time step is planned with the
+// atoms that stand there, then the state step over the values and modes that the first left. The sets change once, where both have room.
 fn advance_both(monitor: &mut [u64; SIZE], clock: u64, state: &[u8]) -> u64
     requires { ⌜ Kept (now monitor) × (clock ≤ LAST-TIME) × (widthWord (now monitor) ≤ length (now state)) ⌝ }
     ensures { λ r. ⌜ TriedBoth (now (monitor .entry)) clock (atomsOf (now (monitor .entry))) (now (state .entry)) (now (monitor .exit)) r ⌝ }
