@@ -176,10 +176,6 @@ module _ {m : List ℕ} {t k : ℕ} (w : Lapsed m t k) where
   kept-step d i e h =
       ap (kept t) (runs-suc m (k + d) i e) ∙ kept-in t (lo m (k + d)) (hi m (k + d)) (runsTo m (k + d)) (w .after (k + d) (omega arith) h)
 
-  pub kept-count : (d i : ℕ) → i ≡ k + d → i ≤ getD m 0 0 → length (kept t (runsTo m i)) ≡ d
-  kept-count zero i e h = let f : i ≡ k = omega arith in rw (f, oldest-out k (omega arith))
-  kept-count (suc d) i e h = rw (kept-step d i (omega arith) (omega arith), kept-count d (k + d) refl (omega arith))
-
   kept-moved : {m′ : List ℕ} → Dropped m m′ k (getD m 0 0) → (d i : ℕ) → i ≡ k + d → i ≤ getD m 0 0 → runsTo m′ d ≡ kept t (runsTo m i)
   unfolding runsTo
   kept-moved z zero i e h = let f : i ≡ k = omega arith in rw (f, oldest-out k (omega arith))
@@ -187,9 +183,6 @@ module _ {m : List ℕ} {t k : ℕ} (w : Lapsed m t k) where
       let a : lo m′ d ≡ lo m (k + d) = at m′ _ (1 + 2 * d) (omega arith) ∙ z .moved (2 * d) (omega arith) ∙ at m _ _ (omega arith) in
       let b : hi m′ d ≡ hi m (k + d) = at m′ _ (1 + (2 * d + 1)) (omega arith) ∙ z .moved (2 * d + 1) (omega arith) ∙ at m _ _ (omega arith) in
       rw (a, b, kept-moved z d (k + d) refl (omega arith), kept-step d i (omega arith) (omega arith))
-
-  pub kept-left : length (kept t (runs m)) ≡ getD m 0 0 - k
-  kept-left = kept-count (getD m 0 0 - k) (getD m 0 0) (omega (arith, w .few)) (omega arith)
 
   -- all of it, where none lapsed
   module _ (z : k ≡ 0) where
