@@ -7,3 +7,4 @@ pub mod Sums
 pub mod Judged
 pub mod Renumbered
 pub mod Loaded
+pub mod Back

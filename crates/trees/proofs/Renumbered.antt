@@ -79,7 +79,7 @@ module _ (s : Sections) (ok : judged s ≡ 0) where
   kind-is : (r : ℕ) → r < rowsIn s → kindOf (headIn (rowAt b r) .word) ≡ k r
   kind-is r h = ap (λ (z : Head). kindOf (z .word)) (head-are s ok r h) ∙ kind-back (k r) (low-kind r h)
 
-  head-good : (r : ℕ) → r < rowsIn s → (m : ℕ) → m ≡ length (partsIn (rowAt b r)) → HeadGood (headIn (rowAt b r)) m
+  pub head-good : (r : ℕ) → r < rowsIn s → (m : ℕ) → m ≡ length (partsIn (rowAt b r)) → HeadGood (headIn (rowAt b r)) m
   head-good r h m e =
       let f = form s ok r h in
       let c : m ≡ countOf (k r) (a r) = e ∙ ap length (parts-are s ok r h) ∙ part-length (startIn (s .rows) r) (countOf (k r) (a r)) (s .operands) (operands-there s ok r h) in
@@ -101,7 +101,7 @@ module _ (s : Sections) (ok : judged s ≡ 0) where
   trees-heads : (ps : List ℕ) → AllBelow (length b) ps → HeadsGood (treesOf b ps)
   trees-heads ps l = trees-each ps (each-below (λ r. HeadsGood (treeAt b r)) (length b) tree-heads ps l)
 
-  below : (ps : List ℕ) → ((i : ℕ) → i < length ps → getD ps i 0 < rowsIn s) → AllBelow (length b) ps
+  pub below : (ps : List ℕ) → ((i : ℕ) → i < length ps → getD ps i 0 < rowsIn s) → AllBelow (length b) ps
   below ps f = rw (take-length ps) at (all-below (length b) (length ps) ps (omega arith) (λ i h. rw (rows-there s ok) (f i h)))
 
   abbrev assumed : Forest
@@ -111,10 +111,10 @@ module _ (s : Sections) (ok : judged s ≡ 0) where
   gs = treesOf b (s .guarantees)
 
   -- as many rows, and as many temporal ones
-  size-same : size (assumed then gs) ≡ rowsIn s
+  pub size-same : size (assumed then gs) ≡ rowsIn s
   size-same = omega (arith, size-then assumed gs, size-weight assumed, size-weight gs, trees-weigh s ok (λ h. 1), sum-ones (rowsIn s))
 
-  temporals-same : weight temporalHead (assumed then gs) ≡ temporalsIn (s .rows) (rowsIn s)
+  pub temporals-same : weight temporalHead (assumed then gs) ≡ temporalsIn (s .rows) (rowsIn s)
   temporals-same =
       weight-then temporalHead assumed gs ∙ trees-weigh s ok temporalHead
       ∙ sum-agree (λ r. temporalHead (headIn (rowAt b r))) (λ r. bitOf (temporal (k r))) (rowsIn s) (λ r h. ap (λ (z : ℕ). bitOf (temporal z)) (kind-is r h))
