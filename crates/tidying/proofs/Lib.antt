@@ -7,3 +7,4 @@ pub mod Totals
 pub mod Calls
 pub mod Accepted
 pub mod Theorems
+pub mod Examples
