@@ -1,7 +1,7 @@
 -- The book after a step that fits and does not grow too long is accepted, and its properties say what those of the book before it say.
 -- Assumes nothing.
-use Prim.Native.Nat.{ℕ, zero, suc, _+_, _≤_, _<_}
-use mathlib.Core.Path.{_≡_, refl, sym, ap, ap₂, _∙_}
+use Prim.Native.Nat.{ℕ, _+_, _≤_, _<_}
+use mathlib.Core.Path.{_≡_, refl, sym, ap, _∙_}
 use mathlib.Core.Bool.{Bool, true, false, _||_}
 use mathlib.Core.List.{List, [], _∷_, _++_, map, map-append}
 use native.Mathlib.Omega.{arith}
@@ -10,11 +10,10 @@ use lib.Dec.{eqb, ltb}
 use borrow.Author.Tests.{eqb-true, eqb-false, ltb-false}
 use Rattle.numbers.specs.Limits.{MOST-ROWS, MOST-OPERANDS}
 use Rattle.numbers.specs.Refusals.{ACCEPTED}
-use Rattle.pmtl.specs.Book.{Range, Row, Rows, rowAt, Book, properties, AllBelow, Ordered}
-use Rattle.pmtl.specs.Book.Row.{never, always, atom, conj, disj, neg, implies, historically, once, since}
+use Rattle.pmtl.specs.Book.{Row, Rows, rowAt, Book, properties, AllBelow, Ordered}
 use Rattle.book.specs.Reading.{Sections}
 use Rattle.book.specs.Private.{Few}
-use Rattle.book.specs.Judging.{rowsIn, judged, bookIn, loaded}
+use Rattle.book.specs.Judging.{judged, bookIn, loaded}
 use Rattle.book.proofs.Accepted.{assume-below, guarantee-below, temporals-fit}
 use Rattle.trees.specs.Forest.{Head, headOf, Forest, none, tree, one, _then_, count, size, roots, entries, Good}
 use Rattle.trees.specs.Numbered.{rowsFrom, bookOf, folded}
@@ -22,15 +21,15 @@ use Rattle.trees.specs.Building.{allOperands, wordsOf}
 use Rattle.trees.specs.Books.{headIn, partsIn, joined, treeRule, treeAt, treesOf}
 use Rattle.trees.specs.declared.Word.the-variants.{Or, Not, Once}
 use Rattle.trees.proofs.Numbered.{roots-then, roots-length, good-then}
-use Rattle.trees.proofs.Sections.{rows-there, operandsAt, parts-are, book-ordered}
-use Rattle.trees.proofs.Sums.{sumTo, sumOver, weight, weight-then, weight-one, weight-joined, below-append, properties-weigh, trees-weigh}
+use Rattle.trees.proofs.Sections.{rows-there, parts-are, book-ordered}
+use Rattle.trees.proofs.Sums.{sumOver, weight, weight-then, weight-one, weight-joined, below-append, properties-weigh, trees-weigh}
 use Rattle.trees.proofs.Judged.{HeadGood, temporalHead, words-accepted}
 use Rattle.trees.proofs.Renumbered.{head-good, below, temporals-same}
 use Rattle.trees.proofs.Words.{loaded-words}
 use Rattle.trees.proofs.Loaded.{Accepted, accepted-words}
 use Rattle.trees.proofs.Back.{again-all, trees-again}
 use Rattle.tidying.specs.declared.Form.{Form}
-use Rattle.tidying.specs.Steps.{Step, partsAt, fits, notOf, steppedAt, steppedOf, assumesAfter, guaranteesAfter, allAfter, wordsAfter, pastLimit}
+use Rattle.tidying.specs.Steps.{Step, partsAt, fits, notOf, steppedAt, steppedOf, pastLimit}
 use Rattle.tidying.proofs.Fits.{In, Fitting, not-not, and-one, or-one, implication, history, fitting}
 use Rattle.tidying.proofs.Remade.{AllSane, all-sane, list-fine, all-fine, step-plain, step-nots, step-and, step-or, step-implies, step-history}
 use Rattle.tidying.proofs.Saying.{Pairs, Says, says-all}

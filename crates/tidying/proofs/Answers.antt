@@ -1,17 +1,17 @@
 -- Rows that say the same have the same settled answers, and the same early ones but for the step from Implies to Or. Assumes nothing.
-use Prim.Native.Nat.{ℕ, _≤_, _<_}
+use Prim.Native.Nat.{ℕ, _<_}
 use mathlib.Core.Path.{_≡_, refl, sym, ap, ap₂, _∙_}
-use mathlib.Core.Bool.{Bool, true, false, cond, not, _&&_, _||_, false≢true}
-use mathlib.Core.List.{List, [], _∷_, map}
+use mathlib.Core.Bool.{Bool, true, false, cond, _&&_, _||_}
+use mathlib.Core.List.{[], _∷_}
 use lib.ListN.{length}
-use Rattle.numset.specs.Runs.{Runs, has, covers}
+use Rattle.numset.specs.Runs.{Runs, covers}
 use Rattle.pmtl.specs.declared.Answer.{Answer}
 use Rattle.pmtl.specs.declared.Answer.the-variants.{False, True, Open}
 use Rattle.pmtl.specs.Answer.{isTrue, isFalse, isOpen, reversed, known, decided}
-use Rattle.pmtl.specs.Book.{Range, Row, mapRow, Rows, rowAt, Ordered, widthOf, every, some}
-use Rattle.pmtl.specs.Book.Row.{never, always, atom, conj, disj, neg, implies, historically, once, since}
+use Rattle.pmtl.specs.Book.{Row, mapRow, Rows, rowAt, Ordered, widthOf, every, some}
+use Rattle.pmtl.specs.Book.Row.{never, historically, once}
 use Rattle.pmtl.specs.Sets.{gone}
-use Rattle.pmtl.specs.Monitor.{Snap, State, setAt, initial}
+use Rattle.pmtl.specs.Monitor.{Snap, initial}
 use Rattle.pmtl.specs.Early.{fromNow, earlyRule, early}
 use Rattle.pmtl.specs.Settled.{settledTrue, settledFalse, settledRule, settled}
 use Rattle.pmtl.specs.Calls.{History, nowOf}
@@ -22,10 +22,8 @@ use Rattle.pmtl.proofs.Settled.{covers-not-gone}
 use Rattle.pmtl.proofs.Theorems.{early-historically-is-not-once-not}
 use Rattle.trees.specs.Books.{headIn, partsIn}
 use Rattle.trees.proofs.Judged.{HeadGood}
-use Rattle.tidying.specs.declared.Form.{Form}
 use Rattle.tidying.specs.declared.Form.the-variants as form
 use Rattle.tidying.specs.Steps.{Step, partsAt, fits}
-use Rattle.tidying.specs.Tidied.{keepsEarly}
 use Rattle.tidying.proofs.Fits.{In}
 use Rattle.tidying.proofs.Saying.{Pairs, pairs-map, same-row, Says, Laws, said}
 use Rattle.tidying.proofs.Values.{setOf, same-sets, history-sets}

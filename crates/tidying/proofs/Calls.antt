@@ -12,7 +12,7 @@ use Rattle.pmtl.specs.Book.{Rows, rowAt, Ordered, widthOf, some}
 use Rattle.pmtl.specs.Monitor.{Snap, State, value, step}
 use Rattle.pmtl.specs.Early.{early}
 use Rattle.pmtl.specs.Settled.{settled}
-use Rattle.pmtl.specs.Calls.{Call, time, state, turns, refusal, crowds, crowded, Outcome, play, call, after, History, onto, accepted}
+use Rattle.pmtl.specs.Calls.{Call, time, state, turns, refusal, crowded, Outcome, play, call, after, History, onto, accepted}
 use Rattle.pmtl.specs.Past.{runBy, run}
 use Rattle.pmtl.proofs.History.{now-run}
 use Rattle.pmtl.proofs.Calls.{trail}

@@ -5,11 +5,11 @@ use mathlib.Core.List.{List, [], _∷_, map}
 use Rattle.numbers.specs.Limits.{MAX}
 use Rattle.numset.specs.Runs.{has, covers, kept, insert, union}
 use Rattle.pmtl.specs.Answer.{digitOf}
-use Rattle.pmtl.specs.Book.{stop, Book, properties, widthOf, table, answer, every, some}
+use Rattle.pmtl.specs.Book.{stop, properties, widthOf, table, answer, every, some}
 use Rattle.pmtl.specs.Sets.{gone, staysIf, addedIf, renewed, setRuleBy}
 use Rattle.pmtl.specs.Monitor.{initial, valueRule, value, stepBy}
 use Rattle.pmtl.specs.Early.{earlyRule, early}
-use Rattle.pmtl.specs.Calls.{Call, time, state, refusal, crowded, play, call, after}
+use Rattle.pmtl.specs.Calls.{Call, state, refusal, crowded, play, call, after}
 use Rattle.book.specs.Rows.{rowFrom, countOf}
 use Rattle.lists.specs.Lists.{listed}
 use Rattle.book.specs.Reading.{section, next, sections}

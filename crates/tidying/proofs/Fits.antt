@@ -1,16 +1,16 @@
 -- A step that fits: what the row that it names is. Assumes nothing.
-use Prim.Native.Nat.{ℕ, zero, suc, _<_}
+use Prim.Native.Nat.{ℕ, _<_}
 use mathlib.Core.Path.{_≡_, refl, sym, ap, _∙_}
-use mathlib.Core.Logic.{_⊎_, inl, inr, ⊎-elim}
-use mathlib.Core.Bool.{Bool, true, false, _&&_, _||_, false≢true}
-use mathlib.Core.List.{List, [], _∷_}
+use mathlib.Core.Logic.{_⊎_, inl, inr}
+use mathlib.Core.Bool.{Bool, true, false, _||_, false≢true}
+use mathlib.Core.List.{[], _∷_}
 use native.Mathlib.Omega.{arith}
 use lib.ListN.{length, getD}
 use lib.Dec.{eqb, ltb}
 use borrow.Author.Tests.{eqb-true, ltb-true}
 use Rattle.lists.proofs.Tests.{and-left, and-right}
-use Rattle.pmtl.specs.Book.{Range, Row, Rows, rowAt, Ordered, AllBelow}
-use Rattle.pmtl.specs.Book.Row.{never, always, atom, conj, disj, neg, implies, historically, once, since}
+use Rattle.pmtl.specs.Book.{Range, Row, Rows, rowAt, Ordered}
+use Rattle.pmtl.specs.Book.Row.{atom, conj, disj, neg, implies, historically}
 use Rattle.trees.specs.Forest.{Head, headOf}
 use Rattle.trees.specs.Numbered.{rowWith}
 use Rattle.trees.specs.Building.{kindOf, wordOf}

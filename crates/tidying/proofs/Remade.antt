@@ -1,28 +1,28 @@
 -- The trees of a book after a step that fits: what each row becomes, and that all are good. Assumes nothing.
-use Prim.Native.Nat.{ℕ, zero, suc, _+_, _≤_, _<_}
-use mathlib.Core.Path.{_≡_, refl, sym, ap, ap₂, _∙_}
+use Prim.Native.Nat.{ℕ, _<_}
+use mathlib.Core.Path.{_≡_, refl, ap, ap₂, _∙_}
 use mathlib.Core.Bool.{Bool, true, false}
 use mathlib.Core.List.{List, [], _∷_, map}
 use native.Mathlib.Omega.{arith}
 use lib.ListN.{length, length-map}
 use lib.Dec.{eqb}
 use borrow.Author.Tests.{eqb-true, eqb-false, eq-eqb, ne-eqb}
-use Rattle.pmtl.specs.Book.{Range, Row, mapRow, Rows, rowAt, AllBelow, Below, Ordered, answer}
-use Rattle.pmtl.specs.Book.Row.{never, always, atom, conj, disj, neg, implies, historically, once, since}
+use Rattle.pmtl.specs.Book.{Range, Row, Rows, rowAt, AllBelow, Ordered}
+use Rattle.pmtl.specs.Book.Row.{atom, conj, disj, neg, implies, historically}
 use Rattle.pmtl.proofs.Table.{by-rows, answer-in}
 use Rattle.book.specs.Judging.{argGood, formGood, rangeGood}
 use Rattle.trees.specs.Forest.{Head, headOf, Forest, none, tree, one, _then_, count, Fit, Good}
-use Rattle.trees.specs.Books.{headIn, partsIn, joined, treeRule}
+use Rattle.trees.specs.Books.{headIn, partsIn, joined}
 use Rattle.trees.specs.declared.Word.the-variants.{Or, Not, Hist, Once}
 use Rattle.trees.proofs.Numbered.{good-then}
 use Rattle.trees.proofs.Built.{count-then}
-use Rattle.trees.proofs.Books.{AllOf, each-below, below-up, parts-below, head-map, parts-map, fit-head}
+use Rattle.trees.proofs.Books.{AllOf, each-below, parts-below, head-map, parts-map, fit-head}
 use Rattle.trees.proofs.Judged.{HeadGood, HeadsGood, heads-then}
 use Rattle.trees.proofs.Back.{Single, Singles}
 use Rattle.tidying.specs.declared.Form.{Form}
 use Rattle.tidying.specs.declared.Form.the-variants as form
-use Rattle.tidying.specs.Steps.{Step, partsAt, fits, notOf, remade, stepRule, steppedAt, steppedOf}
-use Rattle.tidying.proofs.Fits.{In, Fitting, not-not, and-one, or-one, implication, history, named-there, fitting}
+use Rattle.tidying.specs.Steps.{Step, partsAt, fits, notOf, remade, stepRule, steppedAt}
+use Rattle.tidying.proofs.Fits.{In, Fitting, not-not, and-one, or-one, implication, history, fitting}
 
 -- ---- lists of trees
 then-none : (f : Forest) → f then none ≡ f

@@ -1,15 +1,15 @@
 -- A row of the book after a step says what a row of the book before it says: what holds of such rows is shown by the kinds of row
 -- and the forms of the step. Assumes nothing.
-use Prim.Native.Nat.{ℕ, zero, suc, _≤_, _<_}
+use Prim.Native.Nat.{ℕ, _<_}
 use mathlib.Core.Path.{_≡_, refl, sym, ap, ap₂, _∙_}
 use mathlib.Core.Bool.{Bool, true, false}
 use mathlib.Core.List.{List, [], _∷_, map}
 use native.Mathlib.Omega.{arith}
-use lib.ListN.{length, length-map}
+use lib.ListN.{length}
 use lib.Dec.{eqb}
 use borrow.Author.Tests.{eqb-true, eqb-false}
 use Rattle.pmtl.specs.Book.{Range, Row, mapRow, Rows, rowAt, AllBelow, Ordered}
-use Rattle.pmtl.specs.Book.Row.{never, always, atom, conj, disj, neg, implies, historically, once, since}
+use Rattle.pmtl.specs.Book.Row.{conj, disj, neg, implies, historically, once}
 use Rattle.pmtl.proofs.Table.{by-rows}
 use Rattle.trees.specs.Forest.{Head, headOf, Forest, none, tree, one, count}
 use Rattle.trees.specs.Numbered.{rowWith, folded}
@@ -21,8 +21,8 @@ use Rattle.trees.proofs.Back.{Singles, again-all}
 use Rattle.tidying.specs.declared.Form.{Form}
 use Rattle.tidying.specs.declared.Form.the-variants as form
 use Rattle.tidying.specs.Steps.{Step, partsAt, fits, notOf, steppedAt}
-use Rattle.tidying.proofs.Fits.{In, row-of, Fitting, not-not, and-one, or-one, implication, history, named-there, fitting}
-use Rattle.tidying.proofs.Remade.{only, Sanes, all-sane, sane-one, sane-not, step-plain, step-nots, step-and, step-or, step-implies, step-history, all-fine, list-fine}
+use Rattle.tidying.proofs.Fits.{In, row-of, Fitting, not-not, and-one, or-one, implication, history, fitting}
+use Rattle.tidying.proofs.Remade.{only, all-sane, sane-not, step-plain, step-nots, step-and, step-or, step-implies, step-history, all-fine, list-fine}
 
 -- ---- rows over lists of the same length
 abbrev pub Pairs : (ℕ → ℕ → Type 0) → List ℕ → List ℕ → Type 0

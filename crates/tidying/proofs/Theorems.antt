@@ -1,6 +1,6 @@
 -- REFERENCE 12.3: a book tidied by an accepted list of steps is accepted, and on every list of calls it gives the same refusals, values
 -- and settled answers; and the same early answers where no step goes from Implies to Or. Nothing is assumed.
-use Prim.Native.Nat.{ℕ, zero, suc, _+_, _≤_, _<_}
+use Prim.Native.Nat.{ℕ, suc, _+_, _≤_, _<_}
 use mathlib.Core.Path.{_≡_, refl, sym, ap, _∙_}
 use mathlib.Core.Logic.{_⊎_, inl, inr}
 use mathlib.Core.Bool.{Bool, true, false, cond, false≢true}
@@ -10,12 +10,11 @@ use lib.ListN.{length}
 use lib.Dec.{eqb}
 use borrow.Author.Tests.{eqb-true}
 use Rattle.numbers.specs.Refusals.{ACCEPTED, PAST-LIMIT, DOES-NOT-FIT}
-use Rattle.pmtl.specs.Book.{Book, properties}
-use Rattle.pmtl.specs.Calls.{Call}
+use Rattle.pmtl.specs.Book.{Book}
 use Rattle.book.specs.Reading.{Sections}
 use Rattle.book.specs.Private.{Few}
 use Rattle.book.specs.Judging.{judged, bookIn, loaded}
-use Rattle.trees.proofs.Loaded.{Accepted, accepted-words}
+use Rattle.trees.proofs.Loaded.{accepted-words}
 use Rattle.tidying.specs.declared.Form.{Form}
 use Rattle.tidying.specs.declared.Form.the-variants as form
 use Rattle.tidying.specs.Steps.{Step, fits, allAfter, wordsAfter, pastLimit}

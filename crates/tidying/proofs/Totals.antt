@@ -1,6 +1,6 @@
 -- What is summed over the rows of a book is summed over those of the book after a step, so that both name the same largest atom and their
 -- sets are full in the same calls. Assumes nothing.
-use Prim.Native.Nat.{ℕ, zero, suc, _+_, _≤_, _<_, max}
+use Prim.Native.Nat.{ℕ, zero, suc, _+_, _<_, max}
 use mathlib.Core.Path.{_≡_, refl, sym, ap, ap₂, _∙_}
 use mathlib.Core.Bool.{Bool, true, false, _||_}
 use mathlib.Core.List.{List, [], _∷_, _++_, map}
@@ -13,10 +13,10 @@ use Rattle.lists.proofs.Tests.{lt-or-ge, same-test, or-elim, or-left, or-right}
 use Rattle.numset.specs.Runs.{Runs}
 use Rattle.numbers.specs.Limits.{MOST-RUNS}
 use Rattle.pmtl.specs.Answer.{bitOf}
-use Rattle.pmtl.specs.Book.{Range, Row, mapRow, Rows, rowAt, Book, properties, Ordered, AllBelow, atomWidth, widthOf, answer, some}
+use Rattle.pmtl.specs.Book.{Range, Row, mapRow, Rows, rowAt, Ordered, atomWidth, widthOf, answer, some}
 use Rattle.pmtl.specs.Book.Row.{never, always, atom, conj, disj, neg, implies, historically, once, since}
 use Rattle.pmtl.specs.Sets.{setRuleBy, setRule}
-use Rattle.pmtl.specs.Monitor.{State, setAt, initial, value}
+use Rattle.pmtl.specs.Monitor.{initial, value}
 use Rattle.pmtl.specs.Calls.{crowded, History}
 use Rattle.pmtl.specs.Past.{runBy, run}
 use Rattle.pmtl.proofs.Table.{answer-in}
@@ -34,7 +34,7 @@ use Rattle.tidying.specs.declared.Form.the-variants as form
 use Rattle.tidying.specs.Steps.{Step, partsAt, fits}
 use Rattle.tidying.proofs.Fits.{In}
 use Rattle.tidying.proofs.Saying.{Pairs, pairs-map, Says, Laws, said-all}
-use Rattle.tidying.proofs.Values.{vals, setOf, set-none, set-in, same-sets, history-sets}
+use Rattle.tidying.proofs.Values.{setOf, set-none, set-in, same-sets, history-sets}
 
 -- ---- sums over lists
 abbrev sumAll : List ℕ → ℕ

@@ -2,11 +2,11 @@
 use Prim.Native.Nat.{ℕ, _<_}
 use mathlib.Core.Path.{_≡_, refl, sym, ap, ap₂, _∙_}
 use mathlib.Core.Bool.{Bool, true, false, not, _&&_, _||_}
-use mathlib.Core.List.{List, [], _∷_, map}
+use mathlib.Core.List.{[], _∷_}
 use lib.ListN.{length, replicate}
 use Rattle.numset.specs.Runs.{Runs, has}
-use Rattle.pmtl.specs.Book.{Range, Row, mapRow, Rows, rowAt, Ordered, widthOf, every, some, itself}
-use Rattle.pmtl.specs.Book.Row.{never, always, atom, conj, disj, neg, implies, historically, once, since}
+use Rattle.pmtl.specs.Book.{Range, Row, mapRow, Rows, rowAt, Ordered, widthOf, every, some}
+use Rattle.pmtl.specs.Book.Row.{neg, historically, once}
 use Rattle.pmtl.specs.Sets.{renewed, setRuleBy, setRule}
 use Rattle.pmtl.specs.Monitor.{Snap, setAt, value, valueRule}
 use Rattle.pmtl.specs.Calls.{History, nowOf}

@@ -1,13 +1,12 @@
 -- The trees of numbered properties are the properties again. Assumes nothing.
-use Prim.Native.Nat.{ℕ, zero, suc, _+_, _≤_, _<_}
+use Prim.Native.Nat.{ℕ, _+_}
 use mathlib.Core.Path.{_≡_, refl, sym, ap, ap₂, _∙_}
 use mathlib.Core.List.{List, [], _∷_, _++_, map, append-nil}
 use native.Mathlib.Omega.{arith}
 use lib.ListN.{length, getD}
-use Rattle.pmtl.specs.Book.{Row, Rows, Ordered}
-use Rattle.trees.specs.Forest.{Head, headOf, Forest, none, tree, one, _then_, count, size, roots, Fit, Good}
+use Rattle.trees.specs.Forest.{Head, headOf, Forest, none, tree, one, _then_, count, roots, Fit, Good}
 use Rattle.trees.specs.Numbered.{rowWith, rowsFrom, folded}
-use Rattle.trees.specs.Books.{headIn, partsIn, joined, treeRule, treeAt, treesOf}
+use Rattle.trees.specs.Books.{headIn, partsIn, joined, treeRule, treeAt}
 use Rattle.trees.specs.declared.Word.{Word}
 use Rattle.trees.specs.declared.Word.the-variants.{False, True, Atom, And, Or, Not, Implies, Hist, Once, Since}
 use Rattle.trees.proofs.Numbered.{ordered, folds}

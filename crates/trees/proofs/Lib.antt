@@ -8,3 +8,5 @@ pub mod Judged
 pub mod Renumbered
 pub mod Loaded
 pub mod Back
+pub mod Putting
+pub mod Walking

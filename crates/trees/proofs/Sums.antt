@@ -4,13 +4,12 @@ use mathlib.Core.Path.{_≡_, refl, sym, ap, _∙_}
 use mathlib.Core.Bool.{Bool, true, false}
 use mathlib.Core.List.{List, [], _∷_, _++_, map}
 use native.Mathlib.Omega.{arith}
-use lib.ListN.{length, getD, take, drop}
+use lib.ListN.{length, getD, take}
 use lib.Seq.{take-add, take-length}
 use lib.Dec.{eqb}
 use borrow.Author.Tests.{eqb-true, eqb-false}
-use Rattle.lists.specs.Lists.{part}
 use Rattle.pmtl.specs.Answer.{bitOf}
-use Rattle.pmtl.specs.Book.{Rows, rowAt, AllBelow, Ordered}
+use Rattle.pmtl.specs.Book.{Rows, rowAt, AllBelow}
 use Rattle.book.specs.Reading.{Sections}
 use Rattle.book.specs.Rows.{countOf}
 use Rattle.book.specs.Judging.{kindIn, argIn, rowsIn, startIn, timesIn, usesOf, judged, bookIn}

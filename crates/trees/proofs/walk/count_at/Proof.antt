@@ -1,10 +1,10 @@
-use Rattle.rule_printer.proofs.Walking.{held-arg}
+use Rattle.trees.proofs.Walking.{held-arg}
 use mathlib.Core.Path.{_∙_}
 use borrow.Author.Needs.{needs}
-use Rattle.rule_printer.proofs.walk.count_at.Statement.{statement}
-use Rattle.rule_printer.proofs.walk.count_at.Tie as tie
-use Rattle.rule_printer.proofs.walk.count_at.Reads as reads
-use Rattle.rule_printer.proofs.walk.count_at.Lts as lts
+use Rattle.trees.proofs.walk.count_at.Statement.{statement}
+use Rattle.trees.proofs.walk.count_at.Tie as tie
+use Rattle.trees.proofs.walk.count_at.Reads as reads
+use Rattle.trees.proofs.walk.count_at.Lts as lts
 use Rattle.book.proofs.check.arg_in.Reads as arg-in-reads
 use Rattle.book.proofs.check.kind_in.Reads as kind-in-reads
 use Rattle.book.proofs.check.taken_by.Reads as taken-by-reads

@@ -1,14 +1,14 @@
-use Rattle.rule_printer.proofs.Walking.{start-few, lower-row, start-zero, start-next}
+use Rattle.trees.proofs.Walking.{start-few, lower-row, start-zero, start-next}
 use Prim.Native.Nat.{_-_, _≤_}
 use mathlib.Core.Path.{_≡_, _∙_, ap}
 use Rattle.book.specs.Judging.{startIn}
 use native.Mathlib.Omega.{arith}
 use borrow.Author.Needs.{needs}
-use Rattle.rule_printer.proofs.walk.start_at.Statement.{statement}
-use Rattle.rule_printer.proofs.walk.start_at.Tie as tie
-use Rattle.rule_printer.proofs.walk.start_at.Reads as reads
-use Rattle.rule_printer.proofs.walk.start_at.Lts as lts
-use Rattle.rule_printer.proofs.walk.count_at.Reads as count-at-reads
+use Rattle.trees.proofs.walk.start_at.Statement.{statement}
+use Rattle.trees.proofs.walk.start_at.Tie as tie
+use Rattle.trees.proofs.walk.start_at.Reads as reads
+use Rattle.trees.proofs.walk.start_at.Lts as lts
+use Rattle.trees.proofs.walk.count_at.Reads as count-at-reads
 
 abbrev Inv-loop : tie.InvT-loop
 Inv-loop rows row start₀ i₀ start i = (start ≡ startIn rows i) × (i ≤ row)

@@ -1,12 +1,12 @@
-use Rattle.rule_printer.proofs.Walking.{start-few, walk-row, part-inside}
+use Rattle.trees.proofs.Walking.{start-few, walk-row, part-inside}
 use native.Mathlib.Omega.{arith}
 use borrow.Author.Needs.{needs}
-use Rattle.rule_printer.proofs.walk.operand_at.Statement.{statement}
-use Rattle.rule_printer.proofs.walk.operand_at.Tie as tie
-use Rattle.rule_printer.proofs.walk.operand_at.Reads as reads
-use Rattle.rule_printer.proofs.walk.operand_at.Lts as lts
-use Rattle.rule_printer.proofs.walk.count_at.Reads as count-at-reads
-use Rattle.rule_printer.proofs.walk.start_at.Reads as start-at-reads
+use Rattle.trees.proofs.walk.operand_at.Statement.{statement}
+use Rattle.trees.proofs.walk.operand_at.Tie as tie
+use Rattle.trees.proofs.walk.operand_at.Reads as reads
+use Rattle.trees.proofs.walk.operand_at.Lts as lts
+use Rattle.trees.proofs.walk.count_at.Reads as count-at-reads
+use Rattle.trees.proofs.walk.start_at.Reads as start-at-reads
 
 -- src/walk.rt:55:17
 start-at-requires : tie.Need-start-at-requires
