@@ -16,12 +16,12 @@ use Rattle.book.proofs.Placing.{accepted-book}
 use Rattle.buffer_writer.specs.Buffer.{Handed, inBuffer}
 use Rattle.buffer_writer.specs.Finish.{finish, Wrote}
 use Rattle.buffer_writer.proofs.Writes.{and-then, at-end, whole}
+use Rattle.trees.proofs.Built.{then-none, then-assoc}
 use Rattle.trees.specs.Forest.{Forest, none, tree, _then_}
 use Rattle.trees.specs.Books.{joined, treeAt, treesOf}
 use Rattle.trees.proofs.Books.{trees-count}
 use Rattle.rule_scanner.specs.Writing.{oneSaid, written}
 use Rattle.rule_scanner.specs.declared.symbols.Symbol.the-variants.{Comma}
-use Rattle.rule_scanner.proofs.Back.{then-none, then-assoc}
 use Rattle.rule_printer.specs.Printing.{spelled, lines, sectionPrinted, printed, bookPrinted}
 use Rattle.trees.specs.Walking.{Properties, rowsSaid}
 use Rattle.rule_printer.proofs.Putting.{none-put}

@@ -11,8 +11,7 @@ use Rattle.trees.specs.Forest.{Head, headOf, Forest, none, tree, one, _then_, c
 use Rattle.rule_scanner.specs.Reading.{formOf, firstMode, Frame, frameOf, State, stateOf, between, completed, Step, refused, going, ended, nextPart, closed, finished, taken}
 use Rattle.trees.specs.Building.{kindOf, argOf, rowWords, Mem, Emitted}
 use Rattle.trees.proofs.Numbered.{size-then, roots-length}
-use Rattle.rule_scanner.proofs.Back.{then-none, then-assoc}
-use Rattle.trees.proofs.Built.{count-then, size-more, count-more}
+use Rattle.trees.proofs.Built.{then-none, then-assoc, count-then, size-more, count-more}
 use Rattle.trees.specs.declared.rows.RowWords.{RowWords}
 use Rattle.trees.specs.declared.rows.Spot.{Spot}
 use Rattle.trees.specs.declared.Word.{Word}

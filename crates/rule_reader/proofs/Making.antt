@@ -14,8 +14,7 @@ use Rattle.rule_scanner.specs.Scanning.{formTop, refuses, ends, startPass, Form
 use Rattle.trees.specs.Building.{allRows, allOperands, Mem}
 use Rattle.rule_scanner.proofs.Sound.{by-symbol, Op, Frames, FrameOk, AfterOk, Ok, OkOf, ok-start, ok-next}
 use Rattle.trees.proofs.Numbered.{size-then}
-use Rattle.rule_scanner.proofs.Back.{then-none, then-assoc}
-use Rattle.trees.proofs.Built.{count-then, size-more, count-more}
+use Rattle.trees.proofs.Built.{then-none, then-assoc, count-then, size-more, count-more}
 use Rattle.rule_scanner.proofs.Passing.{Reader, reader-start, refused-is, ended-is, going-is, turned-is, moved, steps, not-end}
 use Rattle.trees.specs.declared.Word.{Word}
 use Rattle.trees.specs.declared.Word.the-variants.{False, True, Atom, And, Or, Not, Implies, Hist, Once, Since}
@@ -28,7 +27,8 @@ use Rattle.rule_scanner.specs.declared.turns.Form.the-variants as form
 use Rattle.rule_scanner.specs.declared.turns.Turn.{Turn}
 use Rattle.rule_scanner.specs.declared.turns.Turn.the-variants.{Refused, Go, Leaf, Open, Part, Close, Counted, Ended}
 use Rattle.rule_scanner.specs.declared.scan.Pass.{Pass}
-use Rattle.rule_reader.specs.Laying.{laid, forest, FramesIn, Lies, LiesAfter, need, Counting, NotAtom, NoAtoms, Sane, siteOf, Rooms, Lays, Small, Builds}
+use Rattle.trees.specs.Building.{Rooms}
+use Rattle.rule_reader.specs.Laying.{laid, forest, FramesIn, Lies, LiesAfter, need, Counting, NotAtom, NoAtoms, Sane, siteOf, Lays, Small, Builds}
 use Rattle.rule_reader.specs.declared.lay.Laid.{Laid}
 use Rattle.rule_reader.proofs.Frames.{forest-between, forest-completed}
 

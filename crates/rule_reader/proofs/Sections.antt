@@ -16,7 +16,8 @@ use Rattle.rule_reader.specs.Rules.{resultOf, readBook}
 use Rattle.rule_scanner.specs.Scanning.{scanned}
 use Rattle.rule_scanner.specs.declared.scan.Scan.the-variants.{Wrong, Right}
 use Rattle.trees.proofs.Numbered.{size-then}
-use Rattle.rule_reader.specs.Laying.{Rooms, Small, Builds}
+use Rattle.trees.specs.Building.{Rooms}
+use Rattle.rule_reader.specs.Laying.{Small, Builds}
 use Rattle.trees.specs.declared.book_words.Counts.{Counts}
 use Rattle.trees.specs.Putting.{SectionsPut}
 use Rattle.trees.proofs.Putting.{words-built}

@@ -29,19 +29,11 @@ use Rattle.trees.proofs.Words.{loaded-words}
 use Rattle.trees.proofs.Loaded.{Accepted, accepted-words}
 use Rattle.trees.proofs.Back.{again-all, trees-again}
 use Rattle.tidying.specs.declared.Form.{Form}
-use Rattle.tidying.specs.Steps.{Step, partsAt, fits, notOf, steppedAt, steppedOf, pastLimit}
+use Rattle.tidying.specs.declared.Step.{Step}
+use Rattle.tidying.specs.Steps.{partsAt, fits, notOf, steppedAt, steppedOf, pastLimit}
 use Rattle.tidying.proofs.Fits.{In, Fitting, not-not, and-one, or-one, implication, history, fitting}
-use Rattle.tidying.proofs.Remade.{AllSane, all-sane, list-fine, all-fine, step-plain, step-nots, step-and, step-or, step-implies, step-history}
+use Rattle.tidying.proofs.Remade.{joined-append, AllSane, all-sane, list-fine, all-fine, step-plain, step-nots, step-and, step-or, step-implies, step-history}
 use Rattle.tidying.proofs.Saying.{Pairs, Says, says-all}
-
-joined-append : (xs ys : List Forest) → joined (xs ++ ys) ≡ joined xs then joined ys
-unfolding joined _then_
-joined-append [] ys = refl
-joined-append (x ∷ xs) ys = ap (λ (z : Forest). x then z) (joined-append xs ys) ∙ sym (then-then x (joined xs) (joined ys))
-  where
-    then-then : (f g h : Forest) → (f then g) then h ≡ f then (g then h)
-    then-then none g h = refl
-    then-then (tree k p s) g h = ap (tree k p) (then-then s g h)
 
 -- what a test of two parts says where it fails
 neither : (x y : Bool) → (x || y) ≡ false → x ≡ false

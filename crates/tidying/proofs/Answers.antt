@@ -23,7 +23,8 @@ use Rattle.pmtl.proofs.Theorems.{early-historically-is-not-once-not}
 use Rattle.trees.specs.Books.{headIn, partsIn}
 use Rattle.trees.proofs.Judged.{HeadGood}
 use Rattle.tidying.specs.declared.Form.the-variants as form
-use Rattle.tidying.specs.Steps.{Step, partsAt, fits}
+use Rattle.tidying.specs.declared.Step.{Step}
+use Rattle.tidying.specs.Steps.{partsAt, fits}
 use Rattle.tidying.proofs.Fits.{In}
 use Rattle.tidying.proofs.Saying.{Pairs, pairs-map, same-row, Says, Laws, said}
 use Rattle.tidying.proofs.Values.{setOf, same-sets, history-sets}

@@ -22,7 +22,8 @@ use Rattle.trees.specs.Books.{headIn}
 use Rattle.trees.proofs.Judged.{HeadGood}
 use Rattle.trees.proofs.Sections.{book-ordered}
 use Rattle.tidying.specs.declared.Form.the-variants as form
-use Rattle.tidying.specs.Steps.{Step, partsAt, fits}
+use Rattle.tidying.specs.declared.Step.{Step}
+use Rattle.tidying.specs.Steps.{partsAt, fits}
 use Rattle.tidying.proofs.Saying.{Pairs, pairs-map, Says}
 use Rattle.tidying.proofs.Values.{now-same, values-same}
 use Rattle.tidying.proofs.Answers.{early-same, settled-same}

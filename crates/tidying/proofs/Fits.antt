@@ -21,7 +21,8 @@ use Rattle.trees.proofs.Books.{with-itself}
 use Rattle.trees.proofs.Back.{one-part}
 use Rattle.tidying.specs.declared.Form.{Form}
 use Rattle.tidying.specs.declared.Form.the-variants.{Nots, Single, Implication, History, Unknown}
-use Rattle.tidying.specs.Steps.{Step, wordAt, partsAt, begins, fitsAt, fits}
+use Rattle.tidying.specs.declared.Step.{Step}
+use Rattle.tidying.specs.Steps.{wordAt, partsAt, begins, fitsAt, fits}
 
 -- row r is there and is this
 pub record In (b : Rows) (r : ℕ) (row : Row ℕ) : Type 0 where
@@ -68,6 +69,9 @@ module _ (b : Rows) (w : Ordered b) (r : ℕ) (l : r < length b) where
   is-not : begins Not b r ≡ true → In b r (neg first)
   unfolding rowWith
   is-not e = record { there = l; is = row-by Not b r e }
+
+  pub not-count : begins Not b r ≡ true → length (partsAt b r) ≡ 1
+  not-count e = ap (λ (row : Row ℕ). length (partsIn row)) (is-not e .is)
 
   single-row : (begins And b r ≡ true) ⊎ (begins Or b r ≡ true) → length (partsAt b r) ≡ 1 → Fitting b r Single
   unfolding rowWith

@@ -1,8 +1,8 @@
 -- The trees of a book after a step that fits: what each row becomes, and that all are good. Assumes nothing.
 use Prim.Native.Nat.{ℕ, _<_}
-use mathlib.Core.Path.{_≡_, refl, ap, ap₂, _∙_}
+use mathlib.Core.Path.{_≡_, refl, sym, ap, ap₂, _∙_}
 use mathlib.Core.Bool.{Bool, true, false}
-use mathlib.Core.List.{List, [], _∷_, map}
+use mathlib.Core.List.{List, [], _∷_, _++_, map}
 use native.Mathlib.Omega.{arith}
 use lib.ListN.{length, length-map}
 use lib.Dec.{eqb}
@@ -15,24 +15,25 @@ use Rattle.trees.specs.Forest.{Head, headOf, Forest, none, tree, one, _then_, c
 use Rattle.trees.specs.Books.{headIn, partsIn, joined}
 use Rattle.trees.specs.declared.Word.the-variants.{Or, Not, Hist, Once}
 use Rattle.trees.proofs.Numbered.{good-then}
-use Rattle.trees.proofs.Built.{count-then}
+use Rattle.trees.proofs.Built.{then-none, then-assoc, count-then}
 use Rattle.trees.proofs.Books.{AllOf, each-below, parts-below, head-map, parts-map, fit-head}
 use Rattle.trees.proofs.Judged.{HeadGood, HeadsGood, heads-then}
 use Rattle.trees.proofs.Back.{Single, Singles}
 use Rattle.tidying.specs.declared.Form.{Form}
 use Rattle.tidying.specs.declared.Form.the-variants as form
-use Rattle.tidying.specs.Steps.{Step, partsAt, fits, notOf, remade, stepRule, steppedAt}
+use Rattle.tidying.specs.declared.Step.{Step}
+use Rattle.tidying.specs.Steps.{partsAt, fits, notOf, remade, stepRule, steppedAt}
 use Rattle.tidying.proofs.Fits.{In, Fitting, not-not, and-one, or-one, implication, history, fitting}
 
 -- ---- lists of trees
-then-none : (f : Forest) → f then none ≡ f
-unfolding _then_
-then-none none = refl
-then-none (tree h p s) = ap (tree h p) (then-none s)
-
 pub only : (f : Forest) → joined (f ∷ []) ≡ f
 unfolding joined
 only f = then-none f
+
+pub joined-append : (xs ys : List Forest) → joined (xs ++ ys) ≡ joined xs then joined ys
+unfolding joined _then_
+joined-append [] ys = refl
+joined-append (x ∷ xs) ys = ap (λ (z : Forest). x then z) (joined-append xs ys) ∙ sym (then-assoc x (joined xs) (joined ys))
 
 -- ---- trees that are single, with heads that a row may have
 pub record Sane (f : Forest) : Type 0 where

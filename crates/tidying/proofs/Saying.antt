@@ -20,7 +20,8 @@ use Rattle.trees.proofs.Judged.{HeadGood}
 use Rattle.trees.proofs.Back.{Singles, again-all}
 use Rattle.tidying.specs.declared.Form.{Form}
 use Rattle.tidying.specs.declared.Form.the-variants as form
-use Rattle.tidying.specs.Steps.{Step, partsAt, fits, notOf, steppedAt}
+use Rattle.tidying.specs.declared.Step.{Step}
+use Rattle.tidying.specs.Steps.{partsAt, fits, notOf, steppedAt}
 use Rattle.tidying.proofs.Fits.{In, row-of, Fitting, not-not, and-one, or-one, implication, history, fitting}
 use Rattle.tidying.proofs.Remade.{only, all-sane, sane-not, step-plain, step-nots, step-and, step-or, step-implies, step-history, all-fine, list-fine}
 

@@ -17,7 +17,8 @@ use Rattle.book.specs.Judging.{judged, bookIn, loaded}
 use Rattle.trees.proofs.Loaded.{accepted-words}
 use Rattle.tidying.specs.declared.Form.{Form}
 use Rattle.tidying.specs.declared.Form.the-variants as form
-use Rattle.tidying.specs.Steps.{Step, fits, allAfter, wordsAfter, pastLimit}
+use Rattle.tidying.specs.declared.Step.{Step}
+use Rattle.tidying.specs.Steps.{fits, allAfter, wordsAfter, pastLimit}
 use Rattle.tidying.specs.Tidied.{stepNumber, Tidying, done, refused, tidiedFrom, tidied, Same, SameEarly, keepsEarly, NoImplication}
 use Rattle.tidying.proofs.Accepted.{good-row, step-accepted, after-step, properties-say, assumes-many}
 use Rattle.tidying.proofs.Calls.{number-same, value-same, settled-answers, early-answers}

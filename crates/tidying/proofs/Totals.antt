@@ -31,7 +31,8 @@ use Rattle.trees.proofs.Judged.{HeadGood}
 use Rattle.trees.proofs.Sections.{rows-there, operandsAt, parts-are, book-ordered}
 use Rattle.trees.proofs.Sums.{sumTo, sumOver, sum-append, properties-weigh}
 use Rattle.tidying.specs.declared.Form.the-variants as form
-use Rattle.tidying.specs.Steps.{Step, partsAt, fits}
+use Rattle.tidying.specs.declared.Step.{Step}
+use Rattle.tidying.specs.Steps.{partsAt, fits}
 use Rattle.tidying.proofs.Fits.{In}
 use Rattle.tidying.proofs.Saying.{Pairs, pairs-map, Says, Laws, said-all}
 use Rattle.tidying.proofs.Values.{setOf, set-none, set-in, same-sets, history-sets}

@@ -15,7 +15,8 @@ use Rattle.pmtl.proofs.Answers.{value-fix, set-fix}
 use Rattle.pmtl.proofs.History.{now-run, initial-set}
 use Rattle.trees.specs.Books.{headIn, partsIn}
 use Rattle.trees.proofs.Judged.{HeadGood}
-use Rattle.tidying.specs.Steps.{Step, partsAt, fits}
+use Rattle.tidying.specs.declared.Step.{Step}
+use Rattle.tidying.specs.Steps.{partsAt, fits}
 use Rattle.tidying.proofs.Fits.{In}
 use Rattle.tidying.proofs.Saying.{Pairs, pairs-map, same-row, Says, Laws, said, said-all}
 

@@ -13,14 +13,11 @@ use Rattle.trees.specs.declared.Word.{Word}
 use Rattle.trees.specs.declared.Word.the-variants.{And, Or, Not, Implies, Hist, Once}
 use Rattle.tidying.specs.declared.Form.{Form}
 use Rattle.tidying.specs.declared.Form.the-variants.{Nots, Single, Implication, History, Unknown}
+use Rattle.tidying.specs.declared.Step.{Step}
 
--- a form by its number, and a step: its form, and the row that it names
+-- a form by its number
 unfoldable pub formOf : ℕ → Form
 formOf n = getD (Nots ∷ Single ∷ Implication ∷ History ∷ []) n Unknown
-
-pub record Step : Type 0 where
-  pub form : Form
-  pub row : ℕ
 
 -- ---- whether a step fits
 -- a row's word and its operands

@@ -14,7 +14,8 @@ use Rattle.pmtl.specs.Calls.{Call, call, after}
 use Rattle.book.specs.Judging.{loaded}
 use Rattle.tidying.specs.declared.Form.{Form}
 use Rattle.tidying.specs.declared.Form.the-variants.{Nots, Single, Implication, History, Unknown}
-use Rattle.tidying.specs.Steps.{formOf, Step, fits, allAfter, wordsAfter, pastLimit}
+use Rattle.tidying.specs.declared.Step.{Step}
+use Rattle.tidying.specs.Steps.{formOf, fits, allAfter, wordsAfter, pastLimit}
 
 -- what is wrong with a step: it does not fit; the book grows past its rows or operands
 unfoldable pub stepNumber : Book → Step → ℕ

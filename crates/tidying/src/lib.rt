@@ -12,6 +12,12 @@ pub enum Form {
     Unknown,
 }
 
+// A step: its form, and the row that it names.
+pub struct Step {
+    pub form: Form,
+    pub row: usize,
+}
+
 // The numbers of the forms.
 pub const NOTS: u64 = 0;
 

@@ -46,6 +46,16 @@ roots-more : (g p : Forest) (h : Head) → roots 0 (g then one h p) ≡ roots 0 
 unfolding roots
 roots-more g p h = roots-before g (one h p) ∙ rw (size-then g p)
 
+pub then-none : (f : Forest) → f then none ≡ f
+unfolding _then_
+then-none none = refl
+then-none (tree h p s) = ap (tree h p) (then-none s)
+
+pub then-assoc : (f g k : Forest) → (f then g) then k ≡ f then (g then k)
+unfolding _then_
+then-assoc none g k = refl
+then-assoc (tree h p s) g k = ap (tree h p) (then-assoc s g k)
+
 pub count-then : (f g : Forest) → count (f then g) ≡ count f + count g
 unfolding count _then_
 count-then none g = omega arith

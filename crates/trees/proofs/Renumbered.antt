@@ -29,7 +29,7 @@ use Rattle.trees.proofs.Sums.{sumTo, sum-agree, sum-ones, weight, weigh
 use Rattle.trees.proofs.Judged.{HeadGood, HeadsGood, heads-then, temporalHead, words-accepted}
 
 -- ---- a row's words, back from its head
-kind-back : (k : ℕ) → k ≤ 9 → kindOf (wordOf k) ≡ k
+pub kind-back : (k : ℕ) → k ≤ 9 → kindOf (wordOf k) ≡ k
 unfolding wordOf
 kind-back zero h = refl
 kind-back (suc zero) h = refl
@@ -43,7 +43,7 @@ kind-back (suc (suc (suc (suc (suc (suc (suc (suc zero)))))))) h = refl
 kind-back (suc (suc (suc (suc (suc (suc (suc (suc (suc zero))))))))) h = refl
 kind-back (suc (suc (suc (suc (suc (suc (suc (suc (suc (suc k)))))))))) h = absurd (omega arith)
 
-arg-back : (k a : ℕ) → k ≤ 9 → argGood k a ≡ true → argOf (wordOf k) (atomOf (wordOf k) a) (countOf k a) ≡ a
+pub arg-back : (k a : ℕ) → k ≤ 9 → argGood k a ≡ true → argOf (wordOf k) (atomOf (wordOf k) a) (countOf k a) ≡ a
 unfolding wordOf argGood countOf
 arg-back zero a h g = sym (eqb-true a 0 g)
 arg-back (suc zero) a h g = sym (eqb-true a 0 g)
@@ -73,10 +73,10 @@ module _ (s : Sections) (ok : judged s ≡ 0) where
   abbrev a : ℕ → ℕ
   a r = argIn (s .rows) r
 
-  low-kind : (r : ℕ) → r < rowsIn s → k r ≤ 9
+  pub low-kind : (r : ℕ) → r < rowsIn s → k r ≤ 9
   low-kind r h = form-kind (k r) (a r) (lowerIn (s .rows) r) (upperIn (s .rows) r) (form s ok r h)
 
-  kind-is : (r : ℕ) → r < rowsIn s → kindOf (headIn (rowAt b r) .word) ≡ k r
+  pub kind-is : (r : ℕ) → r < rowsIn s → kindOf (headIn (rowAt b r) .word) ≡ k r
   kind-is r h = ap (λ (z : Head). kindOf (z .word)) (head-are s ok r h) ∙ kind-back (k r) (low-kind r h)
 
   pub head-good : (r : ℕ) → r < rowsIn s → (m : ℕ) → m ≡ length (partsIn (rowAt b r)) → HeadGood (headIn (rowAt b r)) m

@@ -9,7 +9,7 @@ use lib.Seq.{take-length}
 use Rattle.numbers.specs.Limits.{ROW-WORDS, MOST-OPERANDS}
 use Rattle.numbers.specs.Refusals.{ACCEPTED}
 use Rattle.lists.specs.Lists.{part}
-use Rattle.lists.proofs.Parts.{part-length}
+use Rattle.lists.proofs.Parts.{part-length, part-at}
 use Rattle.pmtl.specs.Book.{Rows, rowAt, Ordered, AllBelow}
 use Rattle.book.specs.Reading.{Sections}
 use Rattle.book.specs.Rows.{countOf}
@@ -73,7 +73,7 @@ module _ {rows operands : List ℕ} {row left : ℕ} (x : Walk rows operands row
 
 -- ---- by the book's words
 module _ {rows operands : List ℕ} (x : Held rows operands) where
-  abbrev all : Sections
+  abbrev pub all : Sections
   all = sectionsOf rows operands (x .assumes) (x .guarantees)
 
   abbrev said : Rows
@@ -98,6 +98,10 @@ module _ {rows operands : List ℕ} (x : Held rows operands) where
 
     pub said-count : length (partsIn (rowAt said r)) ≡ countOf (kindIn rows r) (argIn rows r)
     said-count = ap length said-parts ∙ part-length (startIn rows r) (countOf (kindIn rows r) (argIn rows r)) operands (operands-there all (x .ok) r h)
+
+    -- its k-th operand
+    pub said-part : (k : ℕ) → k < countOf (kindIn rows r) (argIn rows r) → getD (partsIn (rowAt said r)) k 0 ≡ getD operands (startIn rows r + k) 0
+    said-part k l = ap (λ (z : List ℕ). getD z k 0) said-parts ∙ part-at (startIn rows r) (countOf (kindIn rows r) (argIn rows r)) operands k l
 
 -- ---- properties
 pub property-walk : {rows operands ps : List ℕ} (i r : ℕ) → Properties rows operands ps → i < length ps → r ≡ getD ps i 0 → Walk rows operands r 0

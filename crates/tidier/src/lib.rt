@@ -1,0 +1,3 @@
+// Tidies a book: makes steps that fit, and refuses others, whoever proposed them.
+pub mod fit;
+pub mod lay;
