@@ -39,7 +39,7 @@ use Rattle.tidier.specs.declared.lay.Site.{Site}
 use Rattle.tidier.proofs.Fitness.{named-form, form-named, form-other}
 use Rattle.tidier.proofs.Adding.{kept-then, layable-after}
 
-map-at : (f : ℕ → Forest) (os : List ℕ) (k : ℕ) → k < length os → getD (map f os) k none ≡ f (getD os k 0)
+pub map-at : (f : ℕ → Forest) (os : List ℕ) (k : ℕ) → k < length os → getD (map f os) k none ≡ f (getD os k 0)
 map-at f [] k l = absurd (omega arith)
 map-at f (o ∷ os) zero l = refl
 map-at f (o ∷ os) (suc k) l = map-at f os k (omega arith)

@@ -164,16 +164,16 @@ pub record Lays (b : Rows) (v : Site) (rs os ts : List ℕ) (l′ : Laid) (rs′
   pub kept : Kept rs os ts l′ rs′ os′ ts′
   pub holds : (g : Forest) → Base (v .base) g none → Lies (g then doneParts b v) (v .laid) rs os ts → Lies (g then steppedAt b (v .step) (v .row)) l′ rs′ os′ ts′
 
--- all properties were laid, of a book that had so many
-pub record LaysAll (ps : List ℕ) (f : Forest) (l : Laid) (rs os ts : List ℕ) : Type 0 where
-  pub lies : Lies f l rs os ts
-  pub few : l .rows ≤ MOST-ROWS + 1
-  pub rooms : Rooms (length rs) (length os) (length ts)
-
--- the rows and operands of an accepted book, and a step that fits
-pub record Steppable (words : List ℕ) (s : Step) : Type 0 where
+-- an accepted book, a step that fits, and room
+pub record Steppable (words : List ℕ) (s : Step) (rs os ts : ℕ) : Type 0 where
   pub ok : loaded words .number ≡ ACCEPTED
   pub fit : fits (loaded words .book .rows) s ≡ true
+  pub rooms : Rooms rs os ts
+
+-- its properties were laid as they are after the step
+pub record LaysAll (words : List ℕ) (s : Step) (l : Laid) (rs os ts : List ℕ) : Type 0 where
+  pub lies : Lies (allAfter (loaded words .book) s) l rs os ts
+  pub rooms : Rooms (length rs) (length os) (length ts)
 
 -- a row's words after a step
 unfoldable pub wordsAt : List ℕ → Form → ℕ → RowWords

@@ -2,14 +2,15 @@
 // the walk ends.
 ghost use mathlib.Core.Path.{_≡_};
 ghost use mathlib.Core.Bool.{Bool, true};
-ghost use Prim.Native.Nat.{_/_, _<_};
-ghost use lib.ListN.{length};
+ghost use mathlib.Core.List.{_++_};
+ghost use Prim.Native.Nat.{_+_, _/_, _<_};
+ghost use lib.ListN.{length, getD};
 ghost use Rattle.numbers.specs.Limits.{ROW-WORDS};
 ghost use Rattle.numbers.specs.Refusals.{ACCEPTED};
 ghost use Rattle.book.specs.Judging.{loaded};
 ghost use Rattle.trees.specs.Walking.{Held, rowsSaid};
 ghost use Rattle.trees.specs.Building.{Rooms};
-ghost use Rattle.tidier.specs.Laying.{fullLaid, kindAfter, overPart, Layable, overAll, wordsAt, Endable, Adds, AddsNot, Ends, Visitable, Lays};
+ghost use Rattle.tidier.specs.Laying.{fullLaid, kindAfter, overPart, Layable, overAll, wordsAt, Endable, Adds, AddsNot, Ends, Visitable, Lays, Steppable, LaysAll};
 use book::NOT;
 use book::ONCE;
 use book::OR;
@@ -241,4 +242,53 @@ fn lay_rest<'a>(
         laid: next,
     };
     lay_rest(source, links, rest, rows, operands, tops)
+}
+
+// A property, assumes first.
+fn property_at<'a>(assumes: &'a [u64], guarantees: &'a [u64], i: usize) -> usize
+    requires { ⌜ i < length (now assumes) + length (now guarantees) ⌝ }
+    ensures { λ r. ⌜ r ≡ getD (now (assumes .entry) ++ now (guarantees .entry)) i 0 ⌝ }
+{
+    let before = assumes.len();
+    if i < before {
+        return assumes[i] as usize;
+    }
+    guarantees[i - before] as usize
+}
+
+// The properties of a book are laid as they are after a step that fits, assumes first.
+pub fn lay_all(
+    book: &[u64],
+    step: Step,
+    rows: &mut [u64],
+    operands: &mut [u64],
+    tops: &mut [u64],
+) -> Laid
+    requires { ⌜ Steppable (now book) step (length (now rows)) (length (now operands)) (length (now tops)) ⌝ }
+    ensures { λ r. ⌜ LaysAll (now (book .entry)) step r (now (rows .exit)) (now (operands .exit)) (now (tops .exit)) ⌝ }
+{
+    let places = place(book);
+    let source = rows_part(book, places);
+    let links = operands_part(book, places);
+    let assumes = assumes_part(book, places);
+    let guarantees = guarantees_part(book, places);
+    let mut laid = Laid {
+        rows: 0,
+        operands: 0,
+        height: 0,
+    };
+    let mut i = 0;
+    while i < assumes.len() + guarantees.len() {
+        let row = target(source, links, step, property_at(assumes, guarantees, i));
+        let site = Site {
+            step,
+            row,
+            left: count_at(source, row),
+            base: laid.height,
+            laid,
+        };
+        laid = lay_rest(source, links, site, rows, operands, tops);
+        i += 1;
+    }
+    laid
 }

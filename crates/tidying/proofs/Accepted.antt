@@ -131,27 +131,28 @@ module _ (a : Sections) (few : Few a) (ok : judged a ≡ 0) (s : Step) (fit : fi
       row-weighs r (omega (arith, rows-there a ok)) (eqb r (s .row)) refl ∙ ap (λ (z : List ℕ). own r + sumOver whole z) (parts-are a ok r h) in
       omega (arith, each, parts-weigh (a .assumes), parts-weigh (a .guarantees), weight-then temporalHead fs gs, weight-then temporalHead (treesOf b (a .assumes)) (treesOf b (a .guarantees)), trees-weigh a ok temporalHead, temporals-same a ok, temporals-fit a ok)
 
+  -- ---- as many properties
+  good-a : Good fs
+  unfolding steppedOf
+  good-a = sane (a .assumes) assumes-low .good
+
+  good-g : Good gs
+  unfolding steppedOf
+  good-g = sane (a .guarantees) guarantees-low .good
+
+  pub count-a : count fs ≡ length (a .assumes)
+  unfolding steppedOf
+  count-a = sane (a .assumes) assumes-low .counted ∙ length-map (a .assumes) st
+
+  pub count-g : count gs ≡ length (a .guarantees)
+  unfolding steppedOf
+  count-g = sane (a .guarantees) guarantees-low .counted ∙ length-map (a .guarantees) st
+
   -- ---- accepted, with the trees after the step
   module _ (short : pastLimit (fs then gs) ≡ false) where
     few-rows : size (fs then gs) ≤ MOST-ROWS
     unfolding pastLimit
     few-rows = ltb-false MOST-ROWS (size (fs then gs)) (neither (ltb MOST-ROWS (size (fs then gs))) (ltb MOST-OPERANDS (length (allOperands (entries 0 (fs then gs))))) short)
-
-    good-a : Good fs
-    unfolding steppedOf
-    good-a = sane (a .assumes) assumes-low .good
-
-    good-g : Good gs
-    unfolding steppedOf
-    good-g = sane (a .guarantees) guarantees-low .good
-
-    count-a : count fs ≡ length (a .assumes)
-    unfolding steppedOf
-    count-a = sane (a .assumes) assumes-low .counted ∙ length-map (a .assumes) st
-
-    count-g : count gs ≡ length (a .guarantees)
-    unfolding steppedOf
-    count-g = sane (a .guarantees) guarantees-low .counted ∙ length-map (a .guarantees) st
 
     pub step-accepted : loaded (wordsOf fs gs) .number ≡ ACCEPTED
     unfolding steppedOf

@@ -75,6 +75,10 @@ module _ (a : Sections) (few : Few a) (ok : judged a ≡ 0) (s : Step) (q : Righ
 step-keeps : (ws : List ℕ) → loaded ws .number ≡ ACCEPTED → (s : Step) → stepNumber (loaded ws .book) s ≡ ACCEPTED → Stepped (loaded ws .book) s (wordsAfter (loaded ws .book) s)
 step-keeps ws ok s e = let x = accepted-words ws ok in rw (x .book-is) (stepped (x .all) (x .few) (x .ok) s (right (bookIn (x .all)) s (rw (x .book-is) at e)))
 
+-- a step that is accepted gives an accepted book
+pub step-gives : (ws : List ℕ) → loaded ws .number ≡ ACCEPTED → (s : Step) → stepNumber (loaded ws .book) s ≡ ACCEPTED → loaded (wordsAfter (loaded ws .book) s) .number ≡ ACCEPTED
+step-gives ws ok s e = step-keeps ws ok s e .accepted
+
 -- ---- one after another
 kept-none : (b : Book) → Kept b b (Unit {0})
 kept-none b = record { same = record { refusals = λ ks k. refl; values = λ ks. refl; settleds = λ ks. refl; assumed = refl }; same-early = λ u ks. refl }

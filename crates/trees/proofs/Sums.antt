@@ -151,6 +151,13 @@ pub below-append : (n : ℕ) (xs ys : List ℕ) → AllBelow n xs → AllBelow n
 below-append n [] ys p q = q
 below-append n (x ∷ xs) ys p q = (p .0, below-append n xs ys (p .1) q)
 
+under : (n : ℕ) (xs : List ℕ) → ((i : ℕ) → i < length xs → getD xs i 0 < n) → AllBelow n xs
+under n xs f = rw (take-length xs) at (all-below n (length xs) xs (omega arith) f)
+
+uses-below : (s : Sections) → judged s ≡ 0 → AllBelow (rowsIn s) (usesOf s)
+uses-below s ok = let n = rowsIn s in below-append n (s .operands ++ s .assumes) (s .guarantees)
+    (below-append n (s .operands) (s .assumes) (under n (s .operands) (linked-operand s (links s ok))) (under n (s .assumes) (assume-below s ok))) (under n (s .guarantees) (guarantee-below s ok))
+
 -- ---- where each row has its own weight and that of its operands, the properties of an accepted book weigh what its rows do
 module _ (s : Sections) (ok : judged s ≡ 0) (own whole : ℕ → ℕ) (each : (r : ℕ) → r < rowsIn s → whole r ≡ own r + sumOver whole (operandsAt s ok r)) where
   abbrev n : ℕ
@@ -164,16 +171,9 @@ module _ (s : Sections) (ok : judged s ≡ 0) (own whole : ℕ → ℕ) (each : 
       ∙ sym (ap (sumOver whole) (take-add (startIn (s .rows) m) (countOf (kindIn (s .rows) m) (argIn (s .rows) m)) (s .operands))
       ∙ sum-append whole (take (startIn (s .rows) m) (s .operands)) (operandsAt s ok m))
 
-  under : (xs : List ℕ) → ((i : ℕ) → i < length xs → getD xs i 0 < n) → AllBelow n xs
-  under xs f = rw (take-length xs) at (all-below n (length xs) xs (omega arith) f)
-
-  uses-below : AllBelow n (usesOf s)
-  uses-below = below-append n (s .operands ++ s .assumes) (s .guarantees)
-      (below-append n (s .operands) (s .assumes) (under (s .operands) (linked-operand s (links s ok))) (under (s .assumes) (assume-below s ok))) (under (s .guarantees) (guarantee-below s ok))
-
   pub properties-weigh : sumOver whole (s .assumes) + sumOver whole (s .guarantees) ≡ sumTo own n
   properties-weigh =
-      let all = all-once whole n (usesOf s) uses-below (used s ok) in
+      let all = all-once whole n (usesOf s) (uses-below s ok) (used s ok) in
       let parts = sum-agree whole (λ r. own r + sumOver whole (operandsAt s ok r)) n each ∙ sum-plus own (λ r. sumOver whole (operandsAt s ok r)) n in
       let taken = operands-weigh n ∙ ap (λ (z : ℕ). sumOver whole (take z (s .operands))) (operands-taken s ok) ∙ ap (sumOver whole) (take-length (s .operands)) in
       omega (arith, all, parts, taken, sum-append whole (s .operands ++ s .assumes) (s .guarantees), sum-append whole (s .operands) (s .assumes))
