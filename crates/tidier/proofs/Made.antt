@@ -187,12 +187,13 @@ module _ {words₀ steps words : List ℕ} {end length′ i : ℕ} (x : Owed wor
         }
 
     pub owed-refused : (r .number ≡ ACCEPTED → ⊥) → Steps words₀ end steps (record { number = r .number; step = i + 1; length = 0 }) words′
+    unfolding TidiedAs
     owed-refused z =
         let e = next false (ne-eqb (stepNumber bk s) ACCEPTED (λ y. z (m .number-is ∙ y))) in
         record { made = rw (← e) (m .number-is, omega arith, refl); size = m .size ∙ x .size }
 
   pub owed-done : length steps / 2 ≤ i → Steps words₀ end steps (record { number = ACCEPTED; step = 0; length = length′ }) words
-  unfolding tidiedFrom
+  unfolding tidiedFrom TidiedAs
   owed-done h =
       let n : i ≡ length (stepsOf steps) = omega (arith, x .low, steps-length steps) in
       let d : drop i (stepsOf steps) ≡ [] = ap (λ (k : ℕ). drop k (stepsOf steps)) n ∙ drop-length (stepsOf steps) in

@@ -16,7 +16,7 @@ use Rattle.tidier.specs.declared.tidy.Stepped.{Stepped}
 use Rattle.tidier.specs.declared.tidy.Tidied.{Tidied}
 
 -- what tidying hands back: its number and step, and the words of the new book
-abbrev pub TidiedAs : Tidying → Tidied → List ℕ → Type 0
+unfoldable pub TidiedAs : Tidying → Tidied → List ℕ → Type 0
 TidiedAs (done ws) r out = (r .number ≡ ACCEPTED) × (r .step ≡ 0) × (take (r .length) out ≡ ws) × (r .length ≤ length out)
 TidiedAs (refused n k) r out = (r .number ≡ n) × (r .step ≡ k) × (r .length ≡ 0)
 

@@ -9,13 +9,13 @@ ghost use Rattle.trees.specs.Putting.{MOST-WORDS};
 ghost use Rattle.tidying.specs.Steps.{formOf, fits as Steps·fits};
 ghost use Rattle.tidying.specs.Tidied.{tidied, stepsOf};
 ghost use Rattle.tidier.specs.Tidies.{stepAt, refusedStep, Standing, Fitting, Counting, Makes, Steps, TidiedAs};
+use crate::fit::fits;
+use crate::lay::Laid;
+use crate::lay::lay_all;
 use book::check::Places;
 use book::check::operands_part;
 use book::check::place;
 use book::check::rows_part;
-use crate::fit::fits;
-use crate::lay::Laid;
-use crate::lay::lay_all;
 use numbers::ACCEPTED;
 use numbers::DOES_NOT_FIT;
 use numbers::MOST_ROWS;
@@ -55,11 +55,7 @@ fn fits_book(book: &[u64], step: Step) -> bool
     ensures { λ r. ⌜ r ≡ Steps·fits (loaded (now (book .entry)) .book .rows) step ⌝ }
 {
     let places = place(book);
-    fits(
-        rows_part(book, places),
-        operands_part(book, places),
-        step,
-    )
+    fits(rows_part(book, places), operands_part(book, places), step)
 }
 
 // How many there are of everything in the book after a step.

@@ -10,20 +10,13 @@ use Rattle.text.specs.Words.{Supply, supply}
 use Rattle.text.specs.Decimals.{decimal}
 use Rattle.book.specs.Reading.{Read, got, refused, Sections, sections}
 use Rattle.book.specs.Judging.{Loaded, loadedFrom}
+use Rattle.text_reader.specs.Reads.{leftIn}
 use Rattle.book_writer.specs.Layout.{bookWord, ended}
 use Rattle.rule_printer.specs.Printing.{bookPrinted}
 
 -- the line of a refusal
 unfoldable pub refusedLine : ℕ → List ℕ
 refusedLine n = (bookWord ++ decimal n) ++ ended
-
--- what follows a book that takes up all of a text: nothing, or a word too many, or a bad one
-unfoldable pub leftIn : List ℕ → ℕ → ℕ
-leftIn [] ending = cond (eqb ending BAD-WORD) BAD-WORD ACCEPTED
-leftIn (w ∷ ws) ending = WRONG-LENGTH
-
-abbrev pub leftOver : Supply → ℕ
-leftOver t = leftIn (t .words) (t .ending)
 
 -- an accepted book as text, else its refusal
 unfoldable pub loadedSaid : Loaded → List ℕ

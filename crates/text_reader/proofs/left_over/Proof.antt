@@ -1,33 +1,33 @@
-use Rattle.write_rules.proofs.Saying.{left-word, left-bad, left-none}
+use Rattle.text_reader.proofs.Left.{left-word, left-bad, left-none}
 use mathlib.Core.Path.{sym, _∙_}
 use borrow.Author.Needs.{needs}
-use Rattle.write_rules.proofs.left_over.Statement.{statement}
-use Rattle.write_rules.proofs.left_over.Tie as tie
-use Rattle.write_rules.proofs.left_over.Reads as reads
-use Rattle.write_rules.proofs.left_over.Lts as lts
+use Rattle.text_reader.proofs.left_over.Statement.{statement}
+use Rattle.text_reader.proofs.left_over.Tie as tie
+use Rattle.text_reader.proofs.left_over.Reads as reads
+use Rattle.text_reader.proofs.left_over.Lts as lts
 use Rattle.text.proofs.next_word.Reads as next-word-reads
 
--- src/main.rt:41:9
+-- src/lib.rt:41:9
 next-word-requires : tie.Need-next-word-requires
 next-word-requires c κs = search needs
 
--- src/main.rt:42:23
+-- src/lib.rt:42:23
 enum-known-r : tie.Need-enum-known-r
 enum-known-r c = search needs
 
--- src/main.rt:43:9
+-- src/lib.rt:43:9
 enum-told : tie.Need-enum-told
 enum-told c = search needs
 
--- src/main.rt:43:9
+-- src/lib.rt:43:9
 returns : tie.Need-returns
 returns c = left-word _ _ (sym (c .before .before .next-word .ensures) ∙ c .enum-told .given .1)
 
--- src/main.rt:46:9
+-- src/lib.rt:46:9
 returns-2 : tie.Need-returns-2
 returns-2 c = left-bad _ _ (sym (c .before .before .before .before .next-word .ensures) ∙ c .before .before .r .given .1) (c .if1 .taken)
 
--- src/main.rt:38:1
+-- src/lib.rt:38:1
 returns-3 : tie.Need-returns-3
 returns-3 c = left-none _ _ (sym (c .before .before .before .before .next-word .ensures) ∙ c .before .before .r .given .1) (c .if1 .left)
 
