@@ -9,10 +9,10 @@ use lib.Dec.{ltb, eqb}
 use Rattle.numbers.specs.Limits.{MOST-ATOMS}
 use Rattle.numbers.specs.Refusals.{ACCEPTED, PAST-LIMIT, TOO-NARROW, NOT-A-BIT, NO-ROOM}
 use Rattle.pmtl.specs.Book.{Rows, rowAt, Ordered, widthOf, some}
-use Rattle.pmtl.specs.Monitor.{Snap, State, value, step}
+use Rattle.pmtl.specs.Monitor.{Snap, State, fullest, value, step}
 use Rattle.pmtl.specs.Early.{early}
 use Rattle.pmtl.specs.Settled.{settled}
-use Rattle.pmtl.specs.Calls.{Call, time, state, turns, refusal, crowded, Outcome, play, call, after, History, onto, accepted}
+use Rattle.pmtl.specs.Calls.{Call, time, state, stamped, timed, turns, timeRefusal, stateRefusal, firstOf, refusal, crowded, Outcome, play, call, after, History, onto, accepted}
 use Rattle.pmtl.specs.Past.{runBy, run}
 use Rattle.pmtl.proofs.History.{now-run}
 use Rattle.pmtl.proofs.Calls.{trail}
@@ -27,7 +27,7 @@ use Rattle.tidying.specs.Steps.{partsAt, fits}
 use Rattle.tidying.proofs.Saying.{Pairs, pairs-map, Says}
 use Rattle.tidying.proofs.Values.{now-same, values-same}
 use Rattle.tidying.proofs.Answers.{early-same, settled-same}
-use Rattle.tidying.proofs.Totals.{wide, crowded-same}
+use Rattle.tidying.proofs.Totals.{wide, crowded-same, most-same}
 
 module _ (a a′ : Sections) (ok : judged a ≡ 0) (ok′ : judged a′ ≡ 0) (s : Step) (fit : fits (bookIn a .rows) s ≡ true)
     (good-row : (r : ℕ) → r < length (bookIn a .rows) → HeadGood (headIn (rowAt (bookIn a .rows) r)) (length (partsAt (bookIn a .rows) r)))
@@ -70,14 +70,19 @@ module _ (a a′ : Sections) (ok : judged a ≡ 0) (ok′ : judged a′ ≡ 0) (
           ≡ (elim z′ as (λ x. Outcome) [ true ↦ record { number = NO-ROOM; state = old′ } | false ↦ play b′ old′ (run b′ (n ∷ h)) ns ]) .number
       by-test z z′ e rest = at z rest ∙ ap (λ q. (elim q as (λ x. Outcome) [ true ↦ record { number = NO-ROOM; state = old′ } | false ↦ play b′ old′ (run b′ (n ∷ h)) ns ]) .number) e
 
+  state-same : (bytes : List ℕ) → stateRefusal b bytes ≡ stateRefusal b′ bytes
+  state-same bytes = ap (λ (m : ℕ). cond (ltb MOST-ATOMS (length bytes)) PAST-LIMIT (cond (ltb (length bytes) m) TOO-NARROW (cond (some (ltb 1) bytes) NOT-A-BIT ACCEPTED))) width
+
   refusal-same : (n : Snap) (k : Call) → refusal b n k ≡ refusal b′ n k
   unfolding refusal
   refusal-same n (time t) = refl
-  refusal-same n (state bytes) = ap (λ (m : ℕ). cond (ltb MOST-ATOMS (length bytes)) PAST-LIMIT (cond (ltb (length bytes) m) TOO-NARROW (cond (some (ltb 1) bytes) NOT-A-BIT ACCEPTED))) width
+  refusal-same n (state bytes) = state-same bytes
+  refusal-same n (stamped t bytes) = ap (firstOf (timeRefusal n t)) (state-same bytes)
 
   turns-same : (n : Snap) (k : Call) → turns b n k ≡ turns b′ n k
   turns-same n (time t) = refl
   turns-same n (state bytes) = ap (λ (m : ℕ). record { clock = n .clock; atoms = map (λ x. eqb x 1) (take m bytes) } ∷ []) width
+  turns-same n (stamped t bytes) = ap (λ (m : ℕ). timed n t ∷ record { clock = t; atoms = map (λ x. eqb x 1) (take m bytes) } ∷ []) width
 
   run-now : (h : History) → run b h .now ≡ run b′ h .now
   run-now h = now-run b h ∙ now-same b w s fit good-row b′ w′ width h ∙ sym (now-run b′ h)
@@ -129,6 +134,9 @@ module _ (a a′ : Sections) (ok : judged a ≡ 0) (ok′ : judged a′ ≡ 0) (
 
     after′ : after b′ calls ≡ run b′ h
     after′ = trail b′ calls .is ∙ ap (run b′) (sym (accepted-same calls))
+
+    pub count-same : fullest (after b calls) ≡ fullest (after b′ calls)
+    count-same = ap fullest (trail b calls .is) ∙ most-same a a′ ok ok′ s fit good-row pairs h ∙ sym (ap fullest after′)
 
     -- of each property, in order
     each : {A : Type 0} (f : Rows → State → ℕ → A) → ((r r′ : ℕ) → Says b w s fit good-row b′ w′ r r′ → f b (run b h) r ≡ f b′ (run b′ h) r′) → map (f b (after b calls)) ps ≡ map (f b′ (after b′ calls)) ps′

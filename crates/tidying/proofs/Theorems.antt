@@ -1,5 +1,5 @@
--- REFERENCE 12.3: a book tidied by an accepted list of steps is accepted, and on every list of calls it gives the same refusals, values
--- and settled answers; and the same early answers where no step goes from Implies to Or. Nothing is assumed.
+-- REFERENCE 12.3: a book tidied by an accepted list of steps is accepted, and on every list of calls it gives the same refusals, counts,
+-- values and settled answers; and the same early answers where no step goes from Implies to Or. Nothing is assumed.
 use Prim.Native.Nat.{ℕ, suc, _+_, _≤_, _<_}
 use mathlib.Core.Path.{_≡_, refl, sym, ap, _∙_}
 use mathlib.Core.Logic.{_⊎_, inl, inr}
@@ -21,7 +21,7 @@ use Rattle.tidying.specs.declared.Step.{Step}
 use Rattle.tidying.specs.Steps.{fits, allAfter, wordsAfter, pastLimit}
 use Rattle.tidying.specs.Tidied.{stepNumber, Tidying, done, refused, tidiedFrom, tidied, Same, SameEarly, keepsEarly, NoImplication}
 use Rattle.tidying.proofs.Accepted.{good-row, step-accepted, after-step, properties-say, assumes-many}
-use Rattle.tidying.proofs.Calls.{number-same, value-same, settled-answers, early-answers}
+use Rattle.tidying.proofs.Calls.{number-same, count-same, value-same, settled-answers, early-answers}
 
 -- ---- a step that is accepted
 pub record Kept (b b′ : Book) (early : Type 0) : Type 0 where
@@ -65,6 +65,7 @@ module _ (a : Sections) (few : Few a) (ok : judged a ≡ 0) (s : Step) (q : Righ
           same = record {
             refusals = number-same a a′ ok (x .ok) s fit good pairs;
             values = value-same a a′ ok (x .ok) s fit good pairs;
+            counts = count-same a a′ ok (x .ok) s fit good pairs;
             settleds = settled-answers a a′ ok (x .ok) s fit good pairs;
             assumed = assumes-many a few ok s fit (q .short);
           };
@@ -81,13 +82,14 @@ step-gives ws ok s e = step-keeps ws ok s e .accepted
 
 -- ---- one after another
 kept-none : (b : Book) → Kept b b (Unit {0})
-kept-none b = record { same = record { refusals = λ ks k. refl; values = λ ks. refl; settleds = λ ks. refl; assumed = refl }; same-early = λ u ks. refl }
+kept-none b = record { same = record { refusals = λ ks k. refl; counts = λ ks. refl; values = λ ks. refl; settleds = λ ks. refl; assumed = refl }; same-early = λ u ks. refl }
 
 kept-then : {b b₁ b₂ : Book} {p q : Type 0} → Kept b b₁ p → Kept b₁ b₂ q → Kept b b₂ (p × q)
 kept-then x y = record {
   same = record {
     refusals = λ ks k. x .same .refusals ks k ∙ y .same .refusals ks k;
     values = λ ks. x .same .values ks ∙ y .same .values ks;
+    counts = λ ks. x .same .counts ks ∙ y .same .counts ks;
     settleds = λ ks. x .same .settleds ks ∙ y .same .settleds ks;
     assumed = x .same .assumed ∙ y .same .assumed;
   };

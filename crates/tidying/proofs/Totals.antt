@@ -16,11 +16,12 @@ use Rattle.pmtl.specs.Answer.{bitOf}
 use Rattle.pmtl.specs.Book.{Range, Row, mapRow, Rows, rowAt, Ordered, atomWidth, widthOf, answer, some}
 use Rattle.pmtl.specs.Book.Row.{never, always, atom, conj, disj, neg, implies, historically, once, since}
 use Rattle.pmtl.specs.Sets.{setRuleBy, setRule}
-use Rattle.pmtl.specs.Monitor.{initial, value}
+use Rattle.pmtl.specs.Monitor.{fullest, initial, value}
 use Rattle.pmtl.specs.Calls.{crowded, History}
 use Rattle.pmtl.specs.Past.{runBy, run}
 use Rattle.pmtl.proofs.Table.{answer-in}
 use Rattle.pmtl.proofs.Answers.{step-sets}
+use Rattle.pmtl.proofs.Fullest.{same-most}
 use Rattle.book.specs.Reading.{Sections}
 use Rattle.book.specs.Judging.{rowsIn, judged, bookIn}
 use Rattle.trees.specs.Forest.{Head}
@@ -247,6 +248,9 @@ module _ (a a′ : Sections) (ok : judged a ≡ 0) (ok′ : judged a′ ≡ 0) (
       -- so the fullest sets of both have the same number of runs
       pub fuller-same : some fuller (run b h .sets) ≡ some fuller (run b′ h .sets)
       fuller-same = some-fuller b w ∙ ap (ltb 0) (totals _ _ set-owns pairs) ∙ sym (some-fuller b′ w′)
+
+    pub most-same : (h : History) → fullest (run b h) ≡ fullest (run b′ h)
+    most-same h = same-most (run b h .sets) (run b′ h .sets) (fuller-same h)
 
     pub crowded-same : (h : History) → crowded (run b h) ≡ crowded (run b′ h)
     unfolding crowded

@@ -7,7 +7,7 @@ use lib.ListN.{length}
 use lib.Dec.{eqb}
 use Rattle.numbers.specs.Refusals.{ACCEPTED, PAST-LIMIT, DOES-NOT-FIT}
 use Rattle.pmtl.specs.Book.{Rows, Book, properties}
-use Rattle.pmtl.specs.Monitor.{value}
+use Rattle.pmtl.specs.Monitor.{fullest, value}
 use Rattle.pmtl.specs.Early.{early}
 use Rattle.pmtl.specs.Settled.{settled}
 use Rattle.pmtl.specs.Calls.{Call, call, after}
@@ -52,6 +52,8 @@ answersOf f b calls = map (f (b .rows) calls) (properties b)
 pub record Same (b b′ : Book) : Type 0 where
   -- each call has the same number
   pub refusals : (calls : List Call) (k : Call) → call (b .rows) (after (b .rows) calls) k .number ≡ call (b′ .rows) (after (b′ .rows) calls) k .number
+  -- the fullest sets have as many runs
+  pub counts : (calls : List Call) → fullest (after (b .rows) calls) ≡ fullest (after (b′ .rows) calls)
   -- each property the same value and the same settled answer
   pub values : (calls : List Call) → answersOf (λ b ks. value b (after b ks)) b calls ≡ answersOf (λ b ks. value b (after b ks)) b′ calls
   pub settleds : (calls : List Call) → answersOf (λ b ks. settled b (after b ks)) b calls ≡ answersOf (λ b ks. settled b (after b ks)) b′ calls
