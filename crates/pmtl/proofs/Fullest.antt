@@ -1,5 +1,5 @@
 -- How full the fullest set of a monitor is: no set has more runs, it is 0 for a fresh monitor, and it never passes the limit. Assumes nothing.
-use Prim.Native.Nat.{ℕ, zero, suc, max, _≤_, _<_}
+use Prim.Native.Nat.{ℕ, zero, suc, _≤_, _<_}
 use native.Mathlib.Omega.{arith}
 use mathlib.Core.Path.{_≡_, refl, sym, _∙_}
 use mathlib.Core.Bool.{Bool, true, false}
@@ -12,7 +12,7 @@ use Rattle.numbers.specs.Limits.{MOST-RUNS}
 use Rattle.lists.proofs.Tests.{lt-or-ge, clash, fails-by, or-left, or-right}
 use Rattle.numset.specs.Runs.{Runs}
 use Rattle.pmtl.specs.Book.{Rows, some}
-use Rattle.pmtl.specs.Monitor.{Snap, State, setAt, mostRuns, fullest, initial, step}
+use Rattle.pmtl.specs.Monitor.{Snap, State, mostRuns, fullest, initial, step}
 use Rattle.pmtl.specs.Calls.{Call, turns, refusal, crowded, Outcome, play, call, after}
 
 -- no set has more runs

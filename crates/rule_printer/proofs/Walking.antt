@@ -10,14 +10,13 @@ use lib.Dec.{eqb}
 use borrow.Author.Tests.{eq-eqb, ne-eqb}
 use Rattle.numbers.specs.Limits.{ROW-WORDS}
 use Rattle.text.specs.Words.{lineFeed}
-use Rattle.lists.specs.Lists.{part}
 use Rattle.lists.proofs.Parts.{part-at}
 use Rattle.pmtl.specs.Book.{Rows, rowAt, Ordered}
 use Rattle.book.specs.Rows.{countOf}
 use Rattle.book.specs.Judging.{kindIn, argIn, lowerIn, upperIn, startIn}
 use Rattle.buffer_writer.specs.Finish.{Wrote}
 use Rattle.buffer_writer.proofs.Writes.{and-then, same-bytes}
-use Rattle.trees.specs.Forest.{Head, headOf, Forest, tree, one, _then_}
+use Rattle.trees.specs.Forest.{Head, headOf, Forest, tree, _then_}
 use Rattle.trees.specs.Building.{wordOf, atomOf}
 use Rattle.trees.specs.Books.{headIn, partsIn, joined, treeAt, treesOf}
 use Rattle.trees.proofs.Books.{tree-in}

@@ -1,5 +1,4 @@
 // A property of a book, written as its rows are walked: the parts of a row have lower numbers than it, so the walk ends.
-ghost use mathlib.Core.Path.{_≡_};
 ghost use mathlib.Core.List.{_∷_};
 ghost use Prim.Native.Nat.{_/_, _<_};
 ghost use lib.ListN.{length};

@@ -1,27 +1,25 @@
 -- Laws of reading steps, and of the words of a book that was read. Assumes nothing.
-use Prim.Native.Nat.{ℕ, zero, suc, _+_, _*_, _/_, _≤_, _<_}
+use Prim.Native.Nat.{ℕ, _+_, _*_, _/_, _≤_}
 use mathlib.Core.Path.{_≡_, refl, sym, ap, ap₂, _∙_}
 use mathlib.Core.Bool.{Bool, true, false, cond}
 use mathlib.Core.List.{List, [], _∷_, _++_, append-nil}
 use native.Mathlib.Omega.{arith}
-use lib.ListN.{length, take, drop, length-append, length-drop, take-append-drop}
+use lib.ListN.{length, take, drop, length-drop, take-append-drop}
 use lib.Seq.{length-take-le}
 use lib.Dec.{ltb}
 use borrow.Author.Tests.{lt-ltb, le-ltb, ltb-false}
 use Rattle.numbers.specs.Limits.{LONGEST-INPUT, MOST-ROWS, MOST-OPERANDS, MOST-ASSUMES, MOST-GUARANTEES, ROW-WORDS}
-use Rattle.numbers.specs.Refusals.{ACCEPTED, PAST-LIMIT}
+use Rattle.numbers.specs.Refusals.{PAST-LIMIT}
 use Rattle.text.specs.Words.{nextWord, supplyFrom}
 use Rattle.text.specs.declared.words.Read as text
 use Rattle.text.proofs.Supplies.{word, refused as ended}
 use Rattle.text.proofs.Few.{few-words}
-use Rattle.text_reader.specs.Reads.{Took, Ended, WordsTook, WordsRead}
+use Rattle.text_reader.specs.Reads.{Ended, WordsTook, WordsRead}
 use Rattle.text_reader.specs.declared.Part.{Part}
 use Rattle.text_reader.specs.declared.Part.the-variants.{Words, Refused}
 use Rattle.book.specs.Reading.{Read, got, refused, section, next, Sections, sections}
-use Rattle.book.specs.Judging.{loaded}
-use Rattle.trees.proofs.Loaded.{accepted-words}
 use Rattle.tidied.specs.Answers.{STEP-WORDS, stepsIn, wordsIn}
-use Rattle.tidied.specs.Private.{STEPS-ROOM, BOOK-WORDS, StepsTook, StepsRead}
+use Rattle.tidied.specs.Private.{STEPS-ROOM, StepsTook, StepsRead}
 
 -- ---- steps
 module _ (input : List ℕ) (cursor : ℕ) where
@@ -98,36 +96,3 @@ sections-words x s e =
     let h : a .1 ≡ (length (b .0) ∷ b .0) ++ ((length (c .0) ∷ c .0) ++ (length (d .0) ∷ d .0)) = q .2 ∙ ap₂ (λ (n : ℕ) (z : List ℕ). n ∷ b .0 ++ z) nq f in
     p .2 ∙ ap₂ (λ (n : ℕ) (z : List ℕ). n ∷ a .0 ++ z) np h
     ∙ ap (λ (k : Sections). (length (k .rows) / ROW-WORDS ∷ k .rows) ++ ((length (k .operands) ∷ k .operands) ++ ((length (k .assumes) ∷ k .assumes) ++ (length (k .guarantees) ∷ k .guarantees)))) (sym u)
-
--- a book that is read has no more words than its limits allow
-pub sections-short : (x : List ℕ) (s : Sections) → sections 1 x ≡ got s [] → length x ≤ BOOK-WORDS
-unfolding sections
-sections-short x s e =
-    let a = next-got (section 1 MOST-ROWS ROW-WORDS x) _ e in
-    let b = next-got (section 1 MOST-OPERANDS 1 (a .1)) _ (a .3) in
-    let c = next-got (section 1 MOST-ASSUMES 1 (b .1)) _ (b .3) in
-    let d = next-got (section 1 MOST-GUARANTEES 1 (c .1)) _ (c .3) in
-    let v : d .1 ≡ [] = cc (d .3) in
-    let p = section-words MOST-ROWS ROW-WORDS x (a .0) (a .1) (a .2) in
-    let q = section-words MOST-OPERANDS 1 (a .1) (b .0) (b .1) (b .2) in
-    let r = section-words MOST-ASSUMES 1 (b .1) (c .0) (c .1) (c .2) in
-    let t = section-words MOST-GUARANTEES 1 (c .1) (d .0) (d .1) (d .2) in
-    omega (
-      arith,
-      p .1,
-      p .3,
-      q .1,
-      q .3,
-      r .1,
-      r .3,
-      t .1,
-      t .3,
-      ap length v,
-      ap length (p .2) ∙ ap suc (length-append (a .0) (a .1)),
-      ap length (q .2) ∙ ap suc (length-append (b .0) (b .1)),
-      ap length (r .2) ∙ ap suc (length-append (c .0) (c .1)),
-      ap length (t .2) ∙ ap suc (length-append (d .0) (d .1)),
-    )
-
-pub accepted-short : (x : List ℕ) → loaded x .number ≡ ACCEPTED → length x ≤ BOOK-WORDS
-accepted-short x h = let a = accepted-words x h in sections-short x (a .all) (a .read)

@@ -1,20 +1,18 @@
 -- Laws of what the program that tidies a book prints. Assumes nothing.
 use Prim.Native.Nat.{ℕ, _+_, _≤_, _<_}
 use mathlib.Core.Path.{_≡_, refl, sym, ap, ap₂, _∙_}
-use mathlib.Core.Bool.{cond}
-use mathlib.Core.List.{List, [], _∷_, _++_}
+use mathlib.Core.List.{List, _++_}
 use mathlib.Core.Logic.{⊎-elim}
 use native.Mathlib.Omega.{arith}
 use lib.ListN.{length, take}
-use lib.Dec.{eqb}
 use borrow.Author.Tests.{lt-ltb, le-ltb, eq-eqb, ne-eqb}
 use Rattle.numbers.specs.Limits.{LONGEST-INPUT}
 use Rattle.numbers.specs.Refusals.{ACCEPTED, PAST-LIMIT}
 use Rattle.text.specs.Words.{supplyFrom}
-use Rattle.book.specs.Reading.{got, refused}
+use Rattle.book.specs.Reading.{refused}
 use Rattle.book.specs.Judging.{loaded, loadedFrom, whole}
 use Rattle.book_writer.specs.Layout.{bookWord, bookSaid}
-use Rattle.text_reader.specs.Reads.{leftIn, leftOver, partNumber, BookTook, BookRead}
+use Rattle.text_reader.specs.Reads.{leftIn, leftOver, BookTook, BookRead}
 use Rattle.text_reader.specs.declared.Part.{Part}
 use Rattle.text_reader.specs.declared.Part.the-variants as part
 use Rattle.tidying.specs.Tidied as tidying
@@ -22,7 +20,7 @@ use Rattle.tidying.specs.Tidied.{Tidying, tidied, stepsOf}
 use Rattle.tidying.proofs.Theorems.{tidied-accepted, refused-with}
 use Rattle.tidier.specs.Tidies.{TidiedAs}
 use Rattle.tidier.specs.declared.tidy.Tidied.{Tidied}
-use Rattle.tidied.specs.Answers.{tidyWord, stopWord, numberLine, refusalLine, tidySaid, stepsIn, stepsSaid, wordsIn, bookThen, wordsSaid, answerTo}
+use Rattle.tidied.specs.Answers.{tidyWord, stopWord, numberLine, refusalLine, tidySaid, stepsSaid, wordsIn, bookThen, wordsSaid, answerTo}
 use Rattle.tidied.specs.Private.{StepsTook, StepsRead, stepsAfter}
 use Rattle.tidied.proofs.Reading.{sections-words}
 
@@ -45,7 +43,7 @@ module _ (book steps : List ℕ) (ok : loaded book .number ≡ ACCEPTED) (r : Ti
       by-outcome (tidying.refused m k) e y = absurd (⊎-elim (λ u. omega (arith, u, y .0, z)) (λ u. omega (arith, u, y .0, z)) (refused-with book (stepsOf steps) ok m k e .0))
 
   pub new-accepted : (ws : List ℕ) → r .number ≡ ACCEPTED → ws ≡ take (r .length) out → loaded ws .number ≡ ACCEPTED
-  new-accepted ws z e = rw e (tidied-accepted book (stepsOf steps) ok (take (r .length) out) (is-done z .0))
+  new-accepted ws z e = rw e (tidied-accepted book (stepsOf steps) (take (r .length) out) (is-done z .0))
 
   pub said-done : (ws : List ℕ) → r .number ≡ ACCEPTED → ws ≡ take (r .length) out → numberLine tidyWord ACCEPTED ++ bookSaid ws ≡ tidySaid (tidied book (stepsOf steps))
   unfolding tidySaid

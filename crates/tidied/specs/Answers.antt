@@ -6,7 +6,7 @@ use lib.ListN.{length, take, drop}
 use lib.Dec.{ltb, eqb}
 use Rattle.numbers.specs.Limits.{LONGEST-INPUT, ROW-WORDS}
 use Rattle.numbers.specs.Refusals.{ACCEPTED, PAST-LIMIT}
-use Rattle.text.specs.Words.{space, Supply, supply}
+use Rattle.text.specs.Words.{space, supply}
 use Rattle.text.specs.Decimals.{decimal}
 use Rattle.text_reader.specs.Reads.{leftIn}
 use Rattle.book.specs.Reading.{Read, got, refused, Sections, sections}

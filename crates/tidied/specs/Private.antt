@@ -1,9 +1,8 @@
 -- Steps of reading the text of steps. No public contract cites these. Definitions only.
-use Prim.Native.Nat.{ℕ, _+_, _*_, _≤_}
+use Prim.Native.Nat.{ℕ, _≤_}
 use mathlib.Core.Path.{_≡_}
 use mathlib.Core.List.{List}
 use lib.ListN.{length, take}
-use Rattle.numbers.specs.Limits.{MOST-ROWS, MOST-OPERANDS, MOST-ASSUMES, MOST-GUARANTEES, ROW-WORDS}
 use Rattle.text.specs.Words.{supplyFrom}
 use Rattle.text_reader.specs.declared.Part.{Part}
 use Rattle.text_reader.specs.declared.Part.the-variants.{Words, Refused}
@@ -13,10 +12,6 @@ use Rattle.tidied.specs.Answers.{stepsIn, stepsSaid}
 -- no input holds so many words of steps
 abbrev pub STEPS-ROOM : ℕ
 STEPS-ROOM = 32770
-
--- the most words of a book
-abbrev pub BOOK-WORDS : ℕ
-BOOK-WORDS = ROW-WORDS * MOST-ROWS + MOST-OPERANDS + MOST-ASSUMES + MOST-GUARANTEES + 4
 
 -- the steps were read: they stand at the start of a memory
 pub record StepsTook (input : List ℕ) (cursor : ℕ) (m : List ℕ) (end next : ℕ) : Type 0 where

@@ -25,8 +25,8 @@ use text_reader::left_over;
 use text_reader::number_of;
 use text_reader::part_number;
 use text_reader::words_into;
-use tidier::tidy::Tidied;
 use tidier::tidy::tidy;
+use trees::book_words::MOST_WORDS;
 
 // A byte more than the longest input that is read, so that a longer one is seen to be longer.
 const ROOM: usize = LONGEST_INPUT + 1;
@@ -39,7 +39,7 @@ const STEPS: u64 = 16385;
 
 const STEPS_ROOM: usize = STEP_WORDS * STEPS as usize;
 
-// No answer is longer: a book has at most 676 words, none of more than 20 digits, each before one byte.
+// No answer is longer: an accepted book has at most 644 words, none of more than 20 digits, each before one byte.
 const LONGEST_ANSWER: usize = 16384;
 
 // A word and a number on a line.
@@ -67,7 +67,7 @@ fn put_tidied<'a>(book: &'a [u64], steps: &'a [u64], out: &mut [u8]) -> usize
     requires { ⌜ loaded (now book) .number ≡ ACCEPTED ⌝ }
     ensures { λ r. ⌜ Wrote (now (out .entry)) 0 (tidySaid (tidied (now (book .entry)) (stepsOf (now (steps .entry))))) (now (out .exit)) r ⌝ }
 {
-    let mut words = [0u64; BOOK_WORDS];
+    let mut words = [0u64; MOST_WORDS];
     let made = tidy(book, steps, &mut words);
     let number = made.number;
     let step = made.step;
@@ -76,7 +76,7 @@ fn put_tidied<'a>(book: &'a [u64], steps: &'a [u64], out: &mut [u8]) -> usize
         return put_refusal(out, number, step);
     }
     let head = put_numbered(out, b"tidy ", ACCEPTED);
-    book_writer::put_book(out, head, lists::part_of(&words, 0, length))
+    book_writer::put_book(out, head, &words[..length])
 }
 
 // The steps of a text, which begin at a place with how many there are, into `steps`.

@@ -1,5 +1,5 @@
 -- Laws of laying a row over others. Assumes nothing.
-use Prim.Native.Nat.{ℕ, zero, suc, _+_, _-_, _≤_, _<_}
+use Prim.Native.Nat.{ℕ, _+_, _-_, _≤_, _<_}
 use mathlib.Core.Path.{_≡_, refl, sym, ap, _∙_}
 use mathlib.Core.Bool.{Bool, true, false}
 use mathlib.Core.List.{List, [], _∷_}
@@ -7,17 +7,15 @@ use mathlib.Core.Logic.{⊎-elim}
 use native.Mathlib.Omega.{arith}
 use Rattle.lists.proofs.Tests.{lt-or-ge}
 use lib.ListN.{length}
-use Rattle.numbers.specs.Limits.{MOST-ROWS, ROW-WORDS}
-use Rattle.trees.specs.Forest.{Head, headOf, Forest, none, tree, one, _then_, count, size, roots}
-use Rattle.trees.specs.Building.{rowWords, Mem, Rooms, RoomFor, Emitted}
+use Rattle.numbers.specs.Limits.{MOST-ROWS}
+use Rattle.trees.specs.Forest.{headOf, Forest, one, _then_, count, size}
+use Rattle.trees.specs.Building.{Rooms, RoomFor, Emitted}
 use Rattle.trees.specs.declared.rows.RowWords.{RowWords}
-use Rattle.trees.specs.declared.rows.Spot.{Spot}
 use Rattle.trees.specs.declared.Word.the-variants.{Not}
-use Rattle.trees.proofs.Numbered.{size-then, roots-length}
+use Rattle.trees.proofs.Numbered.{roots-length}
 use Rattle.trees.proofs.Built.{count-then, size-more, count-more}
 use Rattle.tidying.specs.declared.Form.{Form}
-use Rattle.tidying.specs.Steps.{notOf}
-use Rattle.tidier.specs.Laying.{negatedIf, Small, Lies, fullLaid, Layable, Kept, Base, Adds, AddsNot, Endable, Ends, wordsAt, formAt, overAll}
+use Rattle.tidier.specs.Laying.{negatedIf, Small, fullLaid, Layable, Kept, Base, Adds, AddsNot, Ends, wordsAt, formAt, overAll}
 use Rattle.tidier.specs.declared.lay.Laid.{Laid}
 use Rattle.tidier.specs.declared.lay.Site.{Site}
 

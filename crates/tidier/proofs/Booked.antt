@@ -1,13 +1,13 @@
 -- Laws of laying all properties of an accepted book. Assumes nothing.
-use Prim.Native.Nat.{ℕ, zero, suc, _+_, _-_, _*_, _/_, _≤_, _<_}
-use mathlib.Core.Path.{_≡_, refl, sym, ap, ap₂, _∙_}
-use mathlib.Core.Bool.{Bool, true, false}
+use Prim.Native.Nat.{ℕ, suc, _+_, _-_, _*_, _/_, _≤_, _<_}
+use mathlib.Core.Path.{_≡_, refl, sym, ap, _∙_}
+use mathlib.Core.Bool.{Bool, true}
 use mathlib.Core.List.{List, [], _∷_, _++_, map, map-append}
 use mathlib.Core.Logic.{⊎-elim}
 use native.Mathlib.Omega.{arith}
 use lib.ListN.{length, getD, take, length-map, length-append, List·getD-append}
 use lib.Seq.{take-suc, take-length, getD-append-add}
-use Rattle.numbers.specs.Limits.{MOST-ROWS, ROW-WORDS}
+use Rattle.numbers.specs.Limits.{ROW-WORDS}
 use Rattle.numbers.specs.Refusals.{ACCEPTED}
 use Rattle.lists.proofs.Tests.{lt-or-ge}
 use Rattle.lists.proofs.Parts.{part-length}
@@ -15,18 +15,18 @@ use Rattle.pmtl.specs.Book.{Rows, Book}
 use Rattle.book.specs.Reading.{Sections}
 use Rattle.book.specs.Rows.{countOf}
 use Rattle.book.specs.Judging.{kindIn, argIn, Loaded, bookIn, loaded}
-use Rattle.book.specs.Placing.{partsOf, Counted, Placed}
+use Rattle.book.specs.Placing.{partsOf, Placed}
 use Rattle.book.proofs.Placing.{accepted-book}
-use Rattle.trees.specs.Forest.{Forest, none, tree, _then_, count, size, roots, entries}
-use Rattle.trees.specs.Building.{allRows, allOperands, Mem, Rooms}
+use Rattle.trees.specs.Forest.{Forest, none, _then_, count, size, roots, entries}
+use Rattle.trees.specs.Building.{allRows, allOperands, Rooms}
 use Rattle.trees.specs.Books.{joined}
-use Rattle.trees.specs.Walking.{Held, HeldRow, Walk, Properties, rowsSaid}
+use Rattle.trees.specs.Walking.{Held, HeldRow, Properties, rowsSaid}
 use Rattle.trees.proofs.Built.{then-none}
-use Rattle.trees.proofs.Walking.{said-ordered, said-long, said-count, all-held, assumes-there, guarantees-there, rows-are}
+use Rattle.trees.proofs.Walking.{said-ordered, said-count, all-held, assumes-there, guarantees-there, rows-are}
 use Rattle.tidying.specs.declared.Step.{Step}
 use Rattle.tidying.specs.Steps.{partsAt, fits, steppedAt, steppedOf, allAfter}
 use Rattle.tidying.proofs.Remade.{only, joined-append}
-use Rattle.tidier.specs.Laying.{HeldAt, Fitted, formAt, targetOf, laidParts, doneParts, Small, Lies, Layable, Kept, Visitable, Lays, LaysAll}
+use Rattle.tidier.specs.Laying.{Fitted, targetOf, laidParts, doneParts, Lies, Layable, Kept, Visitable, Lays, LaysAll}
 use Rattle.tidier.specs.declared.lay.Laid.{Laid}
 use Rattle.tidier.specs.declared.lay.Site.{Site}
 use Rattle.tidier.proofs.Adding.{kept-none, kept-then, layable-after}

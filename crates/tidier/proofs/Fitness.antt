@@ -1,34 +1,31 @@
 -- What the words of an accepted book say of a step: whether it fits, and what it lays in the place of a row. Assumes nothing.
-use Prim.Native.Nat.{ℕ, zero, suc, _+_, _-_, _/_, _≤_, _<_}
-use mathlib.Core.Path.{_≡_, refl, sym, ap, ap₂, _∙_}
+use Prim.Native.Nat.{ℕ, _+_, _-_, _/_, _≤_, _<_}
+use mathlib.Core.Path.{_≡_, refl, sym, ap, _∙_}
 use mathlib.Core.Bool.{Bool, true, false, _&&_, _||_}
-use mathlib.Core.List.{List, [], _∷_}
+use mathlib.Core.List.{List}
 use native.Mathlib.Omega.{arith}
 use lib.ListN.{length, getD}
 use lib.Dec.{eqb, ltb}
-use borrow.Author.Tests.{eqb-true, eqb-false, eq-eqb, ne-eqb, lt-ltb, le-ltb}
+use borrow.Author.Tests.{eqb-true, eq-eqb, ne-eqb, lt-ltb, le-ltb}
 use Rattle.numbers.specs.Limits.{ROW-WORDS}
 use Rattle.lists.proofs.Tests.{and-no-left, and-no-right}
-use Rattle.pmtl.specs.Book.{Row, Rows, rowAt, Ordered}
-use Rattle.pmtl.specs.Book.Row.{conj, disj, neg, implies, historically}
-use Rattle.book.specs.Reading.{Sections}
+use Rattle.pmtl.specs.Book.{Row, Rows}
+use Rattle.pmtl.specs.Book.Row.{neg}
 use Rattle.book.specs.Rows.{countOf}
 use Rattle.book.specs.Judging.{kindIn, argIn, startIn}
-use Rattle.trees.specs.Forest.{Forest}
 use Rattle.trees.specs.Building.{kindOf}
 use Rattle.trees.specs.Books.{partsIn}
 use Rattle.trees.specs.Walking.{Held, HeldRow, Walk, rowsSaid}
 use Rattle.trees.specs.declared.Word.{Word}
 use Rattle.trees.specs.declared.Word.the-variants.{And, Or, Not, Implies, Hist}
 use Rattle.trees.proofs.Renumbered.{kind-is}
-use Rattle.trees.proofs.Walking.{all, part-row, part-walk, said-is, said-ordered, said-long, said-count, said-part}
+use Rattle.trees.proofs.Walking.{all, part-walk, said-is, said-ordered, said-long, said-count, said-part}
 use Rattle.tidying.specs.declared.Form.{Form}
 use Rattle.tidying.specs.declared.Form.the-variants.{Nots, Single, Implication, History, Unknown}
 use Rattle.tidying.specs.declared.Step.{Step}
-use Rattle.tidying.specs.Steps.{wordAt, partsAt, begins, fitsAt, fits, steppedAt}
+use Rattle.tidying.specs.Steps.{partsAt, begins, fitsAt, fits}
 use Rattle.tidying.proofs.Fits.{In, Fitting, not-not, and-one, or-one, implication, history, not-count, fitting}
-use Rattle.tidying.proofs.Remade.{step-nots, step-and, step-or}
-use Rattle.tidier.specs.Laying.{HeldAt, Fitted, formAt, targetBy, targetOf, Stays}
+use Rattle.tidier.specs.Laying.{HeldAt, Fitted, formAt, targetBy, targetOf}
 
 -- ---- a row of an accepted book
 module _ {rows operands : List ℕ} {row : ℕ} (x : HeldAt rows operands row) where

@@ -1,34 +1,37 @@
 -- Laws of making the steps of a list, one after another. Assumes nothing.
 use Prim.Native.Nat.{ℕ, zero, suc, _+_, _-_, _*_, _/_, _≤_, _<_}
-use mathlib.Core.Path.{_≡_, refl, sym, ap, ap₂, _∙_}
+use mathlib.Core.Path.{_≡_, refl, sym, ap, _∙_}
 use mathlib.Core.Bool.{Bool, true, false, cond}
 use mathlib.Core.List.{List, [], _∷_, _++_}
 use mathlib.Core.Logic.{⊎-elim}
 use native.Mathlib.Omega.{arith}
-use lib.ListN.{length, getD, take, drop}
+use lib.ListN.{length, take, drop, length-append}
 use lib.Seq.{length-paste, length-take-le, drop-length}
 use lib.Dec.{eqb, ltb}
 use borrow.Author.Tests.{lt-ltb, le-ltb, eq-eqb, ne-eqb}
-use Rattle.numbers.specs.Limits.{MOST-ROWS, MOST-OPERANDS, ROW-WORDS}
+use Rattle.numbers.specs.Limits.{MOST-ROWS, MOST-OPERANDS}
 use Rattle.numbers.specs.Refusals.{ACCEPTED, PAST-LIMIT, DOES-NOT-FIT}
 use Rattle.lists.proofs.Tests.{lt-or-ge, or-left, or-no}
 use Rattle.pmtl.specs.Book.{Book}
 use Rattle.book.specs.Judging.{bookIn, loaded}
+use Rattle.book.specs.Placing.{partsOf, Placed}
+use Rattle.book.proofs.Placing.{accepted, rows-counted, operands-counted, assumes-counted, guarantees-counted}
+use Rattle.trees.proofs.Sums.{uses-many}
 use Rattle.trees.specs.Forest.{Forest, _then_, count, size, entries}
-use Rattle.trees.specs.Building.{allOperands, wordsOf, Mem, Rooms}
+use Rattle.trees.specs.Building.{allOperands}
 use Rattle.trees.specs.Putting.{MOST-WORDS, Lined, SectionsPut}
 use Rattle.trees.specs.declared.book_words.Counts.{Counts}
 use Rattle.trees.proofs.Numbered.{size-then}
 use Rattle.lists.specs.Lists.{put}
 use Rattle.trees.proofs.Built.{count-then, take-sets, copied}
-use Rattle.trees.proofs.Loaded.{Accepted, accepted-words}
+use Rattle.trees.proofs.Loaded.{accepted-words}
 use Rattle.trees.proofs.Putting.{words-built}
 use Rattle.tidying.specs.declared.Step.{Step}
-use Rattle.tidying.specs.Steps.{fits, assumesAfter, guaranteesAfter, allAfter, wordsAfter, pastLimit}
+use Rattle.tidying.specs.Steps.{fits, assumesAfter, guaranteesAfter, wordsAfter, pastLimit}
 use Rattle.tidying.specs.Tidied.{stepNumber, Tidying, done, refused, tidiedFrom, tidied, stepsOf}
 use Rattle.tidying.proofs.Accepted.{count-a, count-g}
-use Rattle.tidying.proofs.Theorems.{step-gives}
-use Rattle.tidier.specs.Laying.{Small, Lies, LaysAll}
+use Rattle.tidying.proofs.Theorems.{step-gives, of-accepted, of-refused}
+use Rattle.tidier.specs.Laying.{Small, LaysAll}
 use Rattle.tidier.specs.Tidies.{TidiedAs, stepAt, refusedStep, Standing, Fitting, Counting, Makes, Steps}
 use Rattle.tidier.specs.declared.lay.Laid.{Laid}
 use Rattle.tidier.specs.declared.tidy.Stepped.{Stepped}
@@ -159,8 +162,7 @@ pub record Owed (words₀ : List ℕ) (end : ℕ) (steps words : List ℕ) (leng
   pub size : length words ≡ length words₀
 
 pub owed-start : (words : List ℕ) (end : ℕ) (steps : List ℕ) → Standing words end → Owed words end steps words end 0
-unfolding tidied
-owed-start words end steps x = record { standing = x; owed = refl; low = omega arith; size = refl }
+owed-start words end steps x = record { standing = x; owed = sym (of-accepted (take end words) (stepsOf steps) (x .ok)); low = omega arith; size = refl }
 
 module _ {words₀ steps words : List ℕ} {end length′ i : ℕ} (x : Owed words₀ end steps words length′ i) where
   module _ (h : i < length steps / 2) {words′ : List ℕ} {s : Step} {r : Stepped} (es : s ≡ stepAt steps i) (m : Makes words length′ s r words′) where
@@ -215,3 +217,26 @@ module _ (m ws : List ℕ) {m′ : List ℕ} (e : m′ ≡ put m 0 ws) (h : leng
 
   pub all-made : {steps words : List ℕ} {r : Tidied} → Steps m′ (length ws) steps r words → TidiedAs (tidied ws (stepsOf steps)) r words
   all-made x = rw (ap (take (length ws)) e, copied-book m ws h) at (x .made)
+
+-- ---- any words
+pub not-made : {words : List ℕ} {number n o a g : ℕ} (steps : List Step) (out : List ℕ) → Placed words number n o a g → (number ≡ ACCEPTED → ⊥) → TidiedAs (tidied words steps) (record { number = number; step = 0; length = 0 }) out
+unfolding TidiedAs
+not-made {words} steps out p bad = rw (of-refused words steps (λ e. bad (p .number-is ∙ e))) (p .number-is, refl, refl)
+
+-- an accepted book has room where any that is built has
+pub short-book : {words : List ℕ} {number n o a g : ℕ} → Placed words number n o a g → number ≡ ACCEPTED → length words ≤ MOST-WORDS
+short-book {words} {number} {n} {o} {a} {g} p ok =
+    let c = p .counted ok in
+    let s = partsOf words n o a g in
+    omega (
+      arith,
+      c .long,
+      c .rows-few,
+      uses-many s (accepted words number n o a g p ok),
+      length-append (s .operands ++ s .assumes) (s .guarantees),
+      length-append (s .operands) (s .assumes),
+      rows-counted words n o a g c,
+      operands-counted words n o a g c,
+      assumes-counted words n o a g c,
+      guarantees-counted words n o a g c,
+    )

@@ -1,43 +1,41 @@
 -- Laws of the walk that lays a book after a step. Assumes nothing.
-use Prim.Native.Nat.{ℕ, zero, suc, _+_, _-_, _*_, _^_, _/_, _≤_, _<_}
+use Prim.Native.Nat.{ℕ, zero, suc, _+_, _-_, _/_, _≤_, _<_}
 use mathlib.Core.Path.{_≡_, refl, sym, ap, ap₂, _∙_}
 use mathlib.Core.Bool.{Bool, true, false, _&&_}
-use mathlib.Core.List.{List, [], _∷_, _++_, map}
+use mathlib.Core.List.{List, [], _∷_, map}
 use native.Mathlib.Omega.{arith}
-use lib.ListN.{length, getD, take, drop, length-map}
+use lib.ListN.{length, getD, take, length-map}
 use lib.Seq.{take-suc, take-length}
 use lib.Dec.{eqb}
 use borrow.Author.Tests.{eq-eqb, ne-eqb, eqb-true, eqb-false}
-use Rattle.numbers.specs.Limits.{MOST-ROWS, ROW-WORDS}
+use Rattle.numbers.specs.Limits.{ROW-WORDS}
 use Rattle.lists.proofs.Tests.{same-test}
-use Rattle.pmtl.specs.Book.{Range, Row, Rows, rowAt, Ordered, AllBelow}
-use Rattle.pmtl.specs.Book.Row.{conj, disj, neg, implies, historically}
+use Rattle.pmtl.specs.Book.{Row, Rows, rowAt, Ordered, AllBelow}
 use Rattle.book.specs.Rows.{countOf}
 use Rattle.book.specs.Judging.{kindIn, argIn, lowerIn, upperIn, startIn, bookIn}
 use Rattle.book.proofs.Accepted.{form, form-arg}
-use Rattle.trees.specs.Forest.{Head, headOf, Forest, none, tree, one, _then_, count, size, roots, entries}
-use Rattle.trees.specs.Building.{kindOf, argOf, wordOf, atomOf, rowWords}
+use Rattle.trees.specs.Forest.{headOf, Forest, none, one, _then_, count, size, roots}
+use Rattle.trees.specs.Building.{kindOf, rowWords}
 use Rattle.trees.specs.Books.{headIn, partsIn, joined}
-use Rattle.trees.specs.Walking.{Held, HeldRow, Walk, rowsSaid}
+use Rattle.trees.specs.Walking.{Held, HeldRow, rowsSaid}
 use Rattle.trees.specs.declared.Word.the-variants.{Or, Once}
 use Rattle.trees.proofs.Numbered.{size-then, roots-length}
 use Rattle.trees.proofs.Built.{then-none, then-assoc}
 use Rattle.trees.proofs.Books.{below-up, parts-below}
 use Rattle.trees.proofs.Judged.{HeadGood}
 use Rattle.trees.proofs.Renumbered.{kind-back, arg-back, low-kind, head-good}
-use Rattle.trees.proofs.Sections.{headWith}
-use Rattle.trees.proofs.Walking.{all, start-few, walk-row, part-row, part-walk, said-is, said-ordered, said-long, said-head, said-count, said-part}
+use Rattle.trees.proofs.Walking.{all, part-row, part-walk, said-is, said-ordered, said-long, said-head, said-count, said-part}
 use Rattle.tidying.specs.declared.Form.{Form}
-use Rattle.tidying.specs.declared.Form.the-variants.{Nots, Single, Implication, History, Unknown}
+use Rattle.tidying.specs.declared.Form.the-variants.{Unknown}
 use Rattle.tidying.specs.declared.Step.{Step}
-use Rattle.tidying.specs.Steps.{partsAt, fits, notOf, remade, steppedAt}
-use Rattle.tidying.proofs.Fits.{In, Fitting, not-not, and-one, or-one, implication, history, fitting}
-use Rattle.tidying.proofs.Remade.{only, joined-append, Sanes, AllSane, all-sane, Sane, sane-not, all-fine, list-fine, step-plain, step-named, step-nots, step-and, step-or, step-implies, step-history}
-use Rattle.tidier.specs.Laying.{HeldAt, Fitted, formAt, targetBy, targetOf, Stays, overFirst, overPart, overAll, headAfter, kindAfter, negatedIf, firstNegated, laidParts, doneParts, wordsAt, Small, Lies, Layable, Kept, Base, AddsNot, Endable, Ends, Visitable, Lays}
+use Rattle.tidying.specs.Steps.{partsAt, fits, notOf, steppedAt}
+use Rattle.tidying.proofs.Fits.{Fitting, not-not, and-one, or-one, implication, history, fitting}
+use Rattle.tidying.proofs.Remade.{only, joined-append, Sanes, all-sane, sane-not, all-fine, list-fine, step-plain, step-nots, step-and, step-or, step-implies, step-history}
+use Rattle.tidier.specs.Laying.{HeldAt, Fitted, formAt, targetBy, targetOf, Stays, overFirst, overPart, overAll, headAfter, kindAfter, negatedIf, firstNegated, laidParts, doneParts, wordsAt, AddsNot, Endable, Ends, Visitable, Lays}
 use Rattle.tidier.specs.declared.lay.Laid.{Laid}
 use Rattle.tidier.specs.declared.lay.Site.{Site}
-use Rattle.tidier.proofs.Fitness.{named-form, form-named, form-other}
-use Rattle.tidier.proofs.Adding.{kept-then, layable-after}
+use Rattle.tidier.proofs.Fitness.{form-named, form-other}
+use Rattle.tidier.proofs.Adding.{kept-then}
 
 pub map-at : (f : ℕ → Forest) (os : List ℕ) (k : ℕ) → k < length os → getD (map f os) k none ≡ f (getD os k 0)
 map-at f [] k l = absurd (omega arith)

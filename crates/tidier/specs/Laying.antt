@@ -1,5 +1,5 @@
 -- Steps of laying the rows of a book after a step. No public contract but that of `lay_all` cites these. Definitions only.
-use Prim.Native.Nat.{ℕ, zero, suc, _+_, _-_, _/_, _≤_, _<_}
+use Prim.Native.Nat.{ℕ, _+_, _-_, _/_, _≤_, _<_}
 use mathlib.Core.Path.{_≡_}
 use mathlib.Core.Bool.{Bool, true, false, _&&_}
 use mathlib.Core.List.{List, [], _∷_, map}
@@ -7,11 +7,11 @@ use lib.ListN.{length, getD, take}
 use lib.Dec.{eqb}
 use Rattle.numbers.specs.Limits.{MOST-ROWS, ROW-WORDS}
 use Rattle.numbers.specs.Refusals.{ACCEPTED}
-use Rattle.pmtl.specs.Book.{Rows, rowAt, Book}
+use Rattle.pmtl.specs.Book.{Rows}
 use Rattle.book.specs.Judging.{kindIn, argIn, lowerIn, upperIn, loaded}
-use Rattle.trees.specs.Forest.{Head, headOf, Forest, none, tree, one, _then_, count, size, roots, Entry}
+use Rattle.trees.specs.Forest.{Head, headOf, Forest, none, one, _then_, count, size, roots}
 use Rattle.trees.specs.Building.{kindOf, rowWords, Mem, Rooms}
-use Rattle.trees.specs.Books.{headIn, partsIn, joined}
+use Rattle.trees.specs.Books.{joined}
 use Rattle.trees.specs.Walking.{Held, Walk, rowsSaid}
 use Rattle.trees.specs.declared.rows.RowWords.{RowWords}
 use Rattle.trees.specs.declared.Word.the-variants.{Or, Once}

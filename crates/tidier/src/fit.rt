@@ -38,7 +38,8 @@ fn is_not_not<'a>(rows: &'a [u64], operands: &'a [u64], row: usize) -> bool
     if kind_in(rows, row) != NOT {
         return false;
     }
-    begins(rows, operand_at(rows, operands, row, 1), NOT)
+    let below = operand_at(rows, operands, row, 1);
+    begins(rows, below, NOT)
 }
 
 // An And or an Or of one operand.
@@ -93,7 +94,7 @@ pub fn form_here(step: Step, row: usize) -> Form
 }
 
 // The row that is laid in the place of a row: another one where the step drops it.
-pub fn target<'a>(rows: &'a [u64], operands: &'a [u64], step: Step, row: usize) -> usize
+pub fn stand_in<'a>(rows: &'a [u64], operands: &'a [u64], step: Step, row: usize) -> usize
     requires { ⌜ Fitted (now rows) (now operands) step row ⌝ }
     ensures { λ r. ⌜ r ≡ targetOf (rowsSaid (now (rows .entry)) (now (operands .entry))) step row ⌝ }
 {

@@ -1,22 +1,18 @@
 // The rows of a book after a step, laid as the rows before it are walked: the parts of a row have lower numbers than it, so
 // the walk ends.
 ghost use mathlib.Core.Path.{_≡_};
-ghost use mathlib.Core.Bool.{Bool, true};
+ghost use mathlib.Core.Bool.{true};
 ghost use mathlib.Core.List.{_++_};
 ghost use Prim.Native.Nat.{_+_, _/_, _<_};
 ghost use lib.ListN.{length, getD};
 ghost use Rattle.numbers.specs.Limits.{ROW-WORDS};
-ghost use Rattle.numbers.specs.Refusals.{ACCEPTED};
-ghost use Rattle.book.specs.Judging.{loaded};
-ghost use Rattle.trees.specs.Walking.{Held, rowsSaid};
-ghost use Rattle.trees.specs.Building.{Rooms};
+ghost use Rattle.trees.specs.Walking.{rowsSaid};
 ghost use Rattle.tidier.specs.Laying.{fullLaid, kindAfter, overPart, Layable, overAll, wordsAt, Endable, Adds, AddsNot, Ends, Visitable, Lays, Steppable, LaysAll};
 use crate::fit::form_here;
-use crate::fit::target;
+use crate::fit::stand_in;
 use book::NOT;
 use book::ONCE;
 use book::OR;
-use book::check::Places;
 use book::check::arg_in;
 use book::check::assumes_part;
 use book::check::guarantees_part;
@@ -223,7 +219,7 @@ fn lay_rest<'a>(
     if left == 0 {
         return lay_end(source, site, rows, operands, tops);
     }
-    let part = target(source, links, step, operand_at(source, links, row, left));
+    let part = stand_in(source, links, step, operand_at(source, links, row, left));
     let inner = Site {
         step,
         row: part,
@@ -279,7 +275,7 @@ pub fn lay_all(
     };
     let mut i = 0;
     while i < assumes.len() + guarantees.len() {
-        let row = target(source, links, step, property_at(assumes, guarantees, i));
+        let row = stand_in(source, links, step, property_at(assumes, guarantees, i));
         let site = Site {
             step,
             row,

@@ -1,18 +1,16 @@
 // A book is tidied by a list of steps, one after another: the next names rows as they are numbered after the one before.
 ghost use mathlib.Core.Path.{_≡_};
-ghost use mathlib.Core.Bool.{true};
 ghost use Prim.Native.Nat.{_+_, _*_, _/_, _≤_, _<_};
-ghost use lib.ListN.{length, getD};
+ghost use lib.ListN.{length};
 ghost use Rattle.numbers.specs.Refusals.{ACCEPTED};
 ghost use Rattle.book.specs.Judging.{loaded};
 ghost use Rattle.trees.specs.Putting.{MOST-WORDS};
-ghost use Rattle.tidying.specs.Steps.{formOf, fits as Steps·fits};
+ghost use Rattle.tidying.specs.Steps.{fits as Steps·fits};
 ghost use Rattle.tidying.specs.Tidied.{tidied, stepsOf};
 ghost use Rattle.tidier.specs.Tidies.{stepAt, refusedStep, Standing, Fitting, Counting, Makes, Steps, TidiedAs};
 use crate::fit::fits;
 use crate::lay::Laid;
 use crate::lay::lay_all;
-use book::check::Places;
 use book::check::operands_part;
 use book::check::place;
 use book::check::rows_part;
@@ -24,6 +22,7 @@ use numbers::ROW_WORDS;
 use tidying::Step;
 use tidying::form_of;
 use trees::book_words::Counts;
+use trees::book_words::MOST_WORDS;
 use trees::book_words::put_sections;
 
 // A step takes two words: its form, and the row that it names.
@@ -35,8 +34,8 @@ pub struct Stepped {
     pub length: usize,
 }
 
-// What a list of steps came to: what it is refused with and at which step, counted from 1, both 0 where nothing is wrong;
-// and how many words the new book has, 0 where there is none.
+// What a list of steps came to: what it is refused with and at which step, counted from 1, or 0 where it is the book that is
+// refused; both 0 where nothing is wrong; and how many words the new book has, 0 where there is none.
 pub struct Tidied {
     pub number: u64,
     pub step: usize,
@@ -148,12 +147,28 @@ fn tidy_all(words: &mut [u64], end: usize, steps: &[u64]) -> Tidied
     }
 }
 
-// Tidies an accepted book by steps in words, each its form and its row. The words of the new book are then the first of
-// `out`, which has room for the old book and for any new one. The old book stays as it is.
-pub fn tidy<'a>(book: &'a [u64], steps: &'a [u64], out: &mut [u64]) -> Tidied
+// Tidies an accepted book in memory that has room for it and for any new one.
+fn tidy_accepted<'a>(book: &'a [u64], steps: &'a [u64], out: &mut [u64]) -> Tidied
     requires { ⌜ (loaded (now book) .number ≡ ACCEPTED) × (MOST-WORDS ≤ length (now out)) × (length (now book) ≤ length (now out)) ⌝ }
     ensures { λ r. ⌜ TidiedAs (tidied (now (book .entry)) (stepsOf (now (steps .entry)))) r (now (out .exit)) ⌝ }
 {
     lists::copy(book, out, 0);
     tidy_all(out, book.len(), steps)
+}
+
+// Tidies a book by steps in words, each its form and its row. The words of the new book are then the first of `out`. Words
+// that are no accepted book are refused with their number, at step 0. The old book stays as it is.
+pub fn tidy<'a>(book: &'a [u64], steps: &'a [u64], out: &mut [u64; MOST_WORDS]) -> Tidied
+    ensures { λ r. ⌜ TidiedAs (tidied (now (book .entry)) (stepsOf (now (steps .entry)))) r (now (out .exit)) ⌝ }
+{
+    let places = place(book);
+    let number = places.number;
+    if number != ACCEPTED {
+        return Tidied {
+            number,
+            step: 0,
+            length: 0,
+        };
+    }
+    tidy_accepted(book, steps, out)
 }

@@ -15,7 +15,7 @@ use Rattle.book.specs.Reading.{Sections}
 use Rattle.book.specs.Private.{Few}
 use Rattle.book.specs.Judging.{judged, bookIn, loaded}
 use Rattle.book.proofs.Accepted.{assume-below, guarantee-below, temporals-fit}
-use Rattle.trees.specs.Forest.{Head, headOf, Forest, none, tree, one, _then_, count, size, roots, entries, Good}
+use Rattle.trees.specs.Forest.{Head, headOf, Forest, none, one, _then_, count, size, roots, entries, Good}
 use Rattle.trees.specs.Numbered.{rowsFrom, bookOf, folded}
 use Rattle.trees.specs.Building.{allOperands, wordsOf}
 use Rattle.trees.specs.Books.{headIn, partsIn, joined, treeRule, treeAt, treesOf}

@@ -9,7 +9,7 @@ use Rattle.pmtl.specs.declared.Answer.{Answer}
 use Rattle.pmtl.specs.declared.Answer.the-variants.{False, True, Open}
 use Rattle.pmtl.specs.Answer.{isTrue, isFalse, isOpen, reversed, known, decided}
 use Rattle.pmtl.specs.Book.{Row, mapRow, Rows, rowAt, Ordered, widthOf, every, some}
-use Rattle.pmtl.specs.Book.Row.{never, historically, once}
+use Rattle.pmtl.specs.Book.Row.{historically, once}
 use Rattle.pmtl.specs.Sets.{gone}
 use Rattle.pmtl.specs.Monitor.{Snap, initial}
 use Rattle.pmtl.specs.Early.{fromNow, earlyRule, early}

@@ -9,7 +9,7 @@ use lib.Dec.{ltb, eqb}
 use Rattle.numbers.specs.Limits.{MOST-ATOMS}
 use Rattle.numbers.specs.Refusals.{ACCEPTED, PAST-LIMIT, TOO-NARROW, NOT-A-BIT, NO-ROOM}
 use Rattle.pmtl.specs.Book.{Rows, rowAt, Ordered, widthOf, some}
-use Rattle.pmtl.specs.Monitor.{Snap, State, fullest, value, step}
+use Rattle.pmtl.specs.Monitor.{Snap, State, fullest, value}
 use Rattle.pmtl.specs.Early.{early}
 use Rattle.pmtl.specs.Settled.{settled}
 use Rattle.pmtl.specs.Calls.{Call, time, state, stamped, timed, turns, timeRefusal, stateRefusal, firstOf, refusal, crowded, Outcome, play, call, after, History, onto, accepted}

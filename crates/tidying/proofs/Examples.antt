@@ -56,6 +56,11 @@ pub no-such-row : tidied clumsy (stepsOf (0 ∷ 7 ∷ [])) ≡ refused 21 1
 unfolding outcomeOf
 no-such-row = opened clumsy (0 ∷ 7 ∷ []) ∙ refl
 
+-- words that are no book: 1, before the first step
+pub no-book : tidied [] (stepsOf (0 ∷ 0 ∷ [])) ≡ refused 1 0
+unfolding outcomeOf
+no-book = opened [] (0 ∷ 0 ∷ []) ∙ refl
+
 -- ---- early answers: hist[0,*](implies(a1,once[0,*](a0))) and what the step from Implies to Or makes of it
 abbrev pub turning : List ℕ
 turning =

@@ -8,7 +8,7 @@ use mathlib.Core.List.{List, [], _∷_}
 use native.Mathlib.Omega.{arith}
 use lib.ListN.{length}
 use lib.Dec.{eqb}
-use borrow.Author.Tests.{eqb-true}
+use borrow.Author.Tests.{eqb-true, eqb-false, eq-eqb, ne-eqb}
 use Rattle.numbers.specs.Refusals.{ACCEPTED, PAST-LIMIT, DOES-NOT-FIT}
 use Rattle.pmtl.specs.Book.{Book}
 use Rattle.book.specs.Reading.{Sections}
@@ -127,21 +127,38 @@ outcome k ws (s ∷ ss) ok = by-number (eqb (stepNumber b s) ACCEPTED) refl (λ 
     by-number true e ih = let x = step-keeps ws ok s (eqb-true (stepNumber b s) ACCEPTED e) in onward (tidiedFrom (suc k) (wordsAfter b s) ss) x (ih (x .accepted))
     by-number false e ih = (two-numbers b s e, omega arith, omega arith)
 
+-- ---- words that are an accepted book, and others
+pub of-accepted : (ws : List ℕ) (ss : List Step) → loaded ws .number ≡ ACCEPTED → tidied ws ss ≡ tidiedFrom 1 ws ss
+unfolding tidied
+of-accepted ws ss ok = rw (eq-eqb (loaded ws .number) ACCEPTED ok, tidied) refl
+
+pub of-refused : (ws : List ℕ) (ss : List Step) → (loaded ws .number ≡ ACCEPTED → ⊥) → tidied ws ss ≡ refused (loaded ws .number) 0
+unfolding tidied
+of-refused ws ss bad = rw (ne-eqb (loaded ws .number) ACCEPTED bad, tidied) refl
+
 -- ---- THE THEOREM
-module _ (ws : List ℕ) (ss : List Step) (ok : loaded ws .number ≡ ACCEPTED) where
-  whole : Outcome (loaded ws .book) ss 1 (tidied ws ss)
-  unfolding tidied
-  whole = outcome 1 ws ss ok
+module _ (ws : List ℕ) (ss : List Step) where
+  whole : loaded ws .number ≡ ACCEPTED → Outcome (loaded ws .book) ss 1 (tidied ws ss)
+  whole ok = rw (of-accepted ws ss ok) (outcome 1 ws ss ok)
 
   module _ (ws′ : List ℕ) (e : tidied ws ss ≡ done ws′) where
-    made : Outcome (loaded ws .book) ss 1 (done ws′)
-    made = rw e at whole
+    -- the old book was accepted
+    pub was-accepted : loaded ws .number ≡ ACCEPTED
+    was-accepted = by-test (eqb (loaded ws .number) ACCEPTED) refl
+      where
+        by-test : (z : Bool) → eqb (loaded ws .number) ACCEPTED ≡ z → loaded ws .number ≡ ACCEPTED
+        by-test true q = eqb-true (loaded ws .number) ACCEPTED q
+        by-test false q = let z : refused (loaded ws .number) 0 ≡ done ws′ = sym (of-refused ws ss (eqb-false (loaded ws .number) ACCEPTED q)) ∙ e in absurd (let y : _≡_ {A = ℕ} 0 1 = cc in omega arith)
 
-    -- the new book is accepted
+    made : Outcome (loaded ws .book) ss 1 (done ws′)
+    made = rw e at (whole was-accepted)
+
+    -- the new book is
     pub tidied-accepted : loaded ws′ .number ≡ ACCEPTED
     tidied-accepted = made .0
 
-    -- on every list of calls, each call has the same refusal, and each property the same value and the same settled answer
+    -- on every list of calls, each call has the same refusal and leaves the same count, and each property has the same value and the same
+    -- settled answer
     pub tidied-same : Same (loaded ws .book) (loaded ws′ .book)
     tidied-same = made .1 .same
 
@@ -149,11 +166,11 @@ module _ (ws : List ℕ) (ss : List Step) (ok : loaded ws .number ≡ ACCEPTED) 
     pub tidied-early : NoImplication ss → SameEarly (loaded ws .book) (loaded ws′ .book)
     tidied-early = made .1 .same-early
 
-  -- a list is refused with 21 or 2 at one of its steps, counted from 1
-  pub refused-with : (n at : ℕ) → tidied ws ss ≡ refused n at → ((n ≡ DOES-NOT-FIT) ⊎ (n ≡ PAST-LIMIT)) × (1 ≤ at) × (at ≤ length ss)
-  refused-with n at e = let x : Outcome (loaded ws .book) ss 1 (refused n at) = rw e at whole in (x .0, x .1, omega (arith, x .2))
+  -- of an accepted book a list is refused with 21 or 2 at one of its steps, counted from 1
+  pub refused-with : loaded ws .number ≡ ACCEPTED → (n at : ℕ) → tidied ws ss ≡ refused n at → ((n ≡ DOES-NOT-FIT) ⊎ (n ≡ PAST-LIMIT)) × (1 ≤ at) × (at ≤ length ss)
+  refused-with ok n at e = let x : Outcome (loaded ws .book) ss 1 (refused n at) = rw e at (whole ok) in (x .0, x .1, omega (arith, x .2))
 
 -- no steps leave the book as it is, not numbered anew
-pub no-steps : (ws : List ℕ) → tidied ws [] ≡ done ws
-unfolding tidied tidiedFrom
-no-steps ws = refl
+pub no-steps : (ws : List ℕ) → loaded ws .number ≡ ACCEPTED → tidied ws [] ≡ done ws
+unfolding tidiedFrom
+no-steps ws ok = of-accepted ws [] ok

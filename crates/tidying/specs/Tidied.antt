@@ -34,8 +34,9 @@ tidiedFrom k ws (s ∷ ss) = let b = loaded ws .book in elim (eqb (stepNumber b 
   | false ↦ refused (stepNumber b s) k
 ]
 
+-- words that are no accepted book are refused with their own number, before the first step
 unfoldable pub tidied : List ℕ → List Step → Tidying
-tidied ws ss = tidiedFrom 1 ws ss
+tidied ws ss = elim (eqb (loaded ws .number) ACCEPTED) [ true ↦ tidiedFrom 1 ws ss | false ↦ refused (loaded ws .number) 0 ]
 
 -- steps as words: form and row of each
 unfoldable pub stepsOf : List ℕ → List Step

@@ -1,11 +1,11 @@
 -- The trees of a book's properties are good, and mean what the properties mean. Assumes nothing.
-use Prim.Native.Nat.{ℕ, zero, suc, _+_, _≤_, _<_}
+use Prim.Native.Nat.{ℕ, _+_, _≤_, _<_}
 use mathlib.Core.Path.{_≡_, refl, sym, ap, _∙_}
 use mathlib.Core.Bool.{false}
 use mathlib.Core.List.{List, [], _∷_, _++_, map}
 use native.Mathlib.Omega.{arith}
 use lib.ListN.{length}
-use Rattle.pmtl.specs.Book.{Range, Row, mapRow, Rows, rowAt, AllBelow, Below, Ordered, answer}
+use Rattle.pmtl.specs.Book.{Row, mapRow, Rows, rowAt, AllBelow, Below, Ordered, answer}
 use Rattle.pmtl.specs.Book.Row.{never, always, atom, conj, disj, neg, implies, historically, once, since}
 use Rattle.pmtl.specs.Meaning.{Fact, meaningRule, meaning}
 use Rattle.pmtl.proofs.Table.{answer-in, by-rows}

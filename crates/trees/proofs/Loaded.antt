@@ -1,5 +1,5 @@
 -- What accepted words have: sections within their limits, with nothing wrong, whose book is the one that is loaded. Assumes nothing.
-use Prim.Native.Nat.{ℕ, suc, _*_, _/_, _≤_, _<_}
+use Prim.Native.Nat.{ℕ, _*_, _≤_, _<_}
 use mathlib.Core.Path.{_≡_, refl, sym, ap, _∙_}
 use mathlib.Core.Bool.{Bool, true, false, cond}
 use mathlib.Core.List.{List, [], _∷_}
@@ -13,7 +13,7 @@ use Rattle.numbers.specs.Limits.{MOST-ROWS, MOST-OPERANDS, MOST-ASSUMES, MOST-G
 use Rattle.numbers.specs.Refusals.{ACCEPTED, WRONG-LENGTH, PAST-LIMIT}
 use Rattle.book.specs.Reading.{Read, got, refused, section, next, Sections, sections}
 use Rattle.book.specs.Private.{Few}
-use Rattle.book.specs.Judging.{Loaded, loaded, loadedFrom, whole, judged, bookIn}
+use Rattle.book.specs.Judging.{Loaded, loaded, whole, judged, bookIn}
 use Rattle.book.proofs.Placing.{number-judged, book-judged}
 
 -- what was read is so, or the refusal is none of acceptance

@@ -1,30 +1,28 @@
 -- An accepted book is accepted again when its properties are numbered anew from their trees. Assumes nothing.
-use Prim.Native.Nat.{ℕ, zero, suc, _+_, _*_, _/_, _≤_, _<_}
+use Prim.Native.Nat.{ℕ, zero, suc, _≤_, _<_}
 use mathlib.Core.Path.{_≡_, refl, sym, ap, _∙_}
-use mathlib.Core.Bool.{Bool, true, false}
+use mathlib.Core.Bool.{true}
 use mathlib.Core.List.{List, [], _∷_}
 use native.Mathlib.Omega.{arith}
 use lib.ListN.{length, getD}
 use lib.Seq.{take-length}
-use lib.Dec.{eqb}
 use borrow.Author.Tests.{eqb-true}
 use Rattle.numbers.specs.Refusals.{ACCEPTED}
 use Rattle.lists.proofs.Parts.{part-length}
 use Rattle.pmtl.specs.Answer.{bitOf}
-use Rattle.pmtl.specs.Book.{Row, Rows, rowAt, AllBelow, Ordered}
+use Rattle.pmtl.specs.Book.{Rows, rowAt, AllBelow}
 use Rattle.pmtl.proofs.Table.{by-rows}
 use Rattle.book.specs.Reading.{Sections}
 use Rattle.book.specs.Rows.{countOf, temporal}
 use Rattle.book.specs.Private.{Few}
-use Rattle.book.specs.Judging.{kindIn, argIn, lowerIn, upperIn, rowsIn, startIn, temporalsIn, argGood, formGood, rangeGood, judged, bookIn, loaded}
+use Rattle.book.specs.Judging.{kindIn, argIn, lowerIn, upperIn, rowsIn, startIn, temporalsIn, argGood, judged, bookIn, loaded}
 use Rattle.book.proofs.Accepted.{form, form-arg, form-kind, range, temporals-fit, operands-there, assume-below, guarantee-below}
-use Rattle.book.proofs.Links.{takes-arg}
-use Rattle.trees.specs.Forest.{Head, headOf, Forest, none, tree, _then_, count, size}
+use Rattle.trees.specs.Forest.{Head, Forest, _then_, count, size}
 use Rattle.trees.specs.Building.{kindOf, argOf, wordOf, atomOf, wordsOf}
 use Rattle.trees.specs.Books.{headIn, partsIn, joined, treeAt, treesOf}
 use Rattle.trees.proofs.Numbered.{size-then}
 use Rattle.trees.proofs.Books.{AllOf, each-below, below-up, parts-below, tree-in, trees-count, trees-good}
-use Rattle.trees.proofs.Sections.{all-below, headWith, rows-there, operandsAt, parts-are, head-are, book-ordered}
+use Rattle.trees.proofs.Sections.{all-below, rows-there, parts-are, head-are, book-ordered}
 use Rattle.trees.proofs.Sums.{sumTo, sum-agree, sum-ones, weight, weight-then, size-weight, trees-weigh}
 use Rattle.trees.proofs.Judged.{HeadGood, HeadsGood, heads-then, temporalHead, words-accepted}
 

@@ -158,6 +158,15 @@ uses-below : (s : Sections) → judged s ≡ 0 → AllBelow (rowsIn s) (usesOf s
 uses-below s ok = let n = rowsIn s in below-append n (s .operands ++ s .assumes) (s .guarantees)
     (below-append n (s .operands) (s .assumes) (under n (s .operands) (linked-operand s (links s ok))) (under n (s .assumes) (assume-below s ok))) (under n (s .guarantees) (guarantee-below s ok))
 
+over-ones : (xs : List ℕ) → sumOver (λ r. 1) xs ≡ length xs
+unfolding sumOver
+over-ones [] = refl
+over-ones (x ∷ xs) = omega (arith, over-ones xs)
+
+-- each row of an accepted book is an operand or a property
+pub uses-many : (s : Sections) → judged s ≡ 0 → length (usesOf s) ≡ rowsIn s
+uses-many s ok = sym (over-ones (usesOf s)) ∙ all-once (λ r. 1) (rowsIn s) (usesOf s) (uses-below s ok) (used s ok) ∙ sum-ones (rowsIn s)
+
 -- ---- where each row has its own weight and that of its operands, the properties of an accepted book weigh what its rows do
 module _ (s : Sections) (ok : judged s ≡ 0) (own whole : ℕ → ℕ) (each : (r : ℕ) → r < rowsIn s → whole r ≡ own r + sumOver whole (operandsAt s ok r)) where
   abbrev n : ℕ

@@ -1,4 +1,3 @@
-use Rattle.trees.proofs.Walking.{walk-row}
 use Rattle.rule_printer.proofs.Walking.{line-put}
 use borrow.Author.Needs.{needs}
 use Rattle.rule_printer.proofs.walk.put_line.Statement.{statement}

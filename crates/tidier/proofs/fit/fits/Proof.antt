@@ -1,6 +1,5 @@
 use native.Mathlib.Omega.{arith}
 use Rattle.tidier.proofs.Fitness.{fits-none, fits-there}
-use borrow.Author.Needs.{needs}
 use Rattle.tidier.proofs.fit.fits.Statement.{statement}
 use Rattle.tidier.proofs.fit.fits.Tie as tie
 use Rattle.tidier.proofs.fit.fits.Reads as reads

@@ -1,5 +1,4 @@
 use Rattle.tidier.proofs.Fitness.{form-named, form-other}
-use borrow.Author.Needs.{needs}
 use Rattle.tidier.proofs.fit.form_here.Statement.{statement}
 use Rattle.tidier.proofs.fit.form_here.Tie as tie
 use Rattle.tidier.proofs.fit.form_here.Reads as reads

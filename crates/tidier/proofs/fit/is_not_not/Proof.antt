@@ -1,6 +1,5 @@
 use native.Mathlib.Omega.{arith}
 use Rattle.tidier.proofs.Fitness.{not-no, not-walk, not-there, not-second}
-use borrow.Author.Needs.{needs}
 use Rattle.tidier.proofs.fit.is_not_not.Statement.{statement}
 use Rattle.tidier.proofs.fit.is_not_not.Tie as tie
 use Rattle.tidier.proofs.fit.is_not_not.Reads as reads

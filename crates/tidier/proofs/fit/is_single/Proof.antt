@@ -1,6 +1,5 @@
 use native.Mathlib.Omega.{arith}
 use Rattle.tidier.proofs.Fitness.{held-row, single-no, single-and, single-or}
-use borrow.Author.Needs.{needs}
 use Rattle.tidier.proofs.fit.is_single.Statement.{statement}
 use Rattle.tidier.proofs.fit.is_single.Tie as tie
 use Rattle.tidier.proofs.fit.is_single.Reads as reads

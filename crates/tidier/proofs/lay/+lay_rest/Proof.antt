@@ -11,7 +11,7 @@ use Rattle.tidier.proofs.lay.lay_rest.Reads as lay-rest
 use Rattle.tidier.proofs.lay.lay_rest.Kinds as lay-rest-kinds
 use Rattle.tidier.proofs.lay.+lay_rest.Lts-lay_rest as lay-rest-lts
 use Rattle.tidier.proofs.fit.form_here.Reads as form-here-reads
-use Rattle.tidier.proofs.fit.target.Reads as target-reads
+use Rattle.tidier.proofs.fit.stand_in.Reads as stand-in-reads
 use Rattle.tidier.proofs.lay.lay_end.Reads as lay-end-reads
 use Rattle.tidier.proofs.lay.lay_not_if.Reads as lay-not-if-reads
 use Rattle.tidier.proofs.lay.over_part.Reads as over-part-reads
@@ -32,7 +32,7 @@ lay-rest-below t =
 
 -- what it calls, as its needs take it
 abbrev calls : ℕ → lay-rest-lts.Claims
-calls t = (lay-end-reads.Asked, lay-end-reads.Learnt, operand-at-reads.Asked, operand-at-reads.Learnt, target-reads.Asked, target-reads.Learnt, count-at-reads.Asked, count-at-reads.Learnt, lay-rest-below t, lay-rest.Post, form-here-reads.Asked, form-here-reads.Learnt, over-part-reads.Asked, over-part-reads.Learnt, lay-not-if-reads.Asked, lay-not-if-reads.Learnt)
+calls t = (lay-end-reads.Asked, lay-end-reads.Learnt, operand-at-reads.Asked, operand-at-reads.Learnt, stand-in-reads.Asked, stand-in-reads.Learnt, count-at-reads.Asked, count-at-reads.Learnt, lay-rest-below t, lay-rest.Post, form-here-reads.Asked, form-here-reads.Learnt, over-part-reads.Asked, over-part-reads.Learnt, lay-not-if-reads.Asked, lay-not-if-reads.Learnt)
 
 -- each call falls: into a part, and to the parts after it
 part-falls : {row o inner t : ℕ} (left : ℕ) → row * 2 ^ 64 + left ≡ t → o < row → inner ≤ 128 → o * 2 ^ 64 + inner < t
@@ -66,16 +66,16 @@ lay-rest-operand-at-requires : (t : ℕ) → lay-rest-lts.Need-operand-at-requir
 lay-rest-operand-at-requires t c κs = (c .before .before .before .before .before .before .before .before .pre .1 .walk, (omega (arith, c .if1 .left)))
 
 -- src/lay.rt:225:9
-lay-rest-target-requires : (t : ℕ) → lay-rest-lts.Need-target-requires (calls t) (lay-rest-at t) lay-rest.Post
-lay-rest-target-requires t c κs = part-fitted (c .before .before .before .before .before .before .before .before .before .pre .1) (omega (arith, c .before .if1 .left)) _ (c .operand-at .ensures)
+lay-rest-stand-in-requires : (t : ℕ) → lay-rest-lts.Need-stand-in-requires (calls t) (lay-rest-at t) lay-rest.Post
+lay-rest-stand-in-requires t c κs = part-fitted (c .before .before .before .before .before .before .before .before .before .pre .1) (omega (arith, c .before .if1 .left)) _ (c .operand-at .ensures)
 
 -- src/lay.rt:229:15
 lay-rest-count-at-requires : (t : ℕ) → lay-rest-lts.Need-count-at-requires (calls t) (lay-rest-at t) lay-rest.Post
-lay-rest-count-at-requires t c κs = aim-held (c .before .before .before .before .before .before .before .before .before .before .pre .1) (omega (arith, c .before .before .if1 .left)) _ (c .before .operand-at .ensures) _ (c .target .ensures)
+lay-rest-count-at-requires t c κs = aim-held (c .before .before .before .before .before .before .before .before .before .before .pre .1) (omega (arith, c .before .before .if1 .left)) _ (c .before .operand-at .ensures) _ (c .stand-in .ensures)
 
 -- src/lay.rt:233:9
 lay-rest-lay-rest-requires : (t : ℕ) → lay-rest-lts.Need-lay-rest-requires (calls t) (lay-rest-at t) lay-rest.Post
-lay-rest-lay-rest-requires t c κs = let h = aim-held (c .before .before .before .before .before .before .before .before .before .before .before .before .before .before .pre .1) (omega (arith, c .before .before .before .before .before .before .if1 .left)) _ (c .before .before .before .before .before .operand-at .ensures) _ (c .before .before .before .before .target .ensures) in (part-falls _ (c .before .before .before .before .before .before .before .before .before .before .before .before .before .before .pre .0) (aim-low (c .before .before .before .before .before .before .before .before .before .before .before .before .before .before .pre .1) (omega (arith, c .before .before .before .before .before .before .if1 .left)) _ (c .before .before .before .before .before .operand-at .ensures) _ (c .before .before .before .before .target .ensures)) (omega (arith, start-few h, c .before .before .before .count-at .ensures)), inner-visit (c .before .before .before .before .before .before .before .before .before .before .before .before .before .before .pre .1) (omega (arith, c .before .before .before .before .before .before .if1 .left)) _ (c .before .before .before .before .before .operand-at .ensures) _ (c .before .before .before .before .target .ensures) _ (c .before .before .before .count-at .ensures))
+lay-rest-lay-rest-requires t c κs = let h = aim-held (c .before .before .before .before .before .before .before .before .before .before .before .before .before .before .pre .1) (omega (arith, c .before .before .before .before .before .before .if1 .left)) _ (c .before .before .before .before .before .operand-at .ensures) _ (c .before .before .before .before .stand-in .ensures) in (part-falls _ (c .before .before .before .before .before .before .before .before .before .before .before .before .before .before .pre .0) (aim-low (c .before .before .before .before .before .before .before .before .before .before .before .before .before .before .pre .1) (omega (arith, c .before .before .before .before .before .before .if1 .left)) _ (c .before .before .before .before .before .operand-at .ensures) _ (c .before .before .before .before .stand-in .ensures)) (omega (arith, start-few h, c .before .before .before .count-at .ensures)), inner-visit (c .before .before .before .before .before .before .before .before .before .before .before .before .before .before .pre .1) (omega (arith, c .before .before .before .before .before .before .if1 .left)) _ (c .before .before .before .before .before .operand-at .ensures) _ (c .before .before .before .before .stand-in .ensures) _ (c .before .before .before .count-at .ensures))
 
 -- src/lay.rt:234:26
 lay-rest-form-here-requires : (t : ℕ) → lay-rest-lts.Need-form-here-requires (calls t) (lay-rest-at t) lay-rest.Post
@@ -115,7 +115,7 @@ lay-rest-same-length-6 t c = c .before .before .before .before .before .before .
 
 -- src/lay.rt:207:1
 lay-rest-returns-2 : (t : ℕ) → lay-rest-lts.Need-returns-2 (calls t) (lay-rest-at t) lay-rest.Post
-lay-rest-returns-2 t c = lays-more (c .before .before .before .before .before .before .before .before .before .before .before .before .before .before .before .before .before .before .before .before .before .before .before .before .before .before .before .before .before .before .before .before .before .before .before .before .before .before .before .before .before .before .before .before .pre .1) (omega (arith, c .before .before .before .before .before .before .before .before .before .before .before .before .before .before .before .before .before .before .before .before .before .before .before .before .before .before .before .before .before .before .before .before .before .before .before .before .if1 .left)) _ (c .before .before .before .before .before .before .before .before .before .before .before .before .before .before .before .before .before .before .before .before .before .before .before .before .before .before .before .before .before .before .before .before .before .before .before .operand-at .ensures) _ (c .before .before .before .before .before .before .before .before .before .before .before .before .before .before .before .before .before .before .before .before .before .before .before .before .before .before .before .before .before .before .before .before .before .before .target .ensures) _ (c .before .before .before .before .before .before .before .before .before .before .before .before .before .before .before .before .before .before .before .before .before .before .before .before .before .before .before .before .before .before .before .before .before .count-at .ensures) (c .before .before .before .before .before .before .before .before .before .before .before .before .before .before .before .before .before .before .before .before .before .before .form-here .ensures) (c .before .before .before .before .before .before .before .before .before .before .before .before .before .before .before .before .before .before .before .before .before .count-at2 .ensures) (c .before .before .before .before .before .before .before .before .before .before .before .before .before .before .before .before .before .before .before .before .over-part .ensures) (c .before .before .before .before .before .before .before .before .before .before .before .before .before .before .before .before .before .before .before .before .before .before .before .before .before .before .before .before .before .lay-rest .ensures) (c .before .before .before .before .before .before .before .before .before .before .before .before .before .before .before .before .lay-not-if .ensures) (c .before .before .before .before .before .before .lay-rest2 .ensures)
+lay-rest-returns-2 t c = lays-more (c .before .before .before .before .before .before .before .before .before .before .before .before .before .before .before .before .before .before .before .before .before .before .before .before .before .before .before .before .before .before .before .before .before .before .before .before .before .before .before .before .before .before .before .before .pre .1) (omega (arith, c .before .before .before .before .before .before .before .before .before .before .before .before .before .before .before .before .before .before .before .before .before .before .before .before .before .before .before .before .before .before .before .before .before .before .before .before .if1 .left)) _ (c .before .before .before .before .before .before .before .before .before .before .before .before .before .before .before .before .before .before .before .before .before .before .before .before .before .before .before .before .before .before .before .before .before .before .before .operand-at .ensures) _ (c .before .before .before .before .before .before .before .before .before .before .before .before .before .before .before .before .before .before .before .before .before .before .before .before .before .before .before .before .before .before .before .before .before .before .stand-in .ensures) _ (c .before .before .before .before .before .before .before .before .before .before .before .before .before .before .before .before .before .before .before .before .before .before .before .before .before .before .before .before .before .before .before .before .before .count-at .ensures) (c .before .before .before .before .before .before .before .before .before .before .before .before .before .before .before .before .before .before .before .before .before .before .form-here .ensures) (c .before .before .before .before .before .before .before .before .before .before .before .before .before .before .before .before .before .before .before .before .before .count-at2 .ensures) (c .before .before .before .before .before .before .before .before .before .before .before .before .before .before .before .before .before .before .before .before .over-part .ensures) (c .before .before .before .before .before .before .before .before .before .before .before .before .before .before .before .before .before .before .before .before .before .before .before .before .before .before .before .before .before .lay-rest .ensures) (c .before .before .before .before .before .before .before .before .before .before .before .before .before .before .before .before .lay-not-if .ensures) (c .before .before .before .before .before .before .lay-rest2 .ensures)
 
 pub +lay-rest-spec : {M : Type 1} → statement M
 +lay-rest-spec = close μ-lay-rest λ t. lay-rest-lts.spec (calls t)
@@ -127,7 +127,7 @@ pub +lay-rest-spec : {M : Type 1} → statement M
     (lay-rest-same-length-3 t)
     (lay-rest-returns t)
     (lay-rest-operand-at-requires t)
-    (lay-rest-target-requires t)
+    (lay-rest-stand-in-requires t)
     (lay-rest-count-at-requires t)
     (lay-rest-lay-rest-requires t)
     (lay-rest-form-here-requires t)

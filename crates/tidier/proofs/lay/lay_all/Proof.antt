@@ -15,7 +15,7 @@ use Rattle.book.proofs.check.guarantees_part.Reads as guarantees-part-reads
 use Rattle.book.proofs.check.operands_part.Reads as operands-part-reads
 use Rattle.book.proofs.check.place.Reads as place-reads
 use Rattle.book.proofs.check.rows_part.Reads as rows-part-reads
-use Rattle.tidier.proofs.fit.target.Reads as target-reads
+use Rattle.tidier.proofs.fit.stand_in.Reads as stand-in-reads
 use Rattle.tidier.proofs.lay.lay_rest.Reads as lay-rest-reads
 use Rattle.tidier.proofs.lay.property_at.Reads as property-at-reads
 use Rattle.trees.proofs.walk.count_at.Reads as count-at-reads
@@ -61,16 +61,16 @@ property-at-requires : tie.Need-property-at-requires Inv-loop μ-loop
 property-at-requires c κs = search needs
 
 -- src/lay.rt:282:13
-target-requires : tie.Need-target-requires Inv-loop μ-loop
-target-requires c κs = property-fitted (source-of _ (c .before .before .before .before .before .before .before .place .ensures) (c .before .before .before .before .before .before .before .place .ensures .number-is ∙ c .before .before .before .before .before .before .before .before .before .before .before .before .pre .ok) (c .before .before .before .before .before .before .rows-part .ensures) (c .before .before .before .before .before .operands-part .ensures) (c .before .before .before .before .assumes-part .ensures) (c .before .before .before .guarantees-part .ensures) (c .before .before .before .before .before .before .before .before .before .before .before .before .pre .fit)) _ (c .before .loop-test .taken) _ (c .property-at .ensures)
+stand-in-requires : tie.Need-stand-in-requires Inv-loop μ-loop
+stand-in-requires c κs = property-fitted (source-of _ (c .before .before .before .before .before .before .before .place .ensures) (c .before .before .before .before .before .before .before .place .ensures .number-is ∙ c .before .before .before .before .before .before .before .before .before .before .before .before .pre .ok) (c .before .before .before .before .before .before .rows-part .ensures) (c .before .before .before .before .before .operands-part .ensures) (c .before .before .before .before .assumes-part .ensures) (c .before .before .before .guarantees-part .ensures) (c .before .before .before .before .before .before .before .before .before .before .before .before .pre .fit)) _ (c .before .loop-test .taken) _ (c .property-at .ensures)
 
 -- src/lay.rt:286:19
 count-at-requires : tie.Need-count-at-requires Inv-loop μ-loop
-count-at-requires c κs = property-row (source-of _ (c .before .before .before .before .before .before .before .before .place .ensures) (c .before .before .before .before .before .before .before .before .place .ensures .number-is ∙ c .before .before .before .before .before .before .before .before .before .before .before .before .before .pre .ok) (c .before .before .before .before .before .before .before .rows-part .ensures) (c .before .before .before .before .before .before .operands-part .ensures) (c .before .before .before .before .before .assumes-part .ensures) (c .before .before .before .before .guarantees-part .ensures) (c .before .before .before .before .before .before .before .before .before .before .before .before .before .pre .fit)) _ (c .before .before .loop-test .taken) _ (c .before .property-at .ensures) _ (c .target .ensures)
+count-at-requires c κs = property-row (source-of _ (c .before .before .before .before .before .before .before .before .place .ensures) (c .before .before .before .before .before .before .before .before .place .ensures .number-is ∙ c .before .before .before .before .before .before .before .before .before .before .before .before .before .pre .ok) (c .before .before .before .before .before .before .before .rows-part .ensures) (c .before .before .before .before .before .before .operands-part .ensures) (c .before .before .before .before .before .assumes-part .ensures) (c .before .before .before .before .guarantees-part .ensures) (c .before .before .before .before .before .before .before .before .before .before .before .before .before .pre .fit)) _ (c .before .before .loop-test .taken) _ (c .before .property-at .ensures) _ (c .stand-in .ensures)
 
 -- src/lay.rt:290:9
 lay-rest-requires : tie.Need-lay-rest-requires Inv-loop μ-loop
-lay-rest-requires c κs = property-visit (source-of _ (c .before .before .before .before .before .before .before .before .before .before .before .before .place .ensures) (c .before .before .before .before .before .before .before .before .before .before .before .before .place .ensures .number-is ∙ c .before .before .before .before .before .before .before .before .before .before .before .before .before .before .before .before .before .pre .ok) (c .before .before .before .before .before .before .before .before .before .before .before .rows-part .ensures) (c .before .before .before .before .before .before .before .before .before .before .operands-part .ensures) (c .before .before .before .before .before .before .before .before .before .assumes-part .ensures) (c .before .before .before .before .before .before .before .before .guarantees-part .ensures) (c .before .before .before .before .before .before .before .before .before .before .before .before .before .before .before .before .before .pre .fit)) _ (c .before .before .before .before .before .before .loop-test .taken) _ (c .before .before .before .before .before .property-at .ensures) _ (c .before .before .before .before .target .ensures) _ (c .before .before .before .count-at .ensures) (layable-after (c .before .before .before .before .before .before .before .before .before .before .before .before .before .before .before .before .before .pre .rooms) (c .before .before .before .before .before .before .before .loop .inv .kept))
+lay-rest-requires c κs = property-visit (source-of _ (c .before .before .before .before .before .before .before .before .before .before .before .before .place .ensures) (c .before .before .before .before .before .before .before .before .before .before .before .before .place .ensures .number-is ∙ c .before .before .before .before .before .before .before .before .before .before .before .before .before .before .before .before .before .pre .ok) (c .before .before .before .before .before .before .before .before .before .before .before .rows-part .ensures) (c .before .before .before .before .before .before .before .before .before .before .operands-part .ensures) (c .before .before .before .before .before .before .before .before .before .assumes-part .ensures) (c .before .before .before .before .before .before .before .before .guarantees-part .ensures) (c .before .before .before .before .before .before .before .before .before .before .before .before .before .before .before .before .before .pre .fit)) _ (c .before .before .before .before .before .before .loop-test .taken) _ (c .before .before .before .before .before .property-at .ensures) _ (c .before .before .before .before .stand-in .ensures) _ (c .before .before .before .count-at .ensures) (layable-after (c .before .before .before .before .before .before .before .before .before .before .before .before .before .before .before .before .before .pre .rooms) (c .before .before .before .before .before .before .before .loop .inv .kept))
 
 -- src/lay.rt:291:9
 add-i : tie.Need-add-i Inv-loop μ-loop
@@ -82,7 +82,7 @@ loop-less c = search needs
 
 -- src/lay.rt:281:5
 loop-again : tie.Need-loop-again Inv-loop μ-loop
-loop-again c = going-more (source-of _ (c .before .before .before .before .before .before .before .before .before .before .before .before .before .before .before .before .before .before .before .place .ensures) (c .before .before .before .before .before .before .before .before .before .before .before .before .before .before .before .before .before .before .before .place .ensures .number-is ∙ c .before .before .before .before .before .before .before .before .before .before .before .before .before .before .before .before .before .before .before .before .before .before .before .before .pre .ok) (c .before .before .before .before .before .before .before .before .before .before .before .before .before .before .before .before .before .before .rows-part .ensures) (c .before .before .before .before .before .before .before .before .before .before .before .before .before .before .before .before .before .operands-part .ensures) (c .before .before .before .before .before .before .before .before .before .before .before .before .before .before .before .before .assumes-part .ensures) (c .before .before .before .before .before .before .before .before .before .before .before .before .before .before .before .guarantees-part .ensures) (c .before .before .before .before .before .before .before .before .before .before .before .before .before .before .before .before .before .before .before .before .before .before .before .before .pre .fit)) _ (c .before .before .before .before .before .before .before .before .before .before .before .before .before .loop-test .taken) _ (c .before .before .before .before .before .before .before .before .before .before .before .before .property-at .ensures) _ (c .before .before .before .before .before .before .before .before .before .before .before .target .ensures) _ (c .before .before .before .before .before .before .before .before .before .before .count-at .ensures) (c .before .before .before .before .before .before .before .before .before .before .before .before .before .before .loop .inv) (c .before .before .before .before .before .before .lay-rest .ensures)
+loop-again c = going-more (source-of _ (c .before .before .before .before .before .before .before .before .before .before .before .before .before .before .before .before .before .before .before .place .ensures) (c .before .before .before .before .before .before .before .before .before .before .before .before .before .before .before .before .before .before .before .place .ensures .number-is ∙ c .before .before .before .before .before .before .before .before .before .before .before .before .before .before .before .before .before .before .before .before .before .before .before .before .pre .ok) (c .before .before .before .before .before .before .before .before .before .before .before .before .before .before .before .before .before .before .rows-part .ensures) (c .before .before .before .before .before .before .before .before .before .before .before .before .before .before .before .before .before .operands-part .ensures) (c .before .before .before .before .before .before .before .before .before .before .before .before .before .before .before .before .assumes-part .ensures) (c .before .before .before .before .before .before .before .before .before .before .before .before .before .before .before .guarantees-part .ensures) (c .before .before .before .before .before .before .before .before .before .before .before .before .before .before .before .before .before .before .before .before .before .before .before .before .pre .fit)) _ (c .before .before .before .before .before .before .before .before .before .before .before .before .before .loop-test .taken) _ (c .before .before .before .before .before .before .before .before .before .before .before .before .property-at .ensures) _ (c .before .before .before .before .before .before .before .before .before .before .before .stand-in .ensures) _ (c .before .before .before .before .before .before .before .before .before .before .count-at .ensures) (c .before .before .before .before .before .before .before .before .before .before .before .before .before .before .loop .inv) (c .before .before .before .before .before .before .lay-rest .ensures)
 
 -- src/lay.rt:260:1
 same-length : tie.Need-same-length Inv-loop μ-loop
@@ -114,7 +114,7 @@ lay-all-spec =
     loop-holds
     add-loop
     property-at-requires
-    target-requires
+    stand-in-requires
     count-at-requires
     lay-rest-requires
     add-i

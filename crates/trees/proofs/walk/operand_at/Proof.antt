@@ -1,6 +1,5 @@
 use Rattle.trees.proofs.Walking.{start-few, walk-row, part-inside}
 use native.Mathlib.Omega.{arith}
-use borrow.Author.Needs.{needs}
 use Rattle.trees.proofs.walk.operand_at.Statement.{statement}
 use Rattle.trees.proofs.walk.operand_at.Tie as tie
 use Rattle.trees.proofs.walk.operand_at.Reads as reads
