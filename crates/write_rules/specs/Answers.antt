@@ -1,11 +1,11 @@
 -- REFERENCE 11.5: what the program that writes rules prints, byte by byte. Definitions only.
 use Prim.Native.Nat.{ℕ}
 use mathlib.Core.Bool.{cond}
-use mathlib.Core.List.{List, [], _∷_, _++_}
+use mathlib.Core.List.{List, _++_}
 use lib.ListN.{length}
 use lib.Dec.{ltb, eqb}
 use Rattle.numbers.specs.Limits.{LONGEST-INPUT}
-use Rattle.numbers.specs.Refusals.{ACCEPTED, BAD-WORD, PAST-LIMIT, WRONG-LENGTH}
+use Rattle.numbers.specs.Refusals.{ACCEPTED, PAST-LIMIT}
 use Rattle.text.specs.Words.{Supply, supply}
 use Rattle.text.specs.Decimals.{decimal}
 use Rattle.book.specs.Reading.{Read, got, refused, Sections, sections}
