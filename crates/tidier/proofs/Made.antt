@@ -5,8 +5,8 @@ use mathlib.Core.Bool.{Bool, true, false, cond}
 use mathlib.Core.List.{List, [], _∷_, _++_}
 use mathlib.Core.Logic.{⊎-elim}
 use native.Mathlib.Omega.{arith}
-use lib.ListN.{length, take, drop, length-append}
-use lib.Seq.{length-paste, length-take-le, drop-length}
+use lib.ListN.{length, take, drop, replicate, length-append}
+use lib.Seq.{length-paste, length-take-le, take-length, take-at, drop-length}
 use lib.Dec.{eqb, ltb}
 use borrow.Author.Tests.{lt-ltb, le-ltb, eq-eqb, ne-eqb}
 use Rattle.numbers.specs.Limits.{MOST-ROWS, MOST-OPERANDS}
@@ -22,17 +22,17 @@ use Rattle.trees.specs.Building.{allOperands}
 use Rattle.trees.specs.Putting.{MOST-WORDS, Lined, SectionsPut}
 use Rattle.trees.specs.declared.book_words.Counts.{Counts}
 use Rattle.trees.proofs.Numbered.{size-then}
-use Rattle.lists.specs.Lists.{put}
+use Rattle.lists.specs.Lists.{part, put}
 use Rattle.trees.proofs.Built.{count-then, take-sets, copied}
 use Rattle.trees.proofs.Loaded.{accepted-words}
-use Rattle.trees.proofs.Putting.{words-built}
+use Rattle.trees.proofs.Putting.{part-count, words-built}
 use Rattle.tidying.specs.declared.Step.{Step}
 use Rattle.tidying.specs.Steps.{fits, assumesAfter, guaranteesAfter, wordsAfter, pastLimit}
 use Rattle.tidying.specs.Tidied.{stepNumber, Tidying, done, refused, tidiedFrom, tidied, stepsOf}
 use Rattle.tidying.proofs.Accepted.{count-a, count-g}
 use Rattle.tidying.proofs.Theorems.{step-gives, of-accepted, of-refused}
 use Rattle.tidier.specs.Laying.{Small, LaysAll}
-use Rattle.tidier.specs.Tidies.{TidiedAs, stepAt, refusedStep, Standing, Fitting, Counting, Makes, Steps}
+use Rattle.tidier.specs.Tidies.{handedBack, newBook, zeros, lentWords, TidiedAs, stepAt, refusedStep, Standing, Fitting, Counting, Makes, Steps}
 use Rattle.tidier.specs.declared.lay.Laid.{Laid}
 use Rattle.tidier.specs.declared.tidy.Stepped.{Stepped}
 use Rattle.tidier.specs.declared.tidy.Tidied.{Tidied}
@@ -219,9 +219,56 @@ module _ (m ws : List ℕ) {m′ : List ℕ} (e : m′ ≡ put m 0 ws) (h : leng
   all-made x = rw (ap (take (length ws)) e, copied-book m ws h) at (x .made)
 
 -- ---- any words
-pub not-made : {words : List ℕ} {number n o a g : ℕ} (steps : List Step) (out : List ℕ) → Placed words number n o a g → (number ≡ ACCEPTED → ⊥) → TidiedAs (tidied words steps) (record { number = number; step = 0; length = 0 }) out
+drop-zeros : (n k : ℕ) → drop k (zeros n) ≡ zeros (n - k)
+unfolding zeros
+drop-zeros n zero = let e : n ≡ n - 0 = omega arith in ap (λ (m : ℕ). replicate m 0) e
+drop-zeros zero (suc k) = let e : 0 ≡ 0 - suc k = omega arith in ap (λ (m : ℕ). replicate m 0) e
+drop-zeros (suc n) (suc k) = let e : n - k ≡ suc n - suc k = omega arith in drop-zeros n k ∙ ap (λ (m : ℕ). replicate m 0) e
+
+-- words over zeros, from the first on
+over-zeros : (n : ℕ) (ws : List ℕ) → put (zeros n) 0 ws ≡ ws ++ zeros (n - length ws)
+over-zeros n ws =
+    let z : 0 + length ws ≡ length ws = omega arith in
+    rw (z, take-length ws, drop-zeros n (length ws)) refl
+
+as-zeros : {x : List ℕ} (n : ℕ) → x ≡ replicate n 0 → x ≡ zeros n
+unfolding zeros
+as-zeros n e = e
+
+pub cleared : {x : List ℕ} (m : List ℕ) → length m ≡ MOST-WORDS → x ≡ replicate (length m) 0 → x ≡ zeros MOST-WORDS
+cleared m h e = as-zeros (length m) e ∙ ap zeros h
+
+same-tidied : (r : Tidied) {n s l : ℕ} → r .number ≡ n → r .step ≡ s → r .length ≡ l → r ≡ record { number = n; step = s; length = l }
+same-tidied r e f g = rw (← e, ← f, ← g) refl
+
+pub made-inside : (t : Tidying) (r : Tidied) (words : List ℕ) → TidiedAs t r words → r .length ≤ length words
 unfolding TidiedAs
-not-made {words} steps out p bad = rw (of-refused words steps (λ e. bad (p .number-is ∙ e))) (p .number-is, refl, refl)
+made-inside (done ws) r words y = y .3
+made-inside (refused n k) r words y = let z = y .2 in omega arith
+
+pub part-long : {x : List ℕ} {n : ℕ} (words : List ℕ) → n ≤ length words → x ≡ part 0 n words → length x ≡ n
+part-long {x} {n} words h e = part-count words x 0 n (omega arith) e
+
+pub handed-made : (t : Tidying) (r : Tidied) (words : List ℕ) {m x out : List ℕ} → TidiedAs t r words → x ≡ part 0 (r .length) words → m ≡ zeros MOST-WORDS → out ≡ put m 0 x → (r ≡ handedBack t) × (out ≡ lentWords t)
+unfolding TidiedAs handedBack newBook
+handed-made (done ws) r words {x = x} y e c f =
+    let n : r .length ≡ length ws = sym (ap length (sym (y .2)) ∙ length-take-le (r .length) words (y .3)) in
+    (same-tidied r (y .0) (y .1) n, f ∙ ap (λ (z : List ℕ). put z 0 x) c ∙ ap (λ (z : List ℕ). put (zeros MOST-WORDS) 0 z) (e ∙ y .2) ∙ over-zeros MOST-WORDS ws)
+handed-made (refused n k) r words {x = x} y e c f =
+    let z = y .2 in
+    (same-tidied r (y .0) (y .1) z, f ∙ ap (λ (z : List ℕ). put z 0 x) c ∙ ap (λ (z : List ℕ). put (zeros MOST-WORDS) 0 z) (e ∙ ap (λ (m : ℕ). part 0 m words) z) ∙ over-zeros MOST-WORDS [])
+
+-- and the other way, for a caller
+pub handed-as : (t : Tidying) (r : Tidied) (out : List ℕ) → (r ≡ handedBack t) × (out ≡ lentWords t) → TidiedAs t r out
+unfolding TidiedAs handedBack newBook
+handed-as (done ws) r out e =
+    rw (e .0, e .1) (refl, refl, take-at ws (zeros (MOST-WORDS - length ws)) (length ws) refl, omega (arith, length-append ws (zeros (MOST-WORDS - length ws))))
+handed-as (refused n k) r out e = rw (e .0) (refl, refl, refl)
+
+pub not-made : {words : List ℕ} {number n o a g : ℕ} (steps : List Step) {out : List ℕ} → Placed words number n o a g → (number ≡ ACCEPTED → ⊥) → out ≡ zeros MOST-WORDS
+    → (record { number = number; step = 0; length = 0 } ≡ handedBack (tidied words steps)) × (out ≡ lentWords (tidied words steps))
+unfolding handedBack newBook
+not-made {words} steps p bad e = rw (of-refused words steps (λ z. bad (p .number-is ∙ z)), ← p .number-is) (refl, e)
 
 -- an accepted book has room where any that is built has
 pub short-book : {words : List ℕ} {number n o a g : ℕ} → Placed words number n o a g → number ≡ ACCEPTED → length words ≤ MOST-WORDS

@@ -1,9 +1,9 @@
 -- A book in words, tidied in lent memory: REFERENCE 12. Definitions only.
-use Prim.Native.Nat.{ℕ, _+_, _*_, _≤_}
+use Prim.Native.Nat.{ℕ, _+_, _-_, _*_, _≤_}
 use mathlib.Core.Path.{_≡_}
 use mathlib.Core.Bool.{true}
-use mathlib.Core.List.{List}
-use lib.ListN.{length, getD, take}
+use mathlib.Core.List.{List, [], _++_}
+use lib.ListN.{length, getD, take, replicate}
 use Rattle.numbers.specs.Refusals.{ACCEPTED}
 use Rattle.book.specs.Judging.{loaded}
 use Rattle.trees.specs.Putting.{MOST-WORDS}
@@ -15,12 +15,29 @@ use Rattle.tidier.specs.declared.lay.Laid.{Laid}
 use Rattle.tidier.specs.declared.tidy.Stepped.{Stepped}
 use Rattle.tidier.specs.declared.tidy.Tidied.{Tidied}
 
--- what tidying hands back: its number and step, and the words of the new book
+-- what tidying hands back: number and step, and how many words the new book has
+unfoldable pub handedBack : Tidying → Tidied
+handedBack (done ws) = record { number = ACCEPTED; step = 0; length = length ws }
+handedBack (refused n k) = record { number = n; step = k; length = 0 }
+
+-- the words of the new book, none where something is refused
+unfoldable pub newBook : Tidying → List ℕ
+newBook (done ws) = ws
+newBook (refused n k) = []
+
+-- the lent words then: those of the new book, and zeros after them
+unfoldable pub zeros : ℕ → List ℕ
+zeros n = replicate n 0
+
+abbrev pub lentWords : Tidying → List ℕ
+lentWords t = newBook t ++ zeros (MOST-WORDS - length (newBook t))
+
+-- ---- steps on the way
+-- what steps came to in a memory whose first words are those of the new book
 unfoldable pub TidiedAs : Tidying → Tidied → List ℕ → Type 0
 TidiedAs (done ws) r out = (r .number ≡ ACCEPTED) × (r .step ≡ 0) × (take (r .length) out ≡ ws) × (r .length ≤ length out)
 TidiedAs (refused n k) r out = (r .number ≡ n) × (r .step ≡ k) × (r .length ≡ 0)
 
--- ---- steps on the way
 -- the i-th step of a list in words
 unfoldable pub stepAt : List ℕ → ℕ → Step
 stepAt ws i = record { form = formOf (getD ws (2 * i) 0); row = getD ws (2 * i + 1) 0 }

@@ -7,7 +7,7 @@ ghost use Rattle.book.specs.Judging.{loaded};
 ghost use Rattle.trees.specs.Putting.{MOST-WORDS};
 ghost use Rattle.tidying.specs.Steps.{fits as Steps·fits};
 ghost use Rattle.tidying.specs.Tidied.{tidied, stepsOf};
-ghost use Rattle.tidier.specs.Tidies.{stepAt, refusedStep, Standing, Fitting, Counting, Makes, Steps, TidiedAs};
+ghost use Rattle.tidier.specs.Tidies.{handedBack, lentWords, stepAt, refusedStep, Standing, Fitting, Counting, Makes, Steps, TidiedAs};
 use crate::fit::fits;
 use crate::lay::Laid;
 use crate::lay::lay_all;
@@ -156,11 +156,13 @@ fn tidy_accepted<'a>(book: &'a [u64], steps: &'a [u64], out: &mut [u64]) -> Tidi
     tidy_all(out, book.len(), steps)
 }
 
-// Tidies a book by steps in words, each its form and its row. The words of the new book are then the first of `out`. Words
-// that are no accepted book are refused with their number, at step 0. The old book stays as it is.
+// Tidies a book by steps in words, each its form and its row. The first of the lent words are then those of the new book,
+// and zeros stand after them. Words that are no accepted book are refused with their number, at step 0. The old book stays
+// as it is.
 pub fn tidy<'a>(book: &'a [u64], steps: &'a [u64], out: &mut [u64; MOST_WORDS]) -> Tidied
-    ensures { λ r. ⌜ TidiedAs (tidied (now (book .entry)) (stepsOf (now (steps .entry)))) r (now (out .exit)) ⌝ }
+    ensures { λ r. ⌜ (r ≡ handedBack (tidied (now (book .entry)) (stepsOf (now (steps .entry))))) × (now (out .exit) ≡ lentWords (tidied (now (book .entry)) (stepsOf (now (steps .entry))))) ⌝ }
 {
+    lists::clear(out);
     let places = place(book);
     let number = places.number;
     if number != ACCEPTED {
@@ -170,5 +172,8 @@ pub fn tidy<'a>(book: &'a [u64], steps: &'a [u64], out: &mut [u64; MOST_WORDS]) 
             length: 0,
         };
     }
-    tidy_accepted(book, steps, out)
+    let mut words = [0; MOST_WORDS];
+    let made = tidy_accepted(book, steps, &mut words);
+    lists::copy(lists::part_of(&words, 0, made.length), out, 0);
+    made
 }
