@@ -1,6 +1,6 @@
 //! Draws books, calls and steps at random, has the books tidied by our program, and holds each tidied book to the one it was made of: by the
-//! judge, whose values are the original's, both give the same refusals, values and settled answers on the same calls. Which steps fit is
-//! told here by a rule of its own.
+//! judge, whose values are the original's, both give the same refusals, counts, values and settled answers on the same calls. Which
+//! steps fit is told here by a rule of its own.
 
 use compare::case::{Case, AND, HISTORICALLY, IMPLIES, NOT, OR};
 use compare::chance::Chance;
@@ -30,16 +30,29 @@ fn expected(case: &Case, form: usize, row: usize) -> u64 {
     }
 }
 
-/// A step, most often one that fits.
-fn drawn(chance: &mut Chance, case: &Case) -> (usize, usize) {
-    let mut step = (chance.below(FORMS + 1), chance.below(case.rows.len() + 1));
-    for _ in 0..50 {
-        if chance.one_in(30) || expected(case, step.0, step.1) == 0 {
-            return step;
+/// The steps that fit a book.
+fn fitting(case: &Case) -> Vec<(usize, usize)> {
+    let steps = (0..FORMS).flat_map(|form| (0..case.rows.len()).map(move |row| (form, row)));
+    steps.filter(|&(form, row)| expected(case, form, row) == 0).collect()
+}
+
+/// A book with calls, most often one that some step fits.
+fn drawn_case(chance: &mut Chance) -> Case {
+    loop {
+        let case = if chance.one_in(10) { at_limits(chance) } else { shallow(chance) };
+        if chance.one_in(20) || !fitting(&case).is_empty() {
+            return case;
         }
-        step = (chance.below(FORMS), chance.below(case.rows.len() + 1));
     }
-    step
+}
+
+/// A step, most often one that fits, where there is one.
+fn drawn_step(chance: &mut Chance, case: &Case) -> (usize, usize) {
+    let steps = fitting(case);
+    if steps.is_empty() || chance.one_in(6) {
+        return (chance.below(FORMS + 1), chance.below(case.rows.len() + 1));
+    }
+    steps[chance.below(steps.len())]
 }
 
 /// What our program answers to a book and steps.
@@ -71,11 +84,11 @@ fn main() {
     let (mut made, mut refused, mut calls) = (0, 0, 0);
     for index in 0..books {
         let mut chance = Chance::new(seed, index);
-        let case = if chance.one_in(10) { at_limits(&mut chance) } else { shallow(&mut chance) };
+        let case = drawn_case(&mut chance);
         let mut tidy = case.clone();
         let mut steps = Vec::new();
         for _ in 0..1 + chance.below(MOST_STEPS) {
-            let step = drawn(&mut chance, &tidy);
+            let step = drawn_step(&mut chance, &tidy);
             let said = answer(program, &tidy, &[step]);
             let number = expected(&tidy, step.0, step.1);
             if number != 0 {
@@ -96,7 +109,7 @@ fn main() {
         assert_eq!(lines(&tidy), lines(&case), "seed {seed}, book {index}: {steps:?} on {case:?}");
         calls += case.calls.len();
     }
-    println!("{books} books, {made} steps made and {refused} refused, {calls} calls: the same refusals, values and settled answers");
+    println!("{books} books, {made} steps made and {refused} refused, {calls} calls: the same refusals, counts, values and settled answers");
 }
 
 /// A book's text, without the count of its calls.
