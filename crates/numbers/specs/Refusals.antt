@@ -56,3 +56,7 @@ LIST-TOO-SHORT = 12
 -- a bad word in text, or a call of no kind
 abbrev pub BAD-WORD : ℕ
 BAD-WORD = 13
+
+-- a step of tidying that does not fit
+abbrev pub DOES-NOT-FIT : ℕ
+DOES-NOT-FIT = 21

@@ -76,3 +76,6 @@ pub const LIST_TOO_SHORT: u64 = 12;
 
 // A bad word in text, or a call of no kind.
 pub const BAD_WORD: u64 = 13;
+
+// A step of tidying that does not fit.
+pub const DOES_NOT_FIT: u64 = 21;

@@ -1,5 +1,5 @@
 -- How full the fullest set of a monitor is: no set has more runs, it is 0 for a fresh monitor, and it never passes the limit. Assumes nothing.
-use Prim.Native.Nat.{ℕ, zero, suc, max, _≤_, _<_}
+use Prim.Native.Nat.{ℕ, zero, suc, _≤_, _<_}
 use native.Mathlib.Omega.{arith}
 use mathlib.Core.Path.{_≡_, refl, sym, _∙_}
 use mathlib.Core.Bool.{Bool, true, false}
@@ -7,12 +7,12 @@ use mathlib.Core.Logic.{⊎-elim}
 use mathlib.Core.List.{List, [], _∷_}
 use lib.ListN.{length, getD, replicate}
 use lib.Dec.{ltb, eqb}
-use borrow.Author.Tests.{lt-ltb}
+use borrow.Author.Tests.{lt-ltb, le-ltb}
 use Rattle.numbers.specs.Limits.{MOST-RUNS}
 use Rattle.lists.proofs.Tests.{lt-or-ge, clash, fails-by, or-left, or-right}
 use Rattle.numset.specs.Runs.{Runs}
 use Rattle.pmtl.specs.Book.{Rows, some}
-use Rattle.pmtl.specs.Monitor.{Snap, State, setAt, mostRuns, fullest, initial, step}
+use Rattle.pmtl.specs.Monitor.{Snap, State, mostRuns, fullest, initial, step}
 use Rattle.pmtl.specs.Calls.{Call, turns, refusal, crowded, Outcome, play, call, after}
 
 -- no set has more runs
@@ -42,19 +42,32 @@ unfolding initial
 fresh-none b = none-most (length b)
 
 -- ---- the limit
-abbrev crowd : Runs → Bool
-crowd s = ltb MOST-RUNS (length s)
+module _ (c : ℕ) where
+  abbrev crowd : Runs → Bool
+  crowd s = ltb c (length s)
 
-few : (ss : List Runs) → some crowd ss ≡ false → mostRuns ss ≤ MOST-RUNS
-unfolding some mostRuns
-few [] e = omega arith
-few (s ∷ ss) e =
-    let k = few ss (fails-by (some crowd ss) (λ t. clash (or-right (crowd s) (some crowd ss) t) e)) in
-    ⊎-elim (λ l. absurd (clash (or-left (crowd s) (some crowd ss) (lt-ltb MOST-RUNS (length s) l)) e)) (λ g. omega arith) (lt-or-ge MOST-RUNS (length s))
+  few : (ss : List Runs) → some crowd ss ≡ false → mostRuns ss ≤ c
+  unfolding some mostRuns
+  few [] e = omega arith
+  few (s ∷ ss) e =
+      let k = few ss (fails-by (some crowd ss) (λ t. clash (or-right (crowd s) (some crowd ss) t) e)) in
+      ⊎-elim (λ l. absurd (clash (or-left (crowd s) (some crowd ss) (lt-ltb c (length s) l)) e)) (λ g. omega arith) (lt-or-ge c (length s))
+
+  few-back : (ss : List Runs) → mostRuns ss ≤ c → some crowd ss ≡ false
+  unfolding some mostRuns
+  few-back [] h = refl
+  few-back (s ∷ ss) h = rw (le-ltb c (length s) (omega arith)) (few-back ss (omega arith))
+
+-- where the same numbers are passed by a set, the fullest sets have as many runs
+pub same-most : (ss ts : List Runs) → ((c : ℕ) → some (λ (s : Runs). ltb c (length s)) ss ≡ some (λ (s : Runs). ltb c (length s)) ts) → mostRuns ss ≡ mostRuns ts
+same-most ss ts e =
+    let a = few (mostRuns ts) ss (e (mostRuns ts) ∙ few-back (mostRuns ts) ts (omega arith)) in
+    let b = few (mostRuns ss) ts (sym (e (mostRuns ss)) ∙ few-back (mostRuns ss) ss (omega arith)) in
+    omega arith
 
 roomy : (st : State) → crowded st ≡ false → fullest st ≤ MOST-RUNS
 unfolding crowded
-roomy st e = few (st .sets) e
+roomy st e = few MOST-RUNS (st .sets) e
 
 abbrev Few : Outcome → Type 0
 Few o = fullest (o .state) ≤ MOST-RUNS

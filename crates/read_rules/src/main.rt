@@ -15,8 +15,8 @@ use numbers::BAD_WORD;
 use numbers::LONGEST_INPUT;
 use numbers::PAST_LIMIT;
 use rule_reader::read::BookRead;
-use rule_reader::read::MOST_WORDS;
 use rule_reader::read::read_book;
+use trees::book_words::MOST_WORDS;
 
 // A byte more than the longest text that is read, so that a longer one is seen to be longer.
 const ROOM: usize = LONGEST_INPUT + 1;

@@ -1,35 +1,31 @@
 -- Laws of printing a whole book. Assumes nothing.
-use Prim.Native.Nat.{ℕ, suc, _+_, _/_, _≤_, _<_}
+use Prim.Native.Nat.{ℕ, suc, _+_, _≤_, _<_}
 use mathlib.Core.Path.{_≡_, refl, sym, ap, _∙_}
 use mathlib.Core.List.{List, [], _∷_, _++_, append-assoc}
 use native.Mathlib.Omega.{arith}
 use lib.ListN.{length, getD, take}
 use lib.Seq.{take-suc, take-length}
-use Rattle.numbers.specs.Limits.{ROW-WORDS}
 use Rattle.numbers.specs.Refusals.{ACCEPTED}
 use Rattle.text.specs.Words.{lineFeed}
 use Rattle.text.specs.Decimals.{decimal}
-use Rattle.pmtl.specs.Book.{Rows, Book, AllBelow}
+use Rattle.pmtl.specs.Book.{Rows}
 use Rattle.book.specs.Reading.{Sections}
-use Rattle.book.specs.Judging.{Loaded, loaded, judged, bookIn, rowIn}
-use Rattle.book.specs.Placing.{partsOf, sectionsOf, Placed}
-use Rattle.book.proofs.Accepted.{assume-below, guarantee-below}
-use Rattle.book.proofs.Placing.{parts-few, accepted, accepted-book}
-use Rattle.book.proofs.Sections.{sections-are}
+use Rattle.book.specs.Judging.{Loaded, loaded, bookIn}
+use Rattle.book.specs.Placing.{partsOf, Placed}
+use Rattle.book.proofs.Placing.{accepted-book}
 use Rattle.buffer_writer.specs.Buffer.{Handed, inBuffer}
 use Rattle.buffer_writer.specs.Finish.{finish, Wrote}
 use Rattle.buffer_writer.proofs.Writes.{and-then, at-end, whole}
-use Rattle.trees.specs.Forest.{Forest, none, tree, _then_, count}
+use Rattle.trees.proofs.Built.{then-none, then-assoc}
+use Rattle.trees.specs.Forest.{Forest, none, tree, _then_}
 use Rattle.trees.specs.Books.{joined, treeAt, treesOf}
 use Rattle.trees.proofs.Books.{trees-count}
-use Rattle.trees.proofs.Sections.{all-below}
 use Rattle.rule_scanner.specs.Writing.{oneSaid, written}
 use Rattle.rule_scanner.specs.declared.symbols.Symbol.the-variants.{Comma}
-use Rattle.rule_scanner.proofs.Back.{then-none, then-assoc}
 use Rattle.rule_printer.specs.Printing.{spelled, lines, sectionPrinted, printed, bookPrinted}
-use Rattle.rule_printer.specs.Walking.{Held, Walk, Properties, rowsSaid}
+use Rattle.trees.specs.Walking.{Properties, rowsSaid}
 use Rattle.rule_printer.proofs.Putting.{none-put}
-use Rattle.rule_printer.proofs.Walking.{said-ordered, said-long}
+use Rattle.trees.proofs.Walking.{said-ordered, rows-are, properties-below}
 
 -- ---- lines, one after another
 lines-then : (f g : Forest) → lines (f then g) ≡ lines f ++ lines g
@@ -72,12 +68,6 @@ pub lined-all : {b : Rows} {ps m m′ : List ℕ} {at at′ i : ℕ} → Lined b
 lined-all {b} {ps} {i = i} l h = let e : i ≡ length ps = omega (arith, l .low) in rw (e, take-length ps) at (l .written)
 
 -- ---- a section
-pub property-walk : {rows operands ps : List ℕ} (i r : ℕ) → Properties rows operands ps → i < length ps → r ≡ getD ps i 0 → Walk rows operands r 0
-property-walk i r x h e = record { held = x .held; inside = rw e (x .inside i h); some = omega arith }
-
-properties-below : {rows operands ps : List ℕ} → Properties rows operands ps → AllBelow (length (rowsSaid rows operands)) ps
-properties-below {rows} {operands} {ps} x = rw (take-length ps) at (all-below (length (rowsSaid rows operands)) (length ps) ps (omega arith) (λ k h. rw (said-long (x .held)) (x .inside k h)))
-
 pub section-put : {rows operands ps m m₁ m₂ m₃ : List ℕ} {at a₁ a₂ a₃ : ℕ} → Properties rows operands ps → Wrote m at (decimal (length ps)) m₁ a₁ → Wrote m₁ a₁ (lineFeed ∷ []) m₂ a₂ → Wrote m₂ a₂ (lines (treesOf (rowsSaid rows operands) ps)) m₃ a₃
     → Wrote m at (sectionPrinted (treesOf (rowsSaid rows operands) ps)) m₃ a₃
 unfolding sectionPrinted
@@ -87,25 +77,6 @@ section-put {rows} {operands} {ps} x p q r = rw (trees-count (rowsSaid rows oper
 module _ {words rs os : List ℕ} {number n o a g : ℕ} (p : Placed words number n o a g) (ok : number ≡ ACCEPTED) (er : rs ≡ partsOf words n o a g .rows) (eo : os ≡ partsOf words n o a g .operands) where
   abbrev parts : Sections
   parts = partsOf words n o a g
-
-  all-are : sectionsOf rs os (parts .assumes) (parts .guarantees) ≡ parts
-  all-are = sections-are er eo refl refl
-
-  all-ok : judged (sectionsOf rs os (parts .assumes) (parts .guarantees)) ≡ ACCEPTED
-  all-ok = rw all-are (accepted words number n o a g p ok)
-
-  all-held : Held rs os
-  all-held = record { assumes = parts .assumes; guarantees = parts .guarantees; few = rw all-are (parts-few words n o a g (p .counted ok)); ok = all-ok }
-
-  pub assumes-there : (xs : List ℕ) → xs ≡ parts .assumes → Properties rs os xs
-  assumes-there xs e = rw e (record { held = all-held; inside = assume-below (sectionsOf rs os (parts .assumes) (parts .guarantees)) all-ok })
-
-  pub guarantees-there : (xs : List ℕ) → xs ≡ parts .guarantees → Properties rs os xs
-  guarantees-there xs e = rw e (record { held = all-held; inside = guarantee-below (sectionsOf rs os (parts .assumes) (parts .guarantees)) all-ok })
-
-  rows-are : rowsSaid rs os ≡ bookIn parts .rows
-  unfolding rowsSaid bookIn rowIn
-  rows-are = rw (er, eo)
 
   assumes-are : bookIn parts .assumes ≡ parts .assumes
   unfolding bookIn
@@ -121,5 +92,5 @@ module _ {words rs os : List ℕ} {number n o a g : ℕ} (p : Placed words numbe
   book-put {xs} {gs} {out} ea eg p₁ p₂ e =
       let b : loaded words .book ≡ bookIn parts = ap (λ (l : Loaded). l .book) (accepted-book words number n o a g p ok) in
       let text : bookPrinted (loaded words .book) ≡ sectionPrinted (treesOf (rowsSaid rs os) xs) ++ sectionPrinted (treesOf (rowsSaid rs os) gs) =
-      ap bookPrinted b ∙ rw (← rows-are, assumes-are, guarantees-are, ← ea, ← eg) in
+      ap bookPrinted b ∙ rw (← rows-are p ok er eo, assumes-are, guarantees-are, ← ea, ← eg) in
       e ∙ at-end (and-then p₁ p₂) ∙ whole out (sectionPrinted (treesOf (rowsSaid rs os) xs) ++ sectionPrinted (treesOf (rowsSaid rs os) gs)) ∙ ap (inBuffer out) (sym text)

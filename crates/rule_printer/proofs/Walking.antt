@@ -1,87 +1,35 @@
 -- Laws of walking a book's rows as they are printed. Assumes nothing.
-use Prim.Native.Nat.{ℕ, zero, suc, _+_, _-_, _/_, _≤_, _<_}
+use Prim.Native.Nat.{ℕ, suc, _+_, _-_, _/_, _≤_, _<_}
 use mathlib.Core.Path.{_≡_, refl, sym, ap, _∙_}
-use mathlib.Core.Bool.{Bool, true, false}
-use mathlib.Core.List.{List, [], _∷_, _++_, append-nil, append-assoc}
+use mathlib.Core.Bool.{false}
+use mathlib.Core.List.{List, [], _∷_, _++_, append-assoc}
 use native.Mathlib.Omega.{arith}
-use lib.ListN.{length, getD, take, drop}
+use lib.ListN.{length, getD, drop}
 use lib.Seq.{drop-cons, drop-length}
 use lib.Dec.{eqb}
 use borrow.Author.Tests.{eq-eqb, ne-eqb}
-use Rattle.numbers.specs.Limits.{ROW-WORDS, MOST-OPERANDS}
+use Rattle.numbers.specs.Limits.{ROW-WORDS}
 use Rattle.text.specs.Words.{lineFeed}
-use Rattle.lists.specs.Lists.{part}
-use Rattle.lists.proofs.Parts.{part-length, part-at}
+use Rattle.lists.proofs.Parts.{part-at}
 use Rattle.pmtl.specs.Book.{Rows, rowAt, Ordered}
-use Rattle.book.specs.Reading.{Sections}
 use Rattle.book.specs.Rows.{countOf}
-use Rattle.book.specs.Judging.{kindIn, argIn, lowerIn, upperIn, rowsIn, startIn, argGood, judged, rowIn, bookIn}
-use Rattle.book.specs.Placing.{sectionsOf}
-use Rattle.book.proofs.Accepted.{form, form-arg, operands-there, operand-below}
+use Rattle.book.specs.Judging.{kindIn, argIn, lowerIn, upperIn, startIn}
 use Rattle.buffer_writer.specs.Finish.{Wrote}
 use Rattle.buffer_writer.proofs.Writes.{and-then, same-bytes}
-use Rattle.trees.specs.Forest.{Head, headOf, Forest, none, tree, one, _then_}
+use Rattle.trees.specs.Forest.{Head, headOf, Forest, tree, _then_}
 use Rattle.trees.specs.Building.{wordOf, atomOf}
 use Rattle.trees.specs.Books.{headIn, partsIn, joined, treeAt, treesOf}
 use Rattle.trees.proofs.Books.{tree-in}
-use Rattle.trees.proofs.Sections.{rows-there, parts-are, head-are, headWith, book-ordered}
 use Rattle.trees.specs.declared.Word.{Word}
 use Rattle.trees.specs.declared.Word.the-variants.{False, True, Atom, And, Or, Not, Implies, Hist, Once, Since}
 use Rattle.rule_scanner.specs.Writing.{headSaid, shut, oneSaid, written}
 use Rattle.rule_scanner.specs.declared.symbols.Symbol.{Symbol}
 use Rattle.rule_scanner.specs.declared.symbols.Symbol.the-variants.{Name, Comma}
 use Rattle.rule_printer.specs.Printing.{spell, spelled, lines}
-use Rattle.rule_printer.specs.Walking.{Held, HeldRow, Walk, rowsSaid, commaUnless, restSaid}
+use Rattle.trees.specs.Walking.{Held, Walk, rowsSaid}
+use Rattle.trees.proofs.Walking.{part-walk, said-ordered, said-long, said-parts, said-head, said-count}
+use Rattle.rule_printer.specs.Walking.{commaUnless, restSaid}
 use Rattle.rule_printer.proofs.Putting.{none-put, spelled-append, one-spelled}
-
--- ---- what is known of the rows
-module _ {rows : List ℕ} {row : ℕ} (x : HeldRow rows row) where
-  abbrev whole : Sections
-  whole = sectionsOf rows (x .operands) (x .held .assumes) (x .held .guarantees)
-
-  pub held-arg : (k a : ℕ) → k ≡ kindIn rows row → a ≡ argIn rows row → argGood k a ≡ true
-  held-arg k a ek ea = rw (ek, ea) (form-arg (kindIn rows row) (argIn rows row) (lowerIn rows row) (upperIn rows row) (form whole (x .held .ok) row (x .inside)))
-
-  pub start-few : startIn rows row + countOf (kindIn rows row) (argIn rows row) ≤ MOST-OPERANDS
-  start-few = omega (arith, operands-there whole (x .held .ok) row (x .inside), x .held .few .operands)
-
-  pub lower-row : (i : ℕ) → i < row → HeldRow rows i
-  lower-row i h = record { operands = x .operands; held = x .held; inside = omega (arith, x .inside) }
-
-pub start-zero : (rows : List ℕ) → _≡_ {A = ℕ} 0 (startIn rows 0)
-unfolding startIn
-start-zero rows = refl
-
-pub start-next : (rows : List ℕ) (start count i : ℕ) → start ≡ startIn rows i → count ≡ countOf (kindIn rows i) (argIn rows i) → start + count ≡ startIn rows (i + 1)
-unfolding startIn
-start-next rows start count i es ec = let e : i + 1 ≡ suc i = omega arith in rw (es, ec, e)
-
--- ---- a row that is walked
-module _ {rows operands : List ℕ} {row left : ℕ} (x : Walk rows operands row left) where
-  abbrev book : Sections
-  book = sectionsOf rows operands (x .held .assumes) (x .held .guarantees)
-
-  abbrev count : ℕ
-  count = countOf (kindIn rows row) (argIn rows row)
-
-  pub walk-row : HeldRow rows row
-  walk-row = record { operands = operands; held = x .held; inside = x .inside }
-
-  there : startIn rows row + count ≤ length operands
-  there = operands-there book (x .held .ok) row (x .inside)
-
-  module _ (some : 0 < left) where
-    pub part-inside : startIn rows row + (count - left) < length operands
-    part-inside = omega (arith, there, x .some)
-
-    part-below : getD operands (startIn rows row + (count - left)) 0 < row
-    part-below = operand-below book (x .held .ok) row (x .inside) (count - left) (omega (arith, x .some))
-
-    pub part-row : (o : ℕ) → o ≡ getD operands (startIn rows row + (count - left)) 0 → o < row
-    part-row o e = rw e part-below
-
-    pub part-walk : (o : ℕ) → o ≡ getD operands (startIn rows row + (count - left)) 0 → HeldRow rows o
-    part-walk o e = record { operands = operands; held = x .held; inside = omega (arith, part-row o e, x .inside) }
 
 -- ---- words of a head, whatever their numbers are called
 pub head-same : {m m′ : List ℕ} {at at′ : ℕ} {w w′ : Word} {a a′ l l′ u u′ : ℕ} → w ≡ w′ → a ≡ a′ → l ≡ l′ → u ≡ u′ → Wrote m at (spelled (Name w ∷ headSaid (headOf w a l u))) m′ at′ → Wrote m at (spelled (Name w′ ∷ headSaid (headOf w′ a′ l′ u′))) m′ at′
@@ -176,37 +124,14 @@ four-spelled : (w x y z : List Symbol) → spelled (w ++ (x ++ (y ++ z))) ≡ sp
 four-spelled w x y z = spelled-append w (x ++ (y ++ z)) ∙ ap (λ (l : List ℕ). spelled w ++ l) (spelled-append x (y ++ z) ∙ ap (λ (l : List ℕ). spelled x ++ l) (spelled-append y z))
 
 -- ---- by the book's words
-module _ {rows operands : List ℕ} (x : Held rows operands) where
-  abbrev all : Sections
-  all = sectionsOf rows operands (x .assumes) (x .guarantees)
-
+module _ {rows operands : List ℕ} (x : Held rows operands) (r : ℕ) (h : r < length rows / ROW-WORDS) where
   abbrev said : Rows
   said = rowsSaid rows operands
 
-  said-is : rowsSaid rows operands ≡ bookIn all .rows
-  unfolding rowsSaid bookIn rowIn
-  said-is = refl
-
-  pub said-ordered : Ordered said
-  said-ordered = rw said-is (book-ordered all (x .ok))
-
-  pub said-long : length said ≡ length rows / ROW-WORDS
-  said-long = rw said-is (rows-there all (x .ok))
-
-  module _ (r : ℕ) (h : r < length rows / ROW-WORDS) where
-    said-parts : partsIn (rowAt said r) ≡ part (startIn rows r) (countOf (kindIn rows r) (argIn rows r)) operands
-    said-parts = rw said-is (parts-are all (x .ok) r h)
-
-    said-head : headIn (rowAt said r) ≡ headWith (kindIn rows r) (argIn rows r) (lowerIn rows r) (upperIn rows r)
-    said-head = rw said-is (head-are all (x .ok) r h)
-
-    said-count : length (partsIn (rowAt said r)) ≡ countOf (kindIn rows r) (argIn rows r)
-    said-count = ap length said-parts ∙ part-length (startIn rows r) (countOf (kindIn rows r) (argIn rows r)) operands (operands-there all (x .ok) r h)
-
-    said-begin : spelled (Name (wordOf (kindIn rows r)) ∷ headSaid (headOf (wordOf (kindIn rows r)) (argIn rows r) (lowerIn rows r) (upperIn rows r))) ≡ spelled (Name (headIn (rowAt said r) .word) ∷ headSaid (headIn (rowAt said r)))
-    said-begin =
-        ap (λ (z : List Symbol). spelled (Name (wordOf (kindIn rows r)) ∷ z)) (head-any (wordOf (kindIn rows r)) (argIn rows r) (lowerIn rows r) (upperIn rows r))
-        ∙ ap (λ (z : Head). spelled (Name (z .word) ∷ headSaid z)) (sym said-head)
+  said-begin : spelled (Name (wordOf (kindIn rows r)) ∷ headSaid (headOf (wordOf (kindIn rows r)) (argIn rows r) (lowerIn rows r) (upperIn rows r))) ≡ spelled (Name (headIn (rowAt said r) .word) ∷ headSaid (headIn (rowAt said r)))
+  said-begin =
+      ap (λ (z : List Symbol). spelled (Name (wordOf (kindIn rows r)) ∷ z)) (head-any (wordOf (kindIn rows r)) (argIn rows r) (lowerIn rows r) (upperIn rows r))
+      ∙ ap (λ (z : Head). spelled (Name (z .word) ∷ headSaid z)) (sym (said-head x r h))
 
 -- nothing is left
 pub rest-done : {rows operands m m′ : List ℕ} {row at at′ left k : ℕ} {w : Word} → Walk rows operands row left → left ≡ 0 → w ≡ wordOf k → k ≡ kindIn rows row → Wrote m at (spelled (shut w)) m′ at′ → Wrote m at (spelled (restSaid (rowsSaid rows operands) row left)) m′ at′

@@ -1,60 +1,29 @@
 // A property of a book, written as its rows are walked: the parts of a row have lower numbers than it, so the walk ends.
-ghost use mathlib.Core.Path.{_≡_};
 ghost use mathlib.Core.List.{_∷_};
-ghost use Prim.Native.Nat.{_+_, _-_, _/_, _<_};
-ghost use lib.ListN.{length, getD};
+ghost use Prim.Native.Nat.{_/_, _<_};
+ghost use lib.ListN.{length};
 ghost use lib.Dec.{eqb};
 ghost use Rattle.numbers.specs.Limits.{ROW-WORDS};
 ghost use Rattle.buffer_writer.specs.Finish.{Wrote};
-ghost use Rattle.book.specs.Rows.{countOf};
-ghost use Rattle.book.specs.Judging.{kindIn, argIn, lowerIn, upperIn, startIn};
+ghost use Rattle.book.specs.Judging.{kindIn, argIn, lowerIn, upperIn};
 ghost use Rattle.trees.specs.Building.{wordOf};
 ghost use Rattle.trees.specs.Forest.{headOf};
 ghost use Rattle.trees.specs.Books.{treeAt};
+ghost use Rattle.trees.specs.Walking.{Walk, rowsSaid};
 ghost use Rattle.rule_scanner.specs.Writing.{headSaid};
 ghost use Rattle.rule_scanner.specs.declared.symbols.Symbol.the-variants.{Name};
 ghost use Rattle.rule_printer.specs.Printing.{spelled, lines};
-ghost use Rattle.rule_printer.specs.Walking.{HeldRow, Walk, rowsSaid, commaUnless, restSaid};
+ghost use Rattle.rule_printer.specs.Walking.{commaUnless, restSaid};
 use crate::put::put_head;
 use crate::put::put_shut;
 use book::check::arg_in;
 use book::check::kind_in;
 use book::check::lower_in;
-use book::check::taken_by;
 use book::check::upper_in;
 use buffer_writer::put_bytes;
+use trees::walk::count_at;
+use trees::walk::operand_at;
 use trees::word_of;
-
-// How many operands a row takes.
-fn count_at(rows: &[u64], row: usize) -> usize
-    requires { ⌜ HeldRow (now rows) row ⌝ }
-    ensures { λ r. ⌜ r ≡ countOf (kindIn (now (rows .entry)) row) (argIn (now (rows .entry)) row) ⌝ }
-{
-    taken_by(kind_in(rows, row), arg_in(rows, row))
-}
-
-// Where a row's operands begin: after those of the rows before it.
-fn start_at(rows: &[u64], row: usize) -> usize
-    requires { ⌜ HeldRow (now rows) row ⌝ }
-    ensures { λ r. ⌜ r ≡ startIn (now (rows .entry)) row ⌝ }
-{
-    let mut start = 0;
-    let mut i = 0;
-    while i < row {
-        start += count_at(rows, i);
-        i += 1;
-    }
-    start
-}
-
-// The operand of a row that stands before its last `left - 1`.
-fn operand_at<'a>(rows: &'a [u64], operands: &'a [u64], row: usize, left: usize) -> usize
-    requires { ⌜ Walk (now rows) (now operands) row left × (0 < left) ⌝ }
-    ensures { λ r. ⌜ r ≡ getD (now (operands .entry)) (startIn (now (rows .entry)) row + (countOf (kindIn (now (rows .entry)) row) (argIn (now (rows .entry)) row) - left)) 0 ⌝ }
-{
-    let place = start_at(rows, row) + (count_at(rows, row) - left);
-    operands[place] as usize
-}
 
 // What a row's property begins with, up to its parts.
 fn put_begin(out: &mut [u8], at: usize, rows: &[u64], row: usize) -> usize

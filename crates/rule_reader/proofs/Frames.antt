@@ -1,28 +1,26 @@
 -- Laws of the rows that are built as a text is read. Assumes nothing.
 use Prim.Native.Nat.{ℕ, zero, suc, _+_, _*_, _-_, _≤_, _<_}
 use mathlib.Core.Path.{_≡_, refl, sym, ap, _∙_}
-use mathlib.Core.Bool.{Bool, true, false, false≢true}
+use mathlib.Core.Bool.{Bool, true, false}
 use mathlib.Core.List.{List, [], _∷_}
 use native.Mathlib.Omega.{arith}
 use lib.ListN.{length, getD, set, length-set}
 use lib.Seq.{sets, length-sets, getD-set-same, getD-set-other}
 use Rattle.book.specs.Judging.{kindIn, argIn, lowerIn, upperIn}
-use Rattle.trees.specs.Forest.{Head, headOf, Forest, none, tree, one, _then_, count, size, roots}
-use Rattle.rule_scanner.specs.Reading.{formOf, firstMode, Frame, frameOf, State, stateOf, between, completed, Step, refused, going, ended, nextPart, closed, finished, taken}
+use Rattle.trees.specs.Forest.{headOf, Forest, none, one, _then_, count, size, roots}
+use Rattle.rule_scanner.specs.Reading.{Frame, State, stateOf, between, completed, nextPart, closed, finished, taken}
 use Rattle.trees.specs.Building.{kindOf, argOf, rowWords, Mem, Emitted}
-use Rattle.trees.proofs.Numbered.{size-then, roots-length}
-use Rattle.rule_scanner.proofs.Back.{then-none, then-assoc}
-use Rattle.trees.proofs.Built.{count-then, size-more, count-more}
+use Rattle.trees.proofs.Numbered.{roots-length}
+use Rattle.trees.proofs.Built.{then-none, then-assoc, count-then, size-more, count-more}
 use Rattle.trees.specs.declared.rows.RowWords.{RowWords}
 use Rattle.trees.specs.declared.rows.Spot.{Spot}
 use Rattle.trees.specs.declared.Word.{Word}
-use Rattle.trees.specs.declared.Word.the-variants.{False, True, Atom, And, Or, Not, Implies, Hist, Once, Since}
+use Rattle.trees.specs.declared.Word.the-variants.{False, True, And, Or, Not, Implies, Hist, Once, Since}
 use Rattle.rule_scanner.specs.declared.turns.Mode.{Mode}
 use Rattle.rule_scanner.specs.declared.turns.Mode.the-variants as mode
-use Rattle.rule_scanner.specs.declared.turns.Form.{Form}
 use Rattle.rule_scanner.specs.declared.turns.Turn.{Turn}
 use Rattle.rule_scanner.specs.declared.turns.Turn.the-variants.{Refused, Go, Leaf, Open, Part, Close, Counted, Ended}
-use Rattle.rule_reader.specs.Laying.{laid, forest, FramesIn, Lies, LiesAfter, need, Counting, NotAtom, NoAtoms, Sane, siteOf, Lays, LaysRows}
+use Rattle.rule_reader.specs.Laying.{laid, forest, FramesIn, Lies, LiesAfter, NotAtom, NoAtoms, Sane, siteOf, Lays, LaysRows}
 use Rattle.rule_reader.specs.declared.lay.Laid.{Laid}
 
 -- ---- properties in order

@@ -1,22 +1,21 @@
 -- Laws of the loop that builds a book's rows. Assumes nothing.
-use Prim.Native.Nat.{ℕ, zero, suc, _+_, _*_, _-_, _≤_, _<_}
+use Prim.Native.Nat.{ℕ, zero, suc, _+_, _*_, _-_, _≤_}
 use mathlib.Core.Path.{_≡_, refl, sym, ap, _∙_}
 use mathlib.Core.Bool.{Bool, true, false, false≢true}
 use mathlib.Core.List.{List, [], _∷_}
 use native.Mathlib.Omega.{arith}
-use lib.ListN.{length, take}
+use lib.ListN.{length}
 use Rattle.numbers.specs.Limits.{MOST-ROWS, ROW-WORDS}
-use Rattle.trees.specs.Forest.{Head, headOf, Forest, none, tree, one, _then_, count, size, roots, entries}
-use Rattle.rule_scanner.specs.Reading.{turn, begun, parting, closing, formOf, firstMode, Frame, frameOf, State, stateOf, start, formIn, between, completed, Step, refused, going, ended, nextPart, closed, finished, taken, move, Outcome, read, wrong, onward, reading, readText}
+use Rattle.trees.specs.Forest.{Head, headOf, Forest, none, one, _then_, count, size, roots, entries}
+use Rattle.rule_scanner.specs.Reading.{turn, begun, parting, closing, formOf, firstMode, Frame, State, start, formIn, between, completed, Step, refused, going, ended, taken, move, Outcome, read, wrong, onward, reading, readText}
 use Rattle.rule_scanner.specs.Symbols.{Placed, symbols}
-use Rattle.rule_scanner.specs.Steps.{symbolsFrom, Next}
-use Rattle.rule_scanner.specs.Scanning.{formTop, refuses, ends, startPass, FormsAre, stackSize, Rel, Bound, Steps}
-use Rattle.trees.specs.Building.{allRows, allOperands, Mem}
+use Rattle.rule_scanner.specs.Steps.{Next}
+use Rattle.rule_scanner.specs.Scanning.{formTop, refuses, ends, startPass, FormsAre, stackSize, Rel, Steps}
+use Rattle.trees.specs.Building.{allRows, allOperands}
 use Rattle.rule_scanner.proofs.Sound.{by-symbol, Op, Frames, FrameOk, AfterOk, Ok, OkOf, ok-start, ok-next}
 use Rattle.trees.proofs.Numbered.{size-then}
-use Rattle.rule_scanner.proofs.Back.{then-none, then-assoc}
-use Rattle.trees.proofs.Built.{count-then, size-more, count-more}
-use Rattle.rule_scanner.proofs.Passing.{Reader, reader-start, refused-is, ended-is, going-is, turned-is, moved, steps, not-end}
+use Rattle.trees.proofs.Built.{then-none, count-then}
+use Rattle.rule_scanner.proofs.Passing.{Reader, refused-is, ended-is, going-is, turned-is, moved, steps, not-end}
 use Rattle.trees.specs.declared.Word.{Word}
 use Rattle.trees.specs.declared.Word.the-variants.{False, True, Atom, And, Or, Not, Implies, Hist, Once, Since}
 use Rattle.rule_scanner.specs.declared.symbols.Symbol.{Symbol}
@@ -28,7 +27,8 @@ use Rattle.rule_scanner.specs.declared.turns.Form.the-variants as form
 use Rattle.rule_scanner.specs.declared.turns.Turn.{Turn}
 use Rattle.rule_scanner.specs.declared.turns.Turn.the-variants.{Refused, Go, Leaf, Open, Part, Close, Counted, Ended}
 use Rattle.rule_scanner.specs.declared.scan.Pass.{Pass}
-use Rattle.rule_reader.specs.Laying.{laid, forest, FramesIn, Lies, LiesAfter, need, Counting, NotAtom, NoAtoms, Sane, siteOf, Rooms, Lays, Small, Builds}
+use Rattle.trees.specs.Building.{Rooms}
+use Rattle.rule_reader.specs.Laying.{laid, forest, Lies, need, Counting, NotAtom, NoAtoms, Sane, siteOf, Lays, Small, Builds}
 use Rattle.rule_reader.specs.declared.lay.Laid.{Laid}
 use Rattle.rule_reader.proofs.Frames.{forest-between, forest-completed}
 

@@ -1,18 +1,17 @@
 -- Steps of building a book's rows as a text is read. No public contract but that of `make` cites these. Definitions only.
-use Prim.Native.Nat.{ℕ, zero, suc, _+_, _*_, _≤_, _<_}
+use Prim.Native.Nat.{ℕ, _+_, _*_, _≤_, _<_}
 use mathlib.Core.Path.{_≡_}
-use mathlib.Core.Bool.{Bool, true, false}
+use mathlib.Core.Bool.{false}
 use mathlib.Core.List.{List, [], _∷_}
-use lib.ListN.{length, getD}
+use lib.ListN.{length}
 use Rattle.numbers.specs.Limits.{LONGEST-INPUT, MOST-ROWS, ROW-WORDS}
 use Rattle.book.specs.Judging.{kindIn, argIn, lowerIn, upperIn}
-use Rattle.trees.specs.Forest.{Head, Forest, none, _then_, count, size}
+use Rattle.trees.specs.Forest.{Forest, none, _then_, count, size}
 use Rattle.rule_scanner.specs.Reading.{Frame, State, Step, refused, going, ended, taken, Outcome, read, wrong, readText}
 use Rattle.rule_scanner.specs.Scanning.{refuses}
-use Rattle.trees.specs.Building.{kindOf, Mem}
+use Rattle.trees.specs.Building.{kindOf, Mem, Rooms}
 use Rattle.trees.specs.declared.Word.{Word}
 use Rattle.trees.specs.declared.Word.the-variants.{False, True, Atom, And, Or, Not, Implies, Hist, Once, Since}
-use Rattle.rule_scanner.specs.declared.turns.Mode.{Mode}
 use Rattle.rule_scanner.specs.declared.turns.Turn.{Turn}
 use Rattle.rule_scanner.specs.declared.turns.Turn.the-variants.{Refused, Go, Leaf, Open, Part, Close, Counted, Ended}
 use Rattle.rule_reader.specs.declared.lay.Laid.{Laid}
@@ -108,12 +107,7 @@ pub record Lays (t : Turn) (s : Site) (fm rs os ts : List ℕ) (l′ : Laid) (fm
 pub record LaysRows (t : Turn) (s : Site) (rs os ts : List ℕ) (l′ : Laid) (rs′ os′ ts′ : List ℕ) : Type 0 where
   pub over : (fm : List ℕ) → Lays t s fm rs os ts l′ fm rs′ os′ ts′
 
--- ---- room: as many rows as a book may have, and a frame for each open operator
-pub record Rooms (rows operands tops : ℕ) : Type 0 where
-  pub rows-long : ROW-WORDS * MOST-ROWS ≤ rows
-  pub operands-long : MOST-ROWS ≤ operands
-  pub tops-long : MOST-ROWS ≤ tops
-
+-- ---- room for a row, and a frame for each open operator
 -- a row can be made at a site
 pub record Makable (s : Site) (rows operands tops : ℕ) : Type 0 where
   pub few : s .row < MOST-ROWS

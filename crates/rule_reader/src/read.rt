@@ -1,11 +1,11 @@
 // A text is read as the words of a book. It is read twice: once to see whether it is written as it should be and how many
 // rows it has, and where these are few enough, once more to build them.
 ghost use mathlib.Core.Path.{_≡_};
-ghost use mathlib.Core.List.{_∷_};
-ghost use Prim.Native.Nat.{_+_, _≤_};
-ghost use lib.ListN.{length, take};
+ghost use Prim.Native.Nat.{_≤_};
+ghost use lib.ListN.{length};
 ghost use Rattle.numbers.specs.Limits.{LONGEST-INPUT};
-ghost use Rattle.rule_reader.specs.Words.{MOST-WORDS, refusedAt, Joined, Lined, SectionsPut, Right, ReadAs};
+ghost use Rattle.trees.specs.Putting.{MOST-WORDS};
+ghost use Rattle.rule_reader.specs.Words.{refusedAt, Right, ReadAs};
 use crate::make::make;
 use book::check::check;
 use numbers::ACCEPTED;
@@ -16,9 +16,8 @@ use numbers::PAST_LIMIT;
 use numbers::ROW_WORDS;
 use rule_scanner::scan::Scan;
 use rule_scanner::scan::scan_text;
-
-// The most words that are built: each row is an operand or a property, and there are four counts.
-pub const MOST_WORDS: usize = ROW_WORDS * MOST_ROWS + MOST_ROWS + 4;
+use trees::book_words::Counts;
+use trees::book_words::put_sections;
 
 // What a text is refused with, 0 where nothing is wrong; the place of what is wrong in its form; and how many words its
 // book has, 0 where it is refused.
@@ -26,14 +25,6 @@ pub struct BookRead {
     pub number: u64,
     pub place: usize,
     pub length: usize,
-}
-
-// How many rows, operands, assumes and guarantees there are.
-pub struct Counts {
-    pub rows: usize,
-    pub operands: usize,
-    pub assumes: usize,
-    pub guarantees: usize,
 }
 
 fn refused(number: u64, place: usize) -> BookRead
@@ -44,37 +35,6 @@ fn refused(number: u64, place: usize) -> BookRead
         place,
         length: 0,
     }
-}
-
-// Writes a section after others, its count first, and answers with the place after it.
-fn put_section(words: &mut [u64], at: usize, count: usize, part: &[u64]) -> usize
-    requires { ⌜ at + length (now part) + 1 ≤ length (now words) ⌝ }
-    ensures { λ r. ⌜ (r ≡ at + length (now (part .entry)) + 1) × Joined (take at (now (words .entry))) (count ∷ now (part .entry)) (take r (now (words .exit))) × (r ≤ length (now (words .exit))) ⌝ }
-{
-    words[at] = count as u64;
-    lists::copy(part, words, at + 1);
-    at + part.len() + 1
-}
-
-// The four sections.
-fn put_sections<'a>(
-    words: &mut [u64],
-    counts: Counts,
-    rows: &'a [u64],
-    operands: &'a [u64],
-    tops: &'a [u64],
-) -> usize
-    requires { ⌜ Lined counts (length (now words)) (length (now rows)) (length (now operands)) (length (now tops)) ⌝ }
-    ensures { λ r. ⌜ SectionsPut counts (now (rows .entry)) (now (operands .entry)) (now (tops .entry)) (now (words .exit)) r ⌝ }
-{
-    let n = counts.rows;
-    let o = counts.operands;
-    let a = counts.assumes;
-    let g = counts.guarantees;
-    let e1 = put_section(words, 0, n, lists::part_of(rows, 0, ROW_WORDS * n));
-    let e2 = put_section(words, e1, o, lists::part_of(operands, 0, o));
-    let e3 = put_section(words, e2, a, lists::part_of(tops, 0, a));
-    put_section(words, e3, g, lists::part_of(tops, a, g))
 }
 
 // The book of a text that is written as it should be.

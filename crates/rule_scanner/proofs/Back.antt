@@ -1,6 +1,6 @@
 -- Written properties are read back. Assumes nothing.
-use Prim.Native.Nat.{ℕ, zero, suc, _+_, _≤_, _<_}
-use mathlib.Core.Path.{_≡_, refl, sym, ap, _∙_}
+use Prim.Native.Nat.{ℕ, suc, _+_, _<_}
+use mathlib.Core.Path.{_≡_, refl, sym, _∙_}
 use mathlib.Core.Bool.{Bool, true, false}
 use mathlib.Core.List.{List, [], _∷_, _++_, append-nil, append-assoc, map}
 use native.Mathlib.Omega.{arith}
@@ -9,13 +9,14 @@ use borrow.Author.Tests.{eqb-true}
 use Rattle.text.specs.Words.{pick}
 use Rattle.numbers.specs.Limits.{MAX}
 use Rattle.rule_scanner.specs.Symbols.{Placed}
+use Rattle.trees.proofs.Built.{then-none, then-assoc}
 use Rattle.trees.specs.Forest.{Head, headOf, Forest, none, tree, one, _then_, count, Fit, Good}
-use Rattle.rule_scanner.specs.Writing.{upperSaid, rangeSaid, headSaid, shut, oneSaid, written, fileSaid}
-use Rattle.rule_scanner.specs.Reading.{turn, begun, parting, closing, formOf, firstMode, parted, Frame, frameOf, State, stateOf, start, formIn, between, completed, Step, refused, going, ended, taken, move, Outcome, read, wrong, onward, reading}
+use Rattle.rule_scanner.specs.Writing.{rangeSaid, headSaid, shut, oneSaid, written, fileSaid}
+use Rattle.rule_scanner.specs.Reading.{parting, closing, formOf, firstMode, parted, Frame, frameOf, State, stateOf, start, between, completed, Step, refused, going, ended, move, read, onward, reading}
 use Rattle.trees.specs.declared.Word.{Word}
 use Rattle.trees.specs.declared.Word.the-variants.{False, True, Atom, And, Or, Not, Implies, Hist, Once, Since}
 use Rattle.rule_scanner.specs.declared.symbols.Symbol.{Symbol}
-use Rattle.rule_scanner.specs.declared.symbols.Symbol.the-variants.{Name, Number, Left, Right, Opens, Closes, Comma, Star, Bad, End}
+use Rattle.rule_scanner.specs.declared.symbols.Symbol.the-variants.{Name, Number, Left, Opens, Closes, Comma, End}
 use Rattle.rule_scanner.specs.declared.turns.Mode.{Mode}
 use Rattle.rule_scanner.specs.declared.turns.Mode.the-variants as mode
 use Rattle.rule_scanner.specs.declared.turns.Form.{Form}
@@ -47,16 +48,6 @@ pub and-on : (r : State) (ys zs : List Symbol) {q : State} {m : Step} → throug
 and-on r ys zs e f = through-append ys zs r ∙ rw e f
 
 -- ---- properties in a row
-pub then-none : (f : Forest) → f then none ≡ f
-unfolding _then_
-then-none none = refl
-then-none (tree h p s) = ap (tree h p) (then-none s)
-
-pub then-assoc : (f g k : Forest) → (f then g) then k ≡ f then (g then k)
-unfolding _then_
-then-assoc none g k = refl
-then-assoc (tree h p s) g k = ap (tree h p) (then-assoc s g k)
-
 pub then-one : (q : Forest) (i : Head) (p k : Forest) → (q then one i p) then k ≡ q then tree i p k
 unfolding _then_
 then-one q i p k = then-assoc q (one i p) k

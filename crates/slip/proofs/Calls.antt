@@ -12,7 +12,8 @@ use Rattle.pmtl.specs.Calls.{Call, time, state, stamped}
 use Rattle.book.specs.Reading.{Read, got, refused}
 use Rattle.report.specs.Lines.{Ending, end, stop, callFrom, CallsRead, callThen, orStop, endingOf, callsFrom}
 use Rattle.slip.specs.TakenOut.{callWords, allWords, Fits, AllFit}
-use Rattle.slip.proofs.Words.{Small, ReadCall, call-read, call-back}
+use Rattle.text.proofs.Few.{Small}
+use Rattle.slip.proofs.Words.{ReadCall, call-read, call-back}
 
 -- ---- words of calls
 pub all-words : (xs ys : List Call) → allWords (xs ++ ys) ≡ allWords xs ++ allWords ys

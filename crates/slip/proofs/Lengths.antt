@@ -28,7 +28,8 @@ use Rattle.report.specs.Report.{bookLine, stopLine, endLine, lastLine, property
 use Rattle.slip.specs.Says.{sectionsSaid}
 use Rattle.slip.specs.TakenOut.{allWords}
 use Rattle.slip.specs.Longest.{WORD-BYTES, COUNT-BYTES, LINE-BYTES, FIRST-BYTES, LAST-BYTES, longest}
-use Rattle.slip.proofs.Words.{Few, Small, few-words, small-ending, sections-got, sections-refused}
+use Rattle.text.proofs.Few.{Small, few-words, small-ending}
+use Rattle.slip.proofs.Words.{Few, sections-got, sections-refused}
 use Rattle.slip.proofs.Calls.{two-words-each, EndsSmall, calls-read}
 use Rattle.slip.proofs.Places.{lines-loaded, lines-refused, lines-unread}
 

@@ -17,7 +17,8 @@ use Rattle.book.specs.Judging.{Loaded, loadedFrom}
 use Rattle.report.specs.Lines.{CallLine, Ending, Line, book, called, last, CallsRead, callsAfter, lineOf, linesOf, linesFrom, callLines, bookThen, bookLines, lines}
 use Rattle.slip.specs.Says.{sectionsSaid, loadedOf, bookSaid, wordsAfter, readSaid, callsSaid, endSaid, noLine, noCallLine, missingCall, Whole, Shape}
 use Rattle.slip.specs.Says.Shape.{whole, refused-book, too-long}
-use Rattle.slip.proofs.Words.{small-ending, sections-refused}
+use Rattle.text.proofs.Few.{small-ending}
+use Rattle.slip.proofs.Words.{sections-refused}
 
 -- ---- a call's line among the others
 not-book : {n : ℕ} {l : CallLine} → book n ≡ called l → ⊥

@@ -17,7 +17,7 @@ use Rattle.book.specs.Judging.{Loaded, loadedFrom}
 use Rattle.report.specs.Lines.{Rest, CallLine, Ending, Line, book, called, last, CallsRead, callThen, callsFrom, callsAfter, lineOf, linesOf, linesFrom, lines}
 use Rattle.slip.specs.Says.{sectionsSaid, wordsAfter, noLine, missingCall}
 use Rattle.slip.specs.TakenOut.{callWords, allWords, Fits, AllFit, CallAt, TakenOut, lowered, without}
-use Rattle.slip.proofs.Words.{small-ending}
+use Rattle.text.proofs.Few.{small-ending}
 use Rattle.slip.proofs.Calls.{all-words, Heard, calls-read, callsThen, first-call, first-calls}
 use Rattle.slip.proofs.Places.{at-place, lines-length, lines-at, lines-loaded, loads-as, called-line}
 

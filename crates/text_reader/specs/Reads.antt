@@ -4,14 +4,14 @@ use mathlib.Core.Path.{_≡_}
 use mathlib.Core.Bool.{cond}
 use mathlib.Core.List.{List, [], _∷_, _++_, map}
 use lib.ListN.{length, take, drop}
-use lib.Dec.{ltb}
+use lib.Dec.{ltb, eqb}
 use Rattle.text.specs.Words.{Supply, supplyFrom}
 use Rattle.text.specs.declared.words.Read as text
 use Rattle.numbers.specs.Limits.{MOST-ATOMS}
 use Rattle.book.specs.Reading.{Read, got, refused, section, Sections, sections}
 use Rattle.text_reader.specs.declared.Part.{Part}
 use Rattle.text_reader.specs.declared.Part.the-variants.{Words, Refused}
-use Rattle.numbers.specs.Refusals.{WRONG-LENGTH}
+use Rattle.numbers.specs.Refusals.{ACCEPTED, WRONG-LENGTH, BAD-WORD}
 
 -- the number that ended a reading; 0 where something was read
 unfoldable pub numberOf : text.Read → ℕ
@@ -106,3 +106,11 @@ pub record StateTook (input : List ℕ) (cursor : ℕ) (m′ : List ℕ) (end ne
 unfoldable pub StateRead : List ℕ → ℕ → List ℕ → Part → Type 0
 StateRead input cursor m′ (Words end next) = StateTook input cursor m′ end next
 StateRead input cursor m′ (Refused number) = section (supplyFrom input cursor .ending) MOST-ATOMS 1 (supplyFrom input cursor .words) ≡ refused number
+
+-- what follows what takes up all of a text: nothing, or a word too many, or a bad one
+unfoldable pub leftIn : List ℕ → ℕ → ℕ
+leftIn [] ending = cond (eqb ending BAD-WORD) BAD-WORD ACCEPTED
+leftIn (w ∷ ws) ending = WRONG-LENGTH
+
+abbrev pub leftOver : Supply → ℕ
+leftOver t = leftIn (t .words) (t .ending)

@@ -4,9 +4,10 @@ ghost use mathlib.Core.Bool.{true};
 ghost use Prim.Native.Nat.{_+_, _*_, _≤_, _<_};
 ghost use lib.ListN.{length, getD};
 ghost use Rattle.numbers.specs.Limits.{MOST-ATOMS};
-ghost use Rattle.text.specs.Words.{parts};
-ghost use Rattle.text_reader.specs.Reads.{numberOf, partNumber, byteOf, WordsRead, SectionRead, BookRead, BitsTook, BytesRead, StateRead};
+ghost use Rattle.text.specs.Words.{parts, supplyFrom};
+ghost use Rattle.text_reader.specs.Reads.{numberOf, partNumber, leftOver, byteOf, WordsRead, SectionRead, BookRead, BitsTook, BytesRead, StateRead};
 use numbers::ACCEPTED;
+use numbers::BAD_WORD;
 use numbers::MOST_ASSUMES;
 use numbers::MOST_ATOMS;
 use numbers::MOST_GUARANTEES;
@@ -14,6 +15,7 @@ use numbers::MOST_OPERANDS;
 use numbers::MOST_ROWS;
 use numbers::PAST_LIMIT;
 use numbers::ROW_WORDS;
+use numbers::WRONG_LENGTH;
 use text::Read;
 
 // All sections at their limits, each after its count.
@@ -61,7 +63,7 @@ pub fn part_number(p: Part) -> u64
 }
 
 // The next `count` words, into `words` from `at` on.
-fn words_into(input: &[u8], cursor: usize, count: usize, words: &mut [u64], at: usize) -> Part
+pub fn words_into(input: &[u8], cursor: usize, count: usize, words: &mut [u64], at: usize) -> Part
     requires { ⌜ at + count ≤ length (now words) ⌝ }
     ensures { λ r. ⌜ WordsRead (now (input .entry)) cursor count (now (words .entry)) at (now (words .exit)) r ⌝ }
 {
@@ -205,4 +207,18 @@ pub fn state(input: &[u8], cursor: usize, bytes: &mut [u8]) -> Part
         return Part::Refused(PAST_LIMIT);
     }
     bytes_into(input, from, width as usize, bytes)
+}
+
+// What a text is refused with of which nothing is wanted from `cursor` on: 0 where nothing follows.
+pub fn left_over(input: &[u8], cursor: usize) -> u64
+    ensures { λ r. ⌜ r ≡ leftOver (supplyFrom (now (input .entry)) cursor) ⌝ }
+{
+    let r = text::next_word(input, cursor);
+    let Read::Refused(n) = r else {
+        return WRONG_LENGTH;
+    };
+    if n == BAD_WORD {
+        return BAD_WORD;
+    }
+    ACCEPTED
 }

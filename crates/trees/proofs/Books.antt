@@ -1,11 +1,11 @@
 -- The trees of a book's properties are good, and mean what the properties mean. Assumes nothing.
-use Prim.Native.Nat.{ℕ, zero, suc, _+_, _≤_, _<_}
+use Prim.Native.Nat.{ℕ, _+_, _≤_, _<_}
 use mathlib.Core.Path.{_≡_, refl, sym, ap, _∙_}
 use mathlib.Core.Bool.{false}
 use mathlib.Core.List.{List, [], _∷_, _++_, map}
 use native.Mathlib.Omega.{arith}
 use lib.ListN.{length}
-use Rattle.pmtl.specs.Book.{Range, Row, mapRow, Rows, rowAt, AllBelow, Below, Ordered, answer}
+use Rattle.pmtl.specs.Book.{Row, mapRow, Rows, rowAt, AllBelow, Below, Ordered, answer}
 use Rattle.pmtl.specs.Book.Row.{never, always, atom, conj, disj, neg, implies, historically, once, since}
 use Rattle.pmtl.specs.Meaning.{Fact, meaningRule, meaning}
 use Rattle.pmtl.proofs.Table.{answer-in, by-rows}
@@ -16,7 +16,7 @@ use Rattle.trees.proofs.Numbered.{meaning-is, good-then}
 use Rattle.trees.proofs.Built.{count-then}
 
 -- ---- a row over what a function makes of its operands
-head-map : {X Y : Type 0} (f : X → Y) (row : Row X) → headIn (mapRow f row) ≡ headIn row
+pub head-map : {X Y : Type 0} (f : X → Y) (row : Row X) → headIn (mapRow f row) ≡ headIn row
 head-map f never = refl
 head-map f always = refl
 head-map f (atom a) = refl
@@ -28,7 +28,7 @@ head-map f (historically g x) = refl
 head-map f (once g x) = refl
 head-map f (since g x y) = refl
 
-parts-map : {X Y : Type 0} (f : X → Y) (row : Row X) → partsIn (mapRow f row) ≡ map f (partsIn row)
+pub parts-map : {X Y : Type 0} (f : X → Y) (row : Row X) → partsIn (mapRow f row) ≡ map f (partsIn row)
 parts-map f never = refl
 parts-map f always = refl
 parts-map f (atom a) = refl
@@ -41,7 +41,7 @@ parts-map f (once g x) = refl
 parts-map f (since g x y) = refl
 
 -- a row is its head over its parts
-with-itself : {X : Type 0} (d : X) (row : Row X) → rowWith d (headIn row) (partsIn row) ≡ row
+pub with-itself : {X : Type 0} (d : X) (row : Row X) → rowWith d (headIn row) (partsIn row) ≡ row
 unfolding rowWith
 with-itself d never = refl
 with-itself d always = refl
@@ -80,7 +80,7 @@ pub below-up : (r n : ℕ) (os : List ℕ) → r ≤ n → AllBelow r os → All
 below-up r n [] h w = tt
 below-up r n (o ∷ os) h w = (omega (arith, w .0), below-up r n os h (w .1))
 
-fit-head : {X : Type 0} (row : Row X) → Fit (headIn row .word) (headIn row .atom) (headIn row .lower) (headIn row .upper) (length (partsIn row))
+pub fit-head : {X : Type 0} (row : Row X) → Fit (headIn row .word) (headIn row .atom) (headIn row .lower) (headIn row .upper) (length (partsIn row))
 fit-head never = (refl, refl, refl, refl)
 fit-head always = (refl, refl, refl, refl)
 fit-head (atom a) = (refl, refl, refl)
@@ -130,7 +130,7 @@ module _ (b : Rows) (w : Ordered b) where
 
 -- ---- what a rule makes of trees
 module _ {A : Type 0} (d : A) (rule : Row A → A) where
-  folded-then : (f g : Forest) → folded d rule (f then g) ≡ folded d rule f ++ folded d rule g
+  pub folded-then : (f g : Forest) → folded d rule (f then g) ≡ folded d rule f ++ folded d rule g
   unfolding folded _then_
   folded-then none g = refl
   folded-then (tree h p s) g = ap (λ (l : List A). rule (rowWith d h (folded d rule p)) ∷ l) (folded-then s g)

@@ -1,18 +1,17 @@
 -- Laws of building a book's words. Assumes nothing.
-use Prim.Native.Nat.{ℕ, zero, suc, _+_, _*_, _-_, _≤_, _<_}
+use Prim.Native.Nat.{ℕ, suc, _+_, _*_, _-_, _≤_, _<_}
 use mathlib.Core.Path.{_≡_, refl, sym, ap, _∙_}
 use mathlib.Core.List.{List, [], _∷_, _++_, append-nil, append-assoc}
 use native.Mathlib.Omega.{arith}
-use native.Mathlib.Numerals.{add-one}
-use lib.ListN.{length, getD, take, drop, set, length-append, length-drop, length-set, drop-of-length-le}
-use lib.Seq.{sets, sets-eq, length-sets, take-at, take-length, drop-at, take-suc-set, length-take-le, take-take, take-all, take-append-le, take-add, getD-take, getD-drop}
+use lib.ListN.{length, take, drop, set, length-append, length-set}
+use lib.Seq.{sets, sets-eq, length-sets, take-at, take-length, drop-at, take-suc-set, length-take-le, take-take, take-add}
 use Rattle.lists.specs.Lists.{part, put}
 use Rattle.lists.proofs.Parts.{part-length}
 use Rattle.trees.specs.Forest.{Head, Forest, none, tree, one, _then_, count, size, roots, Entry, entries}
 use Rattle.trees.specs.Building.{rowWords, allRows, allOperands, Mem, RoomFor, Emitted}
 use Rattle.trees.specs.declared.rows.RowWords.{RowWords}
 use Rattle.trees.specs.declared.rows.Spot.{Spot}
-use Rattle.trees.proofs.Numbered.{entries-length, roots-length, size-then, roots-then, entries-then}
+use Rattle.trees.proofs.Numbered.{roots-length, size-then, roots-then, entries-then}
 
 -- ---- one row more
 pub rows-append : (x y : List Entry) → allRows (x ++ y) ≡ allRows x ++ allRows y
@@ -45,6 +44,16 @@ roots-before g p = let e : 0 + size g ≡ size g = omega arith in roots-then 0 g
 roots-more : (g p : Forest) (h : Head) → roots 0 (g then one h p) ≡ roots 0 g ++ (size (g then p) ∷ [])
 unfolding roots
 roots-more g p h = roots-before g (one h p) ∙ rw (size-then g p)
+
+pub then-none : (f : Forest) → f then none ≡ f
+unfolding _then_
+then-none none = refl
+then-none (tree h p s) = ap (tree h p) (then-none s)
+
+pub then-assoc : (f g k : Forest) → (f then g) then k ≡ f then (g then k)
+unfolding _then_
+then-assoc none g k = refl
+then-assoc (tree h p s) g k = ap (tree h p) (then-assoc s g k)
 
 pub count-then : (f g : Forest) → count (f then g) ≡ count f + count g
 unfolding count _then_

@@ -7,3 +7,6 @@ pub mod Sums
 pub mod Judged
 pub mod Renumbered
 pub mod Loaded
+pub mod Back
+pub mod Putting
+pub mod Walking

@@ -1,5 +1,5 @@
 -- What accepted words have: sections within their limits, with nothing wrong, whose book is the one that is loaded. Assumes nothing.
-use Prim.Native.Nat.{ℕ, suc, _*_, _/_, _≤_, _<_}
+use Prim.Native.Nat.{ℕ, _*_, _≤_, _<_}
 use mathlib.Core.Path.{_≡_, refl, sym, ap, _∙_}
 use mathlib.Core.Bool.{Bool, true, false, cond}
 use mathlib.Core.List.{List, [], _∷_}
@@ -13,7 +13,7 @@ use Rattle.numbers.specs.Limits.{MOST-ROWS, MOST-OPERANDS, MOST-ASSUMES, MOST-G
 use Rattle.numbers.specs.Refusals.{ACCEPTED, WRONG-LENGTH, PAST-LIMIT}
 use Rattle.book.specs.Reading.{Read, got, refused, section, next, Sections, sections}
 use Rattle.book.specs.Private.{Few}
-use Rattle.book.specs.Judging.{Loaded, loaded, loadedFrom, whole, judged, bookIn}
+use Rattle.book.specs.Judging.{Loaded, loaded, whole, judged, bookIn}
 use Rattle.book.proofs.Placing.{number-judged, book-judged}
 
 -- what was read is so, or the refusal is none of acceptance
@@ -52,6 +52,7 @@ sections-ok words =
 -- ---- accepted words
 pub record Accepted (words : List ℕ) : Type 0 where
   pub all : Sections
+  pub read : sections WRONG-LENGTH words ≡ got all []
   pub few : Few all
   pub ok : judged all ≡ 0
   pub book-is : loaded words .book ≡ bookIn all
@@ -61,6 +62,6 @@ unfolding loaded whole
 accepted-words words h = by-read (sections WRONG-LENGTH words) refl (sections-ok words)
   where
     by-read : (x : Read Sections) → sections WRONG-LENGTH words ≡ x → Ok Few x → Accepted words
-    by-read (got s []) e f = let k : judged s ≡ 0 = sym (number-judged s) ∙ (rw e at h) in record { all = s; few = f; ok = k; book-is = rw e (ap (λ (l : Loaded). l .book) (book-judged s k)) }
+    by-read (got s []) e f = let k : judged s ≡ 0 = sym (number-judged s) ∙ (rw e at h) in record { all = s; read = e; few = f; ok = k; book-is = rw e (ap (λ (l : Loaded). l .book) (book-judged s k)) }
     by-read (got s (w ∷ ws)) e f = let z : _≡_ {A = ℕ} 1 0 = rw e at h in absurd (omega arith)
     by-read (refused n) e f = let z : n ≡ 0 = rw e at h in absurd (omega arith)

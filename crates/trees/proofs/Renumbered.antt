@@ -1,35 +1,33 @@
 -- An accepted book is accepted again when its properties are numbered anew from their trees. Assumes nothing.
-use Prim.Native.Nat.{ℕ, zero, suc, _+_, _*_, _/_, _≤_, _<_}
+use Prim.Native.Nat.{ℕ, zero, suc, _≤_, _<_}
 use mathlib.Core.Path.{_≡_, refl, sym, ap, _∙_}
-use mathlib.Core.Bool.{Bool, true, false}
+use mathlib.Core.Bool.{true}
 use mathlib.Core.List.{List, [], _∷_}
 use native.Mathlib.Omega.{arith}
 use lib.ListN.{length, getD}
 use lib.Seq.{take-length}
-use lib.Dec.{eqb}
 use borrow.Author.Tests.{eqb-true}
 use Rattle.numbers.specs.Refusals.{ACCEPTED}
 use Rattle.lists.proofs.Parts.{part-length}
 use Rattle.pmtl.specs.Answer.{bitOf}
-use Rattle.pmtl.specs.Book.{Row, Rows, rowAt, AllBelow, Ordered}
+use Rattle.pmtl.specs.Book.{Rows, rowAt, AllBelow}
 use Rattle.pmtl.proofs.Table.{by-rows}
 use Rattle.book.specs.Reading.{Sections}
 use Rattle.book.specs.Rows.{countOf, temporal}
 use Rattle.book.specs.Private.{Few}
-use Rattle.book.specs.Judging.{kindIn, argIn, lowerIn, upperIn, rowsIn, startIn, temporalsIn, argGood, formGood, rangeGood, judged, bookIn, loaded}
+use Rattle.book.specs.Judging.{kindIn, argIn, lowerIn, upperIn, rowsIn, startIn, temporalsIn, argGood, judged, bookIn, loaded}
 use Rattle.book.proofs.Accepted.{form, form-arg, form-kind, range, temporals-fit, operands-there, assume-below, guarantee-below}
-use Rattle.book.proofs.Links.{takes-arg}
-use Rattle.trees.specs.Forest.{Head, headOf, Forest, none, tree, _then_, count, size}
+use Rattle.trees.specs.Forest.{Head, Forest, _then_, count, size}
 use Rattle.trees.specs.Building.{kindOf, argOf, wordOf, atomOf, wordsOf}
 use Rattle.trees.specs.Books.{headIn, partsIn, joined, treeAt, treesOf}
 use Rattle.trees.proofs.Numbered.{size-then}
 use Rattle.trees.proofs.Books.{AllOf, each-below, below-up, parts-below, tree-in, trees-count, trees-good}
-use Rattle.trees.proofs.Sections.{all-below, headWith, rows-there, operandsAt, parts-are, head-are, book-ordered}
+use Rattle.trees.proofs.Sections.{all-below, rows-there, parts-are, head-are, book-ordered}
 use Rattle.trees.proofs.Sums.{sumTo, sum-agree, sum-ones, weight, weight-then, size-weight, trees-weigh}
 use Rattle.trees.proofs.Judged.{HeadGood, HeadsGood, heads-then, temporalHead, words-accepted}
 
 -- ---- a row's words, back from its head
-kind-back : (k : ℕ) → k ≤ 9 → kindOf (wordOf k) ≡ k
+pub kind-back : (k : ℕ) → k ≤ 9 → kindOf (wordOf k) ≡ k
 unfolding wordOf
 kind-back zero h = refl
 kind-back (suc zero) h = refl
@@ -43,7 +41,7 @@ kind-back (suc (suc (suc (suc (suc (suc (suc (suc zero)))))))) h = refl
 kind-back (suc (suc (suc (suc (suc (suc (suc (suc (suc zero))))))))) h = refl
 kind-back (suc (suc (suc (suc (suc (suc (suc (suc (suc (suc k)))))))))) h = absurd (omega arith)
 
-arg-back : (k a : ℕ) → k ≤ 9 → argGood k a ≡ true → argOf (wordOf k) (atomOf (wordOf k) a) (countOf k a) ≡ a
+pub arg-back : (k a : ℕ) → k ≤ 9 → argGood k a ≡ true → argOf (wordOf k) (atomOf (wordOf k) a) (countOf k a) ≡ a
 unfolding wordOf argGood countOf
 arg-back zero a h g = sym (eqb-true a 0 g)
 arg-back (suc zero) a h g = sym (eqb-true a 0 g)
@@ -73,13 +71,13 @@ module _ (s : Sections) (ok : judged s ≡ 0) where
   abbrev a : ℕ → ℕ
   a r = argIn (s .rows) r
 
-  low-kind : (r : ℕ) → r < rowsIn s → k r ≤ 9
+  pub low-kind : (r : ℕ) → r < rowsIn s → k r ≤ 9
   low-kind r h = form-kind (k r) (a r) (lowerIn (s .rows) r) (upperIn (s .rows) r) (form s ok r h)
 
-  kind-is : (r : ℕ) → r < rowsIn s → kindOf (headIn (rowAt b r) .word) ≡ k r
+  pub kind-is : (r : ℕ) → r < rowsIn s → kindOf (headIn (rowAt b r) .word) ≡ k r
   kind-is r h = ap (λ (z : Head). kindOf (z .word)) (head-are s ok r h) ∙ kind-back (k r) (low-kind r h)
 
-  head-good : (r : ℕ) → r < rowsIn s → (m : ℕ) → m ≡ length (partsIn (rowAt b r)) → HeadGood (headIn (rowAt b r)) m
+  pub head-good : (r : ℕ) → r < rowsIn s → (m : ℕ) → m ≡ length (partsIn (rowAt b r)) → HeadGood (headIn (rowAt b r)) m
   head-good r h m e =
       let f = form s ok r h in
       let c : m ≡ countOf (k r) (a r) = e ∙ ap length (parts-are s ok r h) ∙ part-length (startIn (s .rows) r) (countOf (k r) (a r)) (s .operands) (operands-there s ok r h) in
@@ -101,7 +99,7 @@ module _ (s : Sections) (ok : judged s ≡ 0) where
   trees-heads : (ps : List ℕ) → AllBelow (length b) ps → HeadsGood (treesOf b ps)
   trees-heads ps l = trees-each ps (each-below (λ r. HeadsGood (treeAt b r)) (length b) tree-heads ps l)
 
-  below : (ps : List ℕ) → ((i : ℕ) → i < length ps → getD ps i 0 < rowsIn s) → AllBelow (length b) ps
+  pub below : (ps : List ℕ) → ((i : ℕ) → i < length ps → getD ps i 0 < rowsIn s) → AllBelow (length b) ps
   below ps f = rw (take-length ps) at (all-below (length b) (length ps) ps (omega arith) (λ i h. rw (rows-there s ok) (f i h)))
 
   abbrev assumed : Forest
@@ -111,10 +109,10 @@ module _ (s : Sections) (ok : judged s ≡ 0) where
   gs = treesOf b (s .guarantees)
 
   -- as many rows, and as many temporal ones
-  size-same : size (assumed then gs) ≡ rowsIn s
+  pub size-same : size (assumed then gs) ≡ rowsIn s
   size-same = omega (arith, size-then assumed gs, size-weight assumed, size-weight gs, trees-weigh s ok (λ h. 1), sum-ones (rowsIn s))
 
-  temporals-same : weight temporalHead (assumed then gs) ≡ temporalsIn (s .rows) (rowsIn s)
+  pub temporals-same : weight temporalHead (assumed then gs) ≡ temporalsIn (s .rows) (rowsIn s)
   temporals-same =
       weight-then temporalHead assumed gs ∙ trees-weigh s ok temporalHead
       ∙ sum-agree (λ r. temporalHead (headIn (rowAt b r))) (λ r. bitOf (temporal (k r))) (rowsIn s) (λ r h. ap (λ (z : ℕ). bitOf (temporal z)) (kind-is r h))

@@ -2,15 +2,14 @@
 use Prim.Native.Nat.{ℕ, zero, suc, _+_, _≤_, _<_}
 use mathlib.Core.Path.{_≡_, refl, sym, ap, _∙_}
 use mathlib.Core.Bool.{Bool, true, false}
-use mathlib.Core.List.{List, [], _∷_, _++_}
+use mathlib.Core.List.{List, [], _∷_, _++_, map}
 use native.Mathlib.Omega.{arith}
-use lib.ListN.{length, getD, take, drop}
+use lib.ListN.{length, getD, take}
 use lib.Seq.{take-add, take-length}
 use lib.Dec.{eqb}
 use borrow.Author.Tests.{eqb-true, eqb-false}
-use Rattle.lists.specs.Lists.{part}
 use Rattle.pmtl.specs.Answer.{bitOf}
-use Rattle.pmtl.specs.Book.{Rows, rowAt, AllBelow, Ordered}
+use Rattle.pmtl.specs.Book.{Rows, rowAt, AllBelow}
 use Rattle.book.specs.Reading.{Sections}
 use Rattle.book.specs.Rows.{countOf}
 use Rattle.book.specs.Judging.{kindIn, argIn, rowsIn, startIn, timesIn, usesOf, judged, bookIn}
@@ -34,7 +33,7 @@ unfoldable many : ℕ → ℕ → ℕ
 many zero v = 0
 many (suc k) v = v + many k v
 
-sum-append : (f : ℕ → ℕ) (xs ys : List ℕ) → sumOver f (xs ++ ys) ≡ sumOver f xs + sumOver f ys
+pub sum-append : (f : ℕ → ℕ) (xs ys : List ℕ) → sumOver f (xs ++ ys) ≡ sumOver f xs + sumOver f ys
 unfolding sumOver
 sum-append f [] ys = omega arith
 sum-append f (x ∷ xs) ys = omega (arith, sum-append f xs ys)
@@ -130,12 +129,16 @@ module _ (w : Head → ℕ) where
   weight-then none g = omega arith
   weight-then (tree h p s) g = omega (arith, weight-then s g)
 
-  weight-trees : (b : Rows) (ps : List ℕ) → weight w (treesOf b ps) ≡ sumOver (λ r. weight w (treeAt b r)) ps
-  unfolding treesOf joined sumOver weight
-  weight-trees b [] = refl
-  weight-trees b (p ∷ ps) = weight-then (treeAt b p) (treesOf b ps) ∙ omega (arith, weight-trees b ps)
+  pub weight-joined : (t : ℕ → Forest) (ps : List ℕ) → weight w (joined (map t ps)) ≡ sumOver (λ r. weight w (t r)) ps
+  unfolding joined sumOver weight
+  weight-joined t [] = refl
+  weight-joined t (p ∷ ps) = weight-then (t p) (joined (map t ps)) ∙ omega (arith, weight-joined t ps)
 
-  weight-one : (h : Head) (p : Forest) → weight w (one h p) ≡ w h + weight w p
+  weight-trees : (b : Rows) (ps : List ℕ) → weight w (treesOf b ps) ≡ sumOver (λ r. weight w (treeAt b r)) ps
+  unfolding treesOf
+  weight-trees b ps = weight-joined (treeAt b) ps
+
+  pub weight-one : (h : Head) (p : Forest) → weight w (one h p) ≡ w h + weight w p
   unfolding weight
   weight-one h p = omega arith
 
@@ -144,25 +147,30 @@ unfolding size weight
 size-weight none = refl
 size-weight (tree h p s) = omega (arith, size-weight p, size-weight s)
 
--- ---- the trees of an accepted book weigh what its rows weigh
-module _ (s : Sections) (ok : judged s ≡ 0) (w : Head → ℕ) where
-  abbrev b : Rows
-  b = bookIn s .rows
+pub below-append : (n : ℕ) (xs ys : List ℕ) → AllBelow n xs → AllBelow n ys → AllBelow n (xs ++ ys)
+below-append n [] ys p q = q
+below-append n (x ∷ xs) ys p q = (p .0, below-append n xs ys (p .1) q)
 
+under : (n : ℕ) (xs : List ℕ) → ((i : ℕ) → i < length xs → getD xs i 0 < n) → AllBelow n xs
+under n xs f = rw (take-length xs) at (all-below n (length xs) xs (omega arith) f)
+
+uses-below : (s : Sections) → judged s ≡ 0 → AllBelow (rowsIn s) (usesOf s)
+uses-below s ok = let n = rowsIn s in below-append n (s .operands ++ s .assumes) (s .guarantees)
+    (below-append n (s .operands) (s .assumes) (under n (s .operands) (linked-operand s (links s ok))) (under n (s .assumes) (assume-below s ok))) (under n (s .guarantees) (guarantee-below s ok))
+
+over-ones : (xs : List ℕ) → sumOver (λ r. 1) xs ≡ length xs
+unfolding sumOver
+over-ones [] = refl
+over-ones (x ∷ xs) = omega (arith, over-ones xs)
+
+-- each row of an accepted book is an operand or a property
+pub uses-many : (s : Sections) → judged s ≡ 0 → length (usesOf s) ≡ rowsIn s
+uses-many s ok = sym (over-ones (usesOf s)) ∙ all-once (λ r. 1) (rowsIn s) (usesOf s) (uses-below s ok) (used s ok) ∙ sum-ones (rowsIn s)
+
+-- ---- where each row has its own weight and that of its operands, the properties of an accepted book weigh what its rows do
+module _ (s : Sections) (ok : judged s ≡ 0) (own whole : ℕ → ℕ) (each : (r : ℕ) → r < rowsIn s → whole r ≡ own r + sumOver whole (operandsAt s ok r)) where
   abbrev n : ℕ
   n = rowsIn s
-
-  abbrev own : ℕ → ℕ
-  own r = w (headIn (rowAt b r))
-
-  abbrev whole : ℕ → ℕ
-  whole r = weight w (treeAt b r)
-
-  row-weighs : (r : ℕ) → r < n → whole r ≡ own r + sumOver whole (operandsAt s ok r)
-  row-weighs r h =
-      ap (weight w) (tree-in b (book-ordered s ok) r (omega (arith, rows-there s ok)))
-      ∙ weight-one w (headIn (rowAt b r)) (treesOf b (partsIn (rowAt b r)))
-      ∙ ap (λ (z : ℕ). own r + z) (weight-trees w b (partsIn (rowAt b r)) ∙ ap (sumOver whole) (parts-are s ok r h))
 
   operands-weigh : (m : ℕ) → sumTo (λ r. sumOver whole (operandsAt s ok r)) m ≡ sumOver whole (take (startIn (s .rows) m) (s .operands))
   unfolding sumTo sumOver startIn
@@ -172,20 +180,29 @@ module _ (s : Sections) (ok : judged s ≡ 0) (w : Head → ℕ) where
       ∙ sym (ap (sumOver whole) (take-add (startIn (s .rows) m) (countOf (kindIn (s .rows) m) (argIn (s .rows) m)) (s .operands))
       ∙ sum-append whole (take (startIn (s .rows) m) (s .operands)) (operandsAt s ok m))
 
-  under : (xs : List ℕ) → ((i : ℕ) → i < length xs → getD xs i 0 < n) → AllBelow n xs
-  under xs f = rw (take-length xs) at (all-below n (length xs) xs (omega arith) f)
-
-  both-below : (xs ys : List ℕ) → AllBelow n xs → AllBelow n ys → AllBelow n (xs ++ ys)
-  both-below [] ys p q = q
-  both-below (x ∷ xs) ys p q = (p .0, both-below xs ys (p .1) q)
-
-  uses-below : AllBelow n (usesOf s)
-  uses-below = both-below (s .operands ++ s .assumes) (s .guarantees)
-      (both-below (s .operands) (s .assumes) (under (s .operands) (linked-operand s (links s ok))) (under (s .assumes) (assume-below s ok))) (under (s .guarantees) (guarantee-below s ok))
-
-  pub trees-weigh : weight w (treesOf b (s .assumes)) + weight w (treesOf b (s .guarantees)) ≡ sumTo own n
-  trees-weigh =
-      let all = all-once whole n (usesOf s) uses-below (used s ok) in
-      let parts = sum-agree whole (λ r. own r + sumOver whole (operandsAt s ok r)) n row-weighs ∙ sum-plus own (λ r. sumOver whole (operandsAt s ok r)) n in
+  pub properties-weigh : sumOver whole (s .assumes) + sumOver whole (s .guarantees) ≡ sumTo own n
+  properties-weigh =
+      let all = all-once whole n (usesOf s) (uses-below s ok) (used s ok) in
+      let parts = sum-agree whole (λ r. own r + sumOver whole (operandsAt s ok r)) n each ∙ sum-plus own (λ r. sumOver whole (operandsAt s ok r)) n in
       let taken = operands-weigh n ∙ ap (λ (z : ℕ). sumOver whole (take z (s .operands))) (operands-taken s ok) ∙ ap (sumOver whole) (take-length (s .operands)) in
-      omega (arith, all, parts, taken, sum-append whole (s .operands ++ s .assumes) (s .guarantees), sum-append whole (s .operands) (s .assumes), weight-trees w b (s .assumes), weight-trees w b (s .guarantees))
+      omega (arith, all, parts, taken, sum-append whole (s .operands ++ s .assumes) (s .guarantees), sum-append whole (s .operands) (s .assumes))
+
+-- ---- the trees of an accepted book weigh what its rows weigh
+module _ (s : Sections) (ok : judged s ≡ 0) (w : Head → ℕ) where
+  abbrev b : Rows
+  b = bookIn s .rows
+
+  abbrev own : ℕ → ℕ
+  own r = w (headIn (rowAt b r))
+
+  abbrev whole : ℕ → ℕ
+  whole r = weight w (treeAt b r)
+
+  row-weighs : (r : ℕ) → r < rowsIn s → whole r ≡ own r + sumOver whole (operandsAt s ok r)
+  row-weighs r h =
+      ap (weight w) (tree-in b (book-ordered s ok) r (omega (arith, rows-there s ok)))
+      ∙ weight-one w (headIn (rowAt b r)) (treesOf b (partsIn (rowAt b r)))
+      ∙ ap (λ (z : ℕ). own r + z) (weight-trees w b (partsIn (rowAt b r)) ∙ ap (sumOver whole) (parts-are s ok r h))
+
+  pub trees-weigh : weight w (treesOf b (s .assumes)) + weight w (treesOf b (s .guarantees)) ≡ sumTo own (rowsIn s)
+  trees-weigh = omega (arith, properties-weigh s ok own whole row-weighs, weight-trees w b (s .assumes), weight-trees w b (s .guarantees))

@@ -3,7 +3,7 @@ use Prim.Native.Nat.{ℕ, _+_, _*_, _-_, _≤_, _<_}
 use mathlib.Core.Path.{_≡_}
 use mathlib.Core.List.{List, [], _∷_, _++_}
 use lib.ListN.{length, getD, take}
-use Rattle.numbers.specs.Limits.{ROW-WORDS}
+use Rattle.numbers.specs.Limits.{MOST-ROWS, ROW-WORDS}
 use Rattle.trees.specs.Forest.{Head, Forest, one, _then_, count, size, roots, Entry, entries}
 use Rattle.trees.specs.declared.rows.RowWords.{RowWords}
 use Rattle.trees.specs.declared.rows.Spot.{Spot}
@@ -91,3 +91,9 @@ pub record Emitted (rs os ts : List ℕ) (p : Spot) (w : RowWords) (rs′ os′ 
   pub holds : (g f : Forest) (h : Head) → Mem rs os ts (p .operands) (g then f) → p .base ≡ count g → p .height ≡ count g + count f → p .row ≡ size (g then f)
       → w .kind ∷ w .arg ∷ w .lower ∷ w .upper ∷ [] ≡ rowWords (record { head = h; operands = roots (size g) f })
       → Mem rs′ os′ ts′ (p .operands + (p .height - p .base)) (g then one h f)
+
+-- there is room for as many rows as a book may have
+pub record Rooms (rows operands tops : ℕ) : Type 0 where
+  pub rows-long : ROW-WORDS * MOST-ROWS ≤ rows
+  pub operands-long : MOST-ROWS ≤ operands
+  pub tops-long : MOST-ROWS ≤ tops

@@ -1,5 +1,7 @@
 // Properties as trees, and the rows that they are numbered as: operands first, left to right.
+pub mod book_words;
 pub mod rows;
+pub mod walk;
 
 ghost use mathlib.Core.Path.{_≡_};
 ghost use Rattle.trees.specs.Building.{kindOf, wordOf};

@@ -1,35 +1,18 @@
 -- Laws of what the program that writes rules prints. Assumes nothing.
 use Prim.Native.Nat.{ℕ, _≤_, _<_}
-use mathlib.Core.Path.{_≡_, refl, sym, ap, _∙_}
-use mathlib.Core.List.{List, [], _∷_, _++_}
-use native.Mathlib.Omega.{arith}
+use mathlib.Core.Path.{_≡_, sym, ap, _∙_}
+use mathlib.Core.List.{List}
 use lib.ListN.{length, take}
 use borrow.Author.Tests.{lt-ltb, le-ltb, eq-eqb, ne-eqb}
 use Rattle.numbers.specs.Limits.{LONGEST-INPUT}
-use Rattle.numbers.specs.Refusals.{ACCEPTED, BAD-WORD, PAST-LIMIT, WRONG-LENGTH}
-use Rattle.text.specs.Words.{nextWord, supplyFrom}
-use Rattle.text.specs.declared.words.Read.the-variants.{Word, Refused}
-use Rattle.text.proofs.Supplies.{word, refused}
+use Rattle.numbers.specs.Refusals.{ACCEPTED, PAST-LIMIT}
+use Rattle.text.specs.Words.{supplyFrom}
 use Rattle.book.specs.Judging.{loaded, whole}
 use Rattle.rule_printer.specs.Printing.{bookPrinted}
-use Rattle.text_reader.specs.Reads.{BookTook, BookRead}
+use Rattle.text_reader.specs.Reads.{leftIn, leftOver, BookTook, BookRead}
 use Rattle.text_reader.specs.declared.Part.{Part}
 use Rattle.text_reader.specs.declared.Part.the-variants as part
-use Rattle.write_rules.specs.Answers.{refusedLine, leftIn, leftOver, loadedSaid, bookAlone, bookOnly, answerTo}
-
--- ---- what is left over
-module _ (s : List ℕ) (cursor : ℕ) where
-  pub left-word : {w next : ℕ} → nextWord s cursor ≡ Word w next → WRONG-LENGTH ≡ leftOver (supplyFrom s cursor)
-  unfolding leftIn
-  left-word e = rw (word s cursor e .gave)
-
-  pub left-bad : {n : ℕ} → nextWord s cursor ≡ Refused n → n ≡ BAD-WORD → BAD-WORD ≡ leftOver (supplyFrom s cursor)
-  unfolding leftIn
-  left-bad {n} e f = rw (refused s cursor e, eq-eqb n BAD-WORD f)
-
-  pub left-none : {n : ℕ} → nextWord s cursor ≡ Refused n → (n ≡ BAD-WORD → ⊥) → ACCEPTED ≡ leftOver (supplyFrom s cursor)
-  unfolding leftIn
-  left-none {n} e f = rw (refused s cursor e, ne-eqb n BAD-WORD f)
+use Rattle.write_rules.specs.Answers.{refusedLine, loadedSaid, bookAlone, bookOnly, answerTo}
 
 -- ---- a book handed over as words
 pub words-refused : (words : List ℕ) (n : ℕ) → n ≡ loaded words .number → (n ≡ ACCEPTED → ⊥) → refusedLine n ≡ loadedSaid (loaded words)

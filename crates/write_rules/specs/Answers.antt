@@ -1,29 +1,22 @@
 -- REFERENCE 11.5: what the program that writes rules prints, byte by byte. Definitions only.
 use Prim.Native.Nat.{ℕ}
 use mathlib.Core.Bool.{cond}
-use mathlib.Core.List.{List, [], _∷_, _++_}
+use mathlib.Core.List.{List, _++_}
 use lib.ListN.{length}
 use lib.Dec.{ltb, eqb}
 use Rattle.numbers.specs.Limits.{LONGEST-INPUT}
-use Rattle.numbers.specs.Refusals.{ACCEPTED, BAD-WORD, PAST-LIMIT, WRONG-LENGTH}
+use Rattle.numbers.specs.Refusals.{ACCEPTED, PAST-LIMIT}
 use Rattle.text.specs.Words.{Supply, supply}
 use Rattle.text.specs.Decimals.{decimal}
 use Rattle.book.specs.Reading.{Read, got, refused, Sections, sections}
 use Rattle.book.specs.Judging.{Loaded, loadedFrom}
+use Rattle.text_reader.specs.Reads.{leftIn}
 use Rattle.book_writer.specs.Layout.{bookWord, ended}
 use Rattle.rule_printer.specs.Printing.{bookPrinted}
 
 -- the line of a refusal
 unfoldable pub refusedLine : ℕ → List ℕ
 refusedLine n = (bookWord ++ decimal n) ++ ended
-
--- what follows a book that takes up all of a text: nothing, or a word too many, or a bad one
-unfoldable pub leftIn : List ℕ → ℕ → ℕ
-leftIn [] ending = cond (eqb ending BAD-WORD) BAD-WORD ACCEPTED
-leftIn (w ∷ ws) ending = WRONG-LENGTH
-
-abbrev pub leftOver : Supply → ℕ
-leftOver t = leftIn (t .words) (t .ending)
 
 -- an accepted book as text, else its refusal
 unfoldable pub loadedSaid : Loaded → List ℕ

@@ -1,22 +1,19 @@
 // Reads a book in words from standard input and prints it as text, or what it is refused with.
 ghost use mathlib.Core.Path.{_≡_};
-ghost use Rattle.text.specs.Words.{supplyFrom};
 ghost use Rattle.book.specs.Judging.{loaded};
 ghost use Rattle.buffer_writer.specs.Buffer.{handed, inBuffer};
-ghost use Rattle.write_rules.specs.Answers.{refusedLine, leftOver, loadedSaid, answerTo};
+ghost use Rattle.write_rules.specs.Answers.{refusedLine, loadedSaid, answerTo};
 use book::check::check;
 use buffer_writer::finished;
 use buffer_writer::put_bytes;
 use console::Came;
 use numbers::ACCEPTED;
-use numbers::BAD_WORD;
 use numbers::LONGEST_INPUT;
 use numbers::PAST_LIMIT;
-use numbers::WRONG_LENGTH;
 use rule_printer::print::print_book;
-use text::Read;
 use text_reader::BOOK_WORDS;
 use text_reader::Part;
+use text_reader::left_over;
 use text_reader::part_number;
 
 // A byte more than the longest input that is read, so that a longer one is seen to be longer.
@@ -32,20 +29,6 @@ fn refused(out: &mut [u8], number: u64) -> u64
     let end = book_writer::put_book_number(out, number);
     let next = put_bytes(out, end, b"\n");
     finished(out, next)
-}
-
-// What a text is refused with whose book ends at `cursor`: 0 where nothing follows.
-fn left_over(input: &[u8], cursor: usize) -> u64
-    ensures { λ r. ⌜ r ≡ leftOver (supplyFrom (now (input .entry)) cursor) ⌝ }
-{
-    let r = text::next_word(input, cursor);
-    let Read::Refused(n) = r else {
-        return WRONG_LENGTH;
-    };
-    if n == BAD_WORD {
-        return BAD_WORD;
-    }
-    ACCEPTED
 }
 
 // The text of a book handed over as words, or its refusal.

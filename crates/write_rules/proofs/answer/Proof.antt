@@ -11,7 +11,7 @@ use Rattle.write_rules.proofs.answer.Reads as reads
 use Rattle.write_rules.proofs.answer.Lts as lts
 use Rattle.text_reader.proofs.book.Reads as book-reads
 use Rattle.text_reader.proofs.part_number.Reads as part-number-reads
-use Rattle.write_rules.proofs.left_over.Reads as left-over-reads
+use Rattle.text_reader.proofs.left_over.Reads as left-over-reads
 use Rattle.write_rules.proofs.print_words.Reads as print-words-reads
 use Rattle.write_rules.proofs.refused.Reads as refused-reads
 

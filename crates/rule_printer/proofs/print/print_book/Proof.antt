@@ -1,4 +1,5 @@
-use Rattle.rule_printer.proofs.Booking.{assumes-there, guarantees-there, book-put}
+use Rattle.trees.proofs.Walking.{assumes-there, guarantees-there}
+use Rattle.rule_printer.proofs.Booking.{book-put}
 use mathlib.Core.Path.{_∙_}
 use borrow.Author.Needs.{needs}
 use Rattle.rule_printer.proofs.print.print_book.Statement.{statement}

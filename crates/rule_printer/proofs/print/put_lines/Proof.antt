@@ -1,5 +1,6 @@
-use Rattle.rule_printer.proofs.Booking.{Lined, lined-start, lined-more, lined-all, property-walk}
-use Rattle.rule_printer.specs.Walking.{rowsSaid}
+use Rattle.rule_printer.proofs.Booking.{Lined, lined-start, lined-more, lined-all}
+use Rattle.trees.proofs.Walking.{property-walk}
+use Rattle.trees.specs.Walking.{rowsSaid}
 use Prim.Native.Nat.{_-_}
 use lib.ListN.{length}
 use mathlib.Core.Path.{refl}

@@ -2,7 +2,8 @@ use borrow.Author.Needs.{needs}
 use Prim.Native.Nat.{ℕ, _+_, _-_, _*_, _^_, _≤_, _<_}
 use mathlib.Core.Path.{_≡_}
 use native.Mathlib.Omega.{arith}
-use Rattle.rule_printer.proofs.Walking.{start-few, walk-row, part-row, part-walk, rest-done, rest-more}
+use Rattle.trees.proofs.Walking.{start-few, walk-row, part-row, part-walk}
+use Rattle.rule_printer.proofs.Walking.{rest-done, rest-more}
 use borrow.Fn.Kinds.{In}
 use borrow.Fn.PlainCycle.{Measures, is, falls, and}
 use Rattle.rule_printer.proofs.walk.put_rest.Reads as put-rest
@@ -10,8 +11,8 @@ use Rattle.rule_printer.proofs.walk.put_rest.Kinds as put-rest-kinds
 use Rattle.rule_printer.proofs.walk.+put_rest.Lts-put_rest as put-rest-lts
 use Rattle.book.proofs.check.kind_in.Reads as kind-in-reads
 use Rattle.rule_printer.proofs.put.put_shut.Reads as put-shut-reads
-use Rattle.rule_printer.proofs.walk.count_at.Reads as count-at-reads
-use Rattle.rule_printer.proofs.walk.operand_at.Reads as operand-at-reads
+use Rattle.trees.proofs.walk.count_at.Reads as count-at-reads
+use Rattle.trees.proofs.walk.operand_at.Reads as operand-at-reads
 use Rattle.rule_printer.proofs.walk.put_begin.Reads as put-begin-reads
 use Rattle.rule_printer.proofs.walk.put_comma.Reads as put-comma-reads
 use Rattle.trees.proofs.word_of.Reads as word-of-reads

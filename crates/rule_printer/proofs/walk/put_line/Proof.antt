@@ -1,11 +1,11 @@
-use Rattle.rule_printer.proofs.Walking.{walk-row, line-put}
+use Rattle.rule_printer.proofs.Walking.{line-put}
 use borrow.Author.Needs.{needs}
 use Rattle.rule_printer.proofs.walk.put_line.Statement.{statement}
 use Rattle.rule_printer.proofs.walk.put_line.Tie as tie
 use Rattle.rule_printer.proofs.walk.put_line.Reads as reads
 use Rattle.rule_printer.proofs.walk.put_line.Lts as lts
 use Rattle.buffer_writer.proofs.put_bytes.Reads as put-bytes-reads
-use Rattle.rule_printer.proofs.walk.count_at.Reads as count-at-reads
+use Rattle.trees.proofs.walk.count_at.Reads as count-at-reads
 use Rattle.rule_printer.proofs.walk.put_begin.Reads as put-begin-reads
 use Rattle.rule_printer.proofs.walk.put_rest.Reads as put-rest-reads
 

@@ -10,7 +10,7 @@ use Rattle.rule_reader.proofs.read.build.Lts as lts
 use Rattle.book.proofs.check.check.Reads as check-reads
 use Rattle.lists.proofs.part_of.Reads as part-of-reads
 use Rattle.rule_reader.proofs.make.make.Reads as make-reads
-use Rattle.rule_reader.proofs.read.put_sections.Reads as put-sections-reads
+use Rattle.trees.proofs.book_words.put_sections.Reads as put-sections-reads
 use Rattle.rule_reader.proofs.read.refused.Reads as refused-reads
 
 -- src/read.rt:80:9

@@ -1,0 +1,5 @@
+pub mod Fitness
+pub mod Adding
+pub mod Walked
+pub mod Booked
+pub mod Made

@@ -1,0 +1,10 @@
+pub mod Fits
+pub mod Remade
+pub mod Saying
+pub mod Values
+pub mod Answers
+pub mod Totals
+pub mod Calls
+pub mod Accepted
+pub mod Theorems
+pub mod Examples
