@@ -259,6 +259,8 @@ fn read_state(words: &mut Words, width: usize, state: &mut Vec<bool>) -> Result<
     }
     Ok(if state.len() < width {
         9
+    } else if state.len() > width {
+        16
     } else if bad {
         10
     } else {

@@ -44,8 +44,6 @@ pub struct Style {
     stamped_in: usize,
     /// A call is meant to be refused once in so many; 0 is never.
     refused_in: usize,
-    /// States are as wide as the book asks, or wider.
-    wide: bool,
 }
 
 impl Style {
@@ -57,7 +55,6 @@ impl Style {
             state_in: chance.among(&[2, 2, 3, 5]),
             stamped_in: chance.among(&[0, 1, 2, 2]),
             refused_in: chance.among(&[0, 0, 20, 8]),
-            wide: chance.one_in(4),
         }
     }
 
@@ -182,33 +179,32 @@ impl Drawing<'_> {
             let place = self.chance.below(self.width);
             self.state[place] ^= 1;
         }
-        let mut state = self.state.clone();
-        if self.style.wide {
-            let more = self.chance.among(&[0, 1, 2, 9, MOST_WIDTH]);
-            let width = MOST_WIDTH.min(self.width + more);
-            while state.len() < width {
-                state.push(self.chance.below(2) as u64);
-            }
+        self.state.clone()
+    }
+
+    /// A state of another width, or with a word over 1, or both.
+    fn bad_state(&mut self) -> Vec<u64> {
+        let mut state = self.next_state();
+        let width = self.other_width();
+        state.truncate(width);
+        while state.len() < width {
+            state.push(self.chance.below(2) as u64);
+        }
+        if !state.is_empty() && (width == self.width || self.chance.one_in(3)) {
+            let place = self.chance.below(width);
+            state[place] = self.chance.among(&[2, 2, 3, 255, 256, 257, 1 << 32, (1 << 32) + 1, H, MAX]);
         }
         state
     }
 
-    /// A state too short, or with a word over 1, or both.
-    fn bad_state(&mut self) -> Vec<u64> {
-        let mut state = self.next_state();
-        let short = self.width > 0 && self.chance.one_in(2);
-        if short {
-            state.truncate(self.chance.below(self.width));
+    /// A width that is too small, too large, or, where the book has atoms, right.
+    fn other_width(&mut self) -> usize {
+        let more = self.chance.among(&[1, 1, 2, 9, MOST_WIDTH]);
+        let longer = MOST_WIDTH.min(self.width + more);
+        if self.width == 0 {
+            return longer;
         }
-        if !short || self.chance.one_in(3) {
-            let bad = self.chance.among(&[2, 2, 3, 255, 256, 257, 1 << 32, (1 << 32) + 1, H, MAX]);
-            if state.is_empty() && !short {
-                state.push(bad);
-            } else if !state.is_empty() {
-                let place = self.chance.below(state.len());
-                state[place] = bad;
-            }
-        }
-        state
+        let shorter = self.chance.below(self.width);
+        self.chance.among(&[shorter, longer, self.width])
     }
 }

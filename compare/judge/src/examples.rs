@@ -58,8 +58,8 @@ fn a_stamped_call_is_its_two_calls_in_turn() {
 #[test]
 fn a_stamped_call_is_refused_by_the_first_wrong_thing() {
     let book = "1 2 1 0 0 0 0 1 0";
-    let calls = ["2 5 2 0 1", "2 4 1 2", "2 9223372036854775808 1 2", "2 6 1 2", "2 6 2 0 2", "0 5"];
-    assert_eq!(lines(book, &calls), ["1 0 122 0", "2 7", "3 8", "4 9", "5 10", "6 0 122 0", "end"]);
+    let calls = ["2 5 2 0 1", "2 4 1 2", "2 9223372036854775808 1 2", "2 6 1 2", "2 6 3 0 1 2", "2 6 2 0 2", "0 5"];
+    assert_eq!(lines(book, &calls), ["1 0 122 0", "2 7", "3 8", "4 9", "5 16", "6 10", "7 0 122 0", "end"]);
 }
 
 #[test]
@@ -163,10 +163,10 @@ fn h_is_accepted_and_no_later_time() {
 #[test]
 fn refused_states() {
     let book = "1 2 1 0 0 0 0 1 0";
-    let calls = ["1 1 5", "1 2 0 2", "1 3 0 1 18446744073709551615", "1 3 0 1 0", "1 0"];
-    assert_eq!(lines(book, &calls), ["1 9", "2 10", "3 10", "4 0 122 0", "5 9", "end"]);
-    // 9 never if the book has no atom.
-    assert_eq!(lines("0 0 0 0", &["1 0", "1 1 1", "1 1 2"]), ["1 0 0", "2 0 0", "3 10", "end"]);
+    let calls = ["1 1 5", "1 2 0 2", "1 3 0 1 18446744073709551615", "1 3 0 1 0", "1 2 0 1", "1 0"];
+    assert_eq!(lines(book, &calls), ["1 9", "2 10", "3 16", "4 16", "5 0 122 0", "6 9", "end"]);
+    // If the book has no atom, the empty state alone has the right width.
+    assert_eq!(lines("0 0 0 0", &["1 0", "1 1 1", "1 1 2"]), ["1 0 0", "2 16", "3 16", "end"]);
 }
 
 #[test]

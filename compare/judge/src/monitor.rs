@@ -6,12 +6,13 @@ use crate::runs::Runs;
 
 pub const ACCEPTED: u64 = 0;
 /// A state width over 256.
-pub const TOO_WIDE: u64 = 2;
+pub const PAST_LIMIT: u64 = 2;
 pub const TIME_BELOW_CLOCK: u64 = 7;
 pub const TIME_ABOVE_H: u64 = 8;
 pub const STATE_TOO_SHORT: u64 = 9;
 pub const BAD_STATE: u64 = 10;
 pub const NO_ROOM: u64 = 11;
+pub const STATE_TOO_LONG: u64 = 16;
 
 /// The widest state.
 pub const MOST_WIDTH: usize = 256;
@@ -52,7 +53,7 @@ impl Monitor {
         if wrong != ACCEPTED {
             return wrong;
         }
-        let atoms = state[..self.book.width].iter().map(|&word| word == 1).collect();
+        let atoms = state.iter().map(|&word| word == 1).collect();
         self.step(self.clock, atoms)
     }
 
@@ -79,9 +80,11 @@ impl Monitor {
 
     fn wrong_state(&self, state: &[u64]) -> u64 {
         if state.len() > MOST_WIDTH {
-            TOO_WIDE
+            PAST_LIMIT
         } else if state.len() < self.book.width {
             STATE_TOO_SHORT
+        } else if state.len() > self.book.width {
+            STATE_TOO_LONG
         } else if state.iter().any(|&word| word > 1) {
             BAD_STATE
         } else {

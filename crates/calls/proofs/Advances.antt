@@ -5,8 +5,8 @@ use mathlib.Core.Logic.{⊎-elim}
 use mathlib.Core.Bool.{Bool, true, false, cond, true≢false}
 use mathlib.Core.List.{List, [], _∷_, map}
 use native.Mathlib.Omega.{arith}
-use lib.ListN.{length, getD, take, length-map, List·getD-map}
-use lib.Seq.{ext-getD, getD-take, length-take-le}
+use lib.ListN.{length, getD}
+use lib.Seq.{ext-getD}
 use lib.Dec.{eqb}
 use borrow.Author.Tests.{eqb-false}
 use Rattle.numbers.specs.Limits.{MAX, LAST-TIME}
@@ -43,7 +43,7 @@ use Rattle.calls.proofs.Rules.{set-of-slot, set-of-none}
 use Rattle.calls.proofs.Ahead.{ahead-one}
 use Rattle.calls.proofs.Plans.{set-none, fits-each}
 use Rattle.calls.proofs.Commits.{room-is}
-use Rattle.calls.proofs.Heads.{clocked-length, clocked-begun, clocked-clock, clocked-other, atoms-stand}
+use Rattle.calls.proofs.Heads.{bits-listed, clocked-length, clocked-begun, clocked-clock, clocked-other, atoms-stand}
 
 -- the end of a range is a time or MAX
 stop-fits : (g : Range) (c : ℕ) → c ≤ LAST-TIME → ((g .upper ≡ MAX → ⊥) → g .upper ≤ LAST-TIME) → stop g c + 1 < 2 ^ 64 + 1
@@ -192,25 +192,22 @@ module _ {m : List ℕ} {st : State} {c : ℕ} {atoms m₁ modes : List ℕ} (so
 
 -- ---- the snapshots of a call, up to the last, which is made from the state st
 abbrev pub Leads : List ℕ → List Snap → State → ℕ → List ℕ → Type 0
-Leads m ns st c atoms = play (rowsOf m) (stateOf m) (stateOf m) ns ≡ play (rowsOf m) (stateOf m) st (snapOf c atoms (widthWord m) ∷ [])
+Leads m ns st c atoms = play (rowsOf m) (stateOf m) (stateOf m) ns ≡ play (rowsOf m) (stateOf m) st (snapOf c atoms ∷ [])
 
 one-played : (m : List ℕ) (st : State) (c : ℕ) (atoms : List ℕ) → crowded (stepOf m st c atoms) ≡ false
-    → play (rowsOf m) (stateOf m) st (snapOf c atoms (widthWord m) ∷ []) ≡ record { number = 0; state = stepOf m st c atoms }
+    → play (rowsOf m) (stateOf m) st (snapOf c atoms ∷ []) ≡ record { number = 0; state = stepOf m st c atoms }
 unfolding play
 one-played m st c atoms e = rw (e, play)
 
 none-played : (m : List ℕ) (st : State) (c : ℕ) (atoms : List ℕ) → crowded (stepOf m st c atoms) ≡ true
-    → play (rowsOf m) (stateOf m) st (snapOf c atoms (widthWord m) ∷ []) ≡ record { number = 11; state = stateOf m }
+    → play (rowsOf m) (stateOf m) st (snapOf c atoms ∷ []) ≡ record { number = 11; state = stateOf m }
 unfolding play
 none-played m st c atoms e = rw (e, play)
-
-pub moved-width : {m : List ℕ} {st : State} {c : ℕ} {atoms m′ : List ℕ} → Moved m st c atoms m′ → widthWord m′ ≡ widthWord m
-moved-width v = v .below 3 (omega arith) (omega arith) (omega arith)
 
 -- ---- once the atoms are set, too
 module _
     {m : List ℕ} {st : State} {c : ℕ} {atoms m₁ m₂ : List ℕ} (kept : Kept m) (small : c ≤ LAST-TIME) (bytes : Bytes atoms (widthWord m)) (roomy : crowded (stepOf m st c atoms) ≡ false) (v : Moved m st c atoms m₁)
-    (a : Atoms m₁ atoms (widthWord m₁) m₂)
+    (a : Atoms m₁ atoms (length atoms) m₂)
   where
     begun-now : begunWord m₂ ≡ 1
     begun-now = a .below 1 (omega arith) ∙ v .begun
@@ -221,13 +218,11 @@ module _
     atoms-set : (j : ℕ) → j < 32 → slotWords m₂ j ≡ slotWords m₁ j
     atoms-set j lt =
         let n = kept .sound .book .narrow in
-        let e = moved-width v in
         part-same (setStart j) SET m₁ m₂ (let l = v .long in omega arith) (a .long ∙ sym (v .long)) (λ i p. a .above (setStart j + i) (omega arith))
 
     stepped : Stepped m m₂
     stepped =
         let n = kept .sound .book .narrow in
-        let e = moved-width v in
         let f = kept .sound .book .temporal-few in
         record {
           long = a .long ∙ sym (kept .sound .book .long);
@@ -242,18 +237,10 @@ module _
           sets = λ j p. rw (atoms-set j (omega arith)) (v .good j p);
         }
 
-    atoms-are : listed (λ i. isOne (getD m₂ (ATOMS + i) 0)) (widthWord m₂) ≡ map isOne (take (widthWord m) atoms)
+    atoms-are : listed (λ i. isOne (getD m₂ (ATOMS + i) 0)) (widthWord m₂) ≡ map isOne atoms
     atoms-are =
-        let wd = width-same m m₂ (kept .sound) stepped in
-        let f : ℕ → Bool = λ i. isOne (getD m₂ (ATOMS + i) 0) in
-        let long : length (take (widthWord m) atoms) ≡ widthWord m = length-take-le (widthWord m) atoms (bytes .long) in
-        ap (listed f) wd
-        ∙ ext-getD false (listed f (widthWord m)) (map isOne (take (widthWord m) atoms)) (listed-length f (widthWord m) ∙ sym (length-map (take (widthWord m) atoms) isOne ∙ long))
-        (λ i lt.
-        let p : i < widthWord m = omega (arith, listed-length f (widthWord m)) in
-        listed-at f false (widthWord m) i p
-        ∙ ap isOne (a .new i (let e = moved-width v in omega arith) ∙ sym (getD-take (widthWord m) atoms i 0 p))
-        ∙ sym (List·getD-map isOne (take (widthWord m) atoms) i 0))
+        sym (bits-listed (λ i. getD m₂ (ATOMS + i) 0) atoms (widthWord m₂) (bytes .long ∙ sym (width-same m m₂ (kept .sound) stepped))
+        (λ i lt. sym (a .new i (let e = width-same m m₂ (kept .sound) stepped in let n = bytes .long in omega arith))))
 
     set-is : (r : ℕ) → r < rowCount m → setOf m₂ r ≡ setAt (stepOf m st c atoms) r
     set-is r p =
@@ -275,7 +262,7 @@ module _
 
     sets-are : listed (setOf m₂) (rowCount m₂) ≡ stepOf m st c atoms .sets
     sets-are =
-        let long : length (stepOf m st c atoms .sets) ≡ rowCount m = step-sets (rowsOf m) st (snapOf c atoms (widthWord m)) ∙ rows-length m in
+        let long : length (stepOf m st c atoms .sets) ≡ rowCount m = step-sets (rowsOf m) st (snapOf c atoms) ∙ rows-length m in
         ap (listed (setOf m₂)) (stepped .rows-same)
         ∙ ext-getD [] (listed (setOf m₂) (rowCount m)) (stepOf m st c atoms .sets) (listed-length (setOf m₂) (rowCount m) ∙ sym long)
         (λ r lt.
@@ -287,8 +274,8 @@ module _
     unfolding stateOf
     state-after =
         state-is (stepOf m st c atoms)
-        (step-begun (rowsOf m) st (snapOf c atoms (widthWord m)) ∙ sym (ap isOne begun-now))
-        (step-now (rowsOf m) st (snapOf c atoms (widthWord m)) ∙ sym (ap₂ (λ (t : ℕ) (bs : List Bool). record { clock = t; atoms = bs }) clock-now atoms-are))
+        (step-begun (rowsOf m) st (snapOf c atoms) ∙ sym (ap isOne begun-now))
+        (step-now (rowsOf m) st (snapOf c atoms) ∙ sym (ap₂ (λ (t : ℕ) (bs : List Bool). record { clock = t; atoms = bs }) clock-now atoms-are))
         (sym sets-are)
 
     pub played : {ns : List Snap} → Leads m ns st c atoms → Advanced m ns m₂ 0
@@ -311,13 +298,11 @@ module _
     beyond-now : (i : ℕ) → VALUES + rowCount m ≤ i → getD m₂ i 0 ≡ getD m i 0
     beyond-now i h =
         let n = kept .sound .book .narrow in
-        let e = moved-width v in
         a .above i (omega arith) ∙ v .beyond i h
 
     valued-now : Valued m₂
     valued-now =
         let n = kept .sound .book .narrow in
-        let e = moved-width v in
         record {
           right = rw rows-now (λ r h.
               a .above (VALUES + r) (omega arith) ∙ v .values r h
@@ -393,10 +378,10 @@ module _ {m : List ℕ} {st : State} {c : ℕ} {atoms m₁ : List ℕ} {r : ℕ}
       (either (crowded (stepOf m st c atoms)))
 
   -- its atoms stand there already
-  pub tried-stands : Sound m → ((i : ℕ) → i < widthWord m → getD m (ATOMS + i) 0 ≡ getD atoms i 0) → r ≡ 0 → Atoms m₁ atoms (widthWord m₁) m₁
-  tried-stands sound same z =
+  pub tried-stands : Sound m → Bytes atoms (widthWord m) → ((i : ℕ) → i < widthWord m → getD m (ATOMS + i) 0 ≡ getD atoms i 0) → r ≡ 0 → Atoms m₁ atoms (length atoms) m₁
+  tried-stands sound bytes same z =
       let v = tried-moved z in
-      let e = moved-width v in
+      let e = bytes .long in
       let n = sound .book .narrow in
       atoms-stand (v .long) (λ i lt. v .below (ATOMS + i) (omega arith) (omega arith) (omega arith) ∙ same i (omega arith))
 
@@ -453,7 +438,7 @@ module _ {m m₁ : List ℕ} (sound : Sound m) (alike : Alike m m₁) where
   owner-as j h = let few = sound .book .temporal-few in alike .below (OWNERS + j) (omega arith)
 
   same-step : (st : State) (c : ℕ) (atoms : List ℕ) → stepOf m₁ st c atoms ≡ stepOf m st c atoms
-  same-step st c atoms = ap₂ (λ (b : Rows) (w : ℕ). step b st (snapOf c atoms w)) (alike-rows sound alike) (alike .below 3 (omega arith))
+  same-step st c atoms = ap (λ (b : Rows). step b st (snapOf c atoms)) (alike-rows sound alike)
 
   moved-back : ((i : ℕ) → VALUES + rowCount m ≤ i → getD m₁ i 0 ≡ getD m i 0) → (st : State) (c : ℕ) (atoms : List ℕ) {m′ : List ℕ} → Moved m₁ st c atoms m′ → Moved m st c atoms m′
   moved-back beyond₁ st c atoms v =

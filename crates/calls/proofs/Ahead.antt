@@ -16,7 +16,7 @@ use Rattle.pmtl.specs.Book.{mapRow, start, stop}
 use Rattle.pmtl.specs.Sets.{setRule}
 use Rattle.pmtl.specs.Monitor.{State, setAt}
 use Rattle.pmtl.proofs.Answers.{step-same}
-use Rattle.memory.specs.Memory.{rowCount, widthWord, temporals, kindAt, slotAt, ownerAt, slotWords, rowOf, rowsOf, setOf, stateOf, rangeAt}
+use Rattle.memory.specs.Memory.{rowCount, temporals, kindAt, slotAt, ownerAt, slotWords, rowOf, rowsOf, setOf, stateOf, rangeAt}
 use Rattle.memory.specs.Kept.{Sound}
 use Rattle.memory.proofs.Rows.{rows-length, row-at}
 use Rattle.set_change.specs.Change.{changed, bothOf, modeIn}
@@ -60,7 +60,7 @@ module _ {m : List ℕ} (sound : Sound m) {c : ℕ} (small : c ≤ LAST-TIME) wh
   ahead-step : (modes : List ℕ) (st : State) (atoms : List ℕ)
       → ((r : ℕ) → r < rowCount m → 7 ≤ kindAt m r → (f : ℕ → Bool) → setRule c (setAt st r) (mapRow f (rowOf m r)) ≡ setRule c (setAhead m c modes r) (mapRow f (rowOf m r)))
       → stepOf m (ahead m c modes) c atoms ≡ stepOf m st c atoms
-  ahead-step modes st atoms same = step-same (rowsOf m) (ahead m c modes) st (snapOf c atoms (widthWord m)) (λ r l f.
+  ahead-step modes st atoms same = step-same (rowsOf m) (ahead m c modes) st (snapOf c atoms) (λ r l f.
       let h : r < rowCount m = rw (← rows-length m) l in
       rw (row-at m r h)
       (⊎-elim

@@ -5,19 +5,18 @@ use mathlib.Core.Path.{_≡_, refl, sym, ap, _∙_}
 use mathlib.Core.Logic.{_⊎_, inl, inr}
 use mathlib.Core.Bool.{Bool, true, false, not}
 use mathlib.Core.List.{List, map}
-use lib.ListN.{length, getD, take, drop, List·getD-map}
-use lib.Seq.{getD-take}
+use lib.ListN.{length, getD, drop, List·getD-map}
 use lib.Dec.{lit<}
 use Rattle.pmtl.specs.Book.{mapRow}
 use Rattle.pmtl.specs.Monitor.{valueRule}
 use Rattle.memory.specs.declared.RowWords.{RowWords}
-use Rattle.memory.specs.Memory.{rowCount, widthWord, kindAt, lowerAt, upperAt, wordsAt, operandAt, operandsOf, operandsFrom, rowOf, isOne}
+use Rattle.memory.specs.Memory.{rowCount, kindAt, lowerAt, upperAt, wordsAt, operandAt, operandsOf, operandsFrom, rowOf, isOne}
 use Rattle.memory.specs.Kept.{BookKept, Span}
 use Rattle.memory.proofs.Rows.{Read, first-is, first-below, second-is, second-below}
 use Rattle.book.specs.Rows.{rowFrom, countOf}
 use Rattle.row_answers.specs.Private.{joined}
-use Rattle.row_answers.proofs.Answers.{read-words, span-as, span-book, atom-named, first-inside, second-inside}
-use Rattle.calls.specs.Private.{heldIn, atomsIn, Named}
+use Rattle.row_answers.proofs.Answers.{read-words, span-as, span-book, first-inside, second-inside}
+use Rattle.calls.specs.Private.{heldIn, Named}
 
 -- ---- the value of a row that is not temporal, from its words
 module _ {m : List ℕ} {r : ℕ} {words : RowWords} (kept : BookKept m) (inside : r < rowCount m) (ew : words ≡ wordsAt m r) (atoms : List ℕ) where
@@ -25,9 +24,9 @@ module _ {m : List ℕ} {r : ℕ} {words : RowWords} (kept : BookKept m) (inside
   read = read-words m r kept inside ew
 
   abbrev value : Bool
-  value = valueRule (atomsIn m atoms) false (mapRow (heldIn m) (rowOf m r))
+  value = valueRule (map isOne atoms) false (mapRow (heldIn m) (rowOf m r))
 
-  pub value-as : {k : ℕ} → words .kind ≡ k → value ≡ valueRule (atomsIn m atoms) false (mapRow (heldIn m) (rowFrom k (words .arg) (lowerAt m r) (upperAt m r) (drop (words .start) (operandsOf m))))
+  pub value-as : {k : ℕ} → words .kind ≡ k → value ≡ valueRule (map isOne atoms) false (mapRow (heldIn m) (rowFrom k (words .arg) (lowerAt m r) (upperAt m r) (drop (words .start) (operandsOf m))))
   unfolding rowOf
   value-as ek = rw (← (read .kind-is), ← (read .arg-is), ← (read .start-is), ek)
 
@@ -77,9 +76,7 @@ module _ {m : List ℕ} {r : ℕ} {words : RowWords} (kept : BookKept m) (inside
   -- an atom
   pub value-atom : words .kind ≡ 2 → {v : Bool} → v ≡ isOne (getD atoms (words .arg) 0) → v ≡ value
   unfolding rowFrom valueRule
-  value-atom ek ev =
-      ev ∙ ap isOne (sym (getD-take (widthWord m) atoms (words .arg) 0 (atom-named read ek)))
-      ∙ sym (value-as ek ∙ List·getD-map isOne (take (widthWord m) atoms) (words .arg) 0)
+  value-atom ek ev = ev ∙ sym (value-as ek ∙ List·getD-map isOne atoms (words .arg) 0)
 
   -- of one operand, of two, whose values the code has
   pub value-not : words .kind ≡ 5 → {x : ℕ} → x ≡ operandAt m (words .start) → {v : Bool} → v ≡ heldIn m x → not v ≡ value

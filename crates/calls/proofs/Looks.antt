@@ -5,7 +5,7 @@ use mathlib.Core.Path.{_≡_, refl, sym, ap, _∙_}
 use mathlib.Core.Logic.{⊎-elim}
 use mathlib.Core.Bool.{Bool, true, false, _||_, true≢false}
 use mathlib.Core.List.{List, map}
-use lib.ListN.{length, getD, set, take}
+use lib.ListN.{length, getD, set}
 use lib.Seq.{set-getD}
 use Rattle.lists.proofs.Tests.{lt-or-ge}
 use Rattle.lists.proofs.Filled.{filledFrom-before, filledFrom-after, filledFrom-more}
@@ -22,7 +22,7 @@ use Rattle.memory.specs.Kept.{Sound, Kept}
 use Rattle.memory.proofs.Rows.{rows-length, row-at, kept-ordered}
 use Rattle.book.specs.Rows.{rowFrom}
 use Rattle.memory.proofs.Bits.{bit-back}
-use Rattle.calls.specs.Private.{atomsFor, snapOf, stepOf, ahead, heldIn, atomsIn, setNext, valueNext, Named, valueAfter}
+use Rattle.calls.specs.Private.{atomsFor, snapOf, stepOf, ahead, heldIn, setNext, valueNext, Named, valueAfter}
 use Rattle.calls.proofs.Plans.{Going}
 use Rattle.calls.proofs.Heads.{old-atoms}
 use Rattle.calls.proofs.Still.{still}
@@ -114,7 +114,7 @@ module _ {m : List ℕ} (sound : Sound m) where
 
     pub visited-same : (fresh : Bool) (bytes : List ℕ) → (fresh ≡ false → Kept m) → atoms ≡ atomsFor m fresh bytes → (fresh || isOne (movesAt m′ n)) ≡ true → valueNext m′ c modes bytes n ≡ valueNext m′ c modes atoms n
     visited-same true bytes kept ea e = ap (λ (x : List ℕ). valueNext m′ c modes x n) (sym ea)
-    visited-same false bytes kept ea e = not-atom (atomsIn m′ bytes) (atomsIn m′ atoms) (has (setNext m′ c modes n) c) (heldIn m′) m′ n (moving-kind (kept refl) e)
+    visited-same false bytes kept ea e = not-atom (map isOne bytes) (map isOne atoms) (has (setNext m′ c modes n) c) (heldIn m′) m′ n (moving-kind (kept refl) e)
 
     -- one that is passed over keeps its value, and has no set
     module _ (kept : Kept m) (ea : atoms ≡ atomsOf m) (e : isOne (movesAt m′ n) ≡ false) where
@@ -128,7 +128,7 @@ module _ {m : List ℕ} (sound : Sound m) where
       unfolding stateOf
       value-stays =
           ap bitOf (still (rowsOf m) (kept-ordered (sound .book)) (stateOf m) (stepOf m (ahead m c modes₀) c atoms)
-          (ap (λ (s : Snap). s .atoms) (step-now (rowsOf m) (ahead m c modes₀) (snapOf c atoms (widthWord m))) ∙ ap (λ (x : List ℕ). map isOne (take (widthWord m) x)) ea ∙ old-atoms (sound))
+          (ap (λ (s : Snap). s .atoms) (step-now (rowsOf m) (ahead m c modes₀) (snapOf c atoms)) ∙ ap (map isOne) ea ∙ old-atoms (sound))
           n stays)
           ∙ sym (kept .tables .valued .right n h)
 

@@ -5,7 +5,7 @@ use mathlib.Core.Logic.{⊎-elim}
 use mathlib.Core.Bool.{Bool, true, false, not, true≢false}
 use mathlib.Core.List.{List, [], _∷_, map}
 use native.Mathlib.Omega.{arith}
-use lib.ListN.{length, getD, take, length-set}
+use lib.ListN.{length, getD, length-set}
 use lib.Seq.{getD-set-same, getD-set-other}
 use lib.Dec.{ltb}
 use borrow.Author.Tests.{lt-ltb, le-ltb, lt-leb, le-leb}
@@ -22,14 +22,14 @@ use Rattle.pmtl.specs.Calls.{crowded}
 use Rattle.pmtl.proofs.Table.{mapRow-local}
 use Rattle.pmtl.proofs.Answers.{value-fix, set-fix, step-sets, step-now}
 use Rattle.memory.specs.Layout.{ROWS, ROW, OWNERS, SET, VALUES}
-use Rattle.memory.specs.Memory.{rowCount, widthWord, temporals, kindAt, slotAt, ownerAt, slotWords, rowOf, rowsOf, isOne, rangeAt}
+use Rattle.memory.specs.Memory.{rowCount, temporals, kindAt, slotAt, ownerAt, slotWords, rowOf, rowsOf, isOne, rangeAt}
 use Rattle.memory.specs.Kept.{BookKept, Sound}
 use Rattle.memory.specs.Alike.{Alike}
 use Rattle.memory.proofs.Rows.{rows-length, row-at, kept-ordered}
 use Rattle.memory.proofs.Alike.{alike-filled, alike-sound, alike-rows, alike-set}
 use Rattle.set_change.specs.Change.{changed, bothOf, modeIn}
 use Rattle.set_change.proofs.Changes.{room-else, will-0}
-use Rattle.calls.specs.Private.{snapOf, stepOf, ahead, setAhead, heldIn, atomsIn, setNext, valueNext, modeAt, modeNext, setAfter, rowPlan, modePut, RowTried, valueAfter, Planned, Bounded, Slot}
+use Rattle.calls.specs.Private.{snapOf, stepOf, ahead, setAhead, heldIn, setNext, valueNext, modeAt, modeNext, setAfter, rowPlan, modePut, RowTried, valueAfter, Planned, Bounded, Slot}
 use Rattle.calls.proofs.Rules.{no-set}
 use Rattle.calls.proofs.Ahead.{ahead-at, ahead-slot, rule-both}
 use Rattle.memory.proofs.Bits.{bit-back}
@@ -56,12 +56,12 @@ crowds s =
 
 module _ (m : List ℕ) (kept : BookKept m) (st : State) (c : ℕ) (atoms : List ℕ) where
   sets-length : length (stepOf m st c atoms .sets) ≡ rowCount m
-  sets-length = step-sets (rowsOf m) st (snapOf c atoms (widthWord m)) ∙ rows-length m
+  sets-length = step-sets (rowsOf m) st (snapOf c atoms) ∙ rows-length m
 
   -- a row's new set, by its old one and its operands' new values
   set-now : (r : ℕ) → r < rowCount m → setAt (stepOf m st c atoms) r ≡ setRule c (setAt st r) (mapRow (value (rowsOf m) (stepOf m st c atoms)) (rowOf m r))
   set-now r h =
-      set-fix (rowsOf m) (kept-ordered kept) st (snapOf c atoms (widthWord m)) r
+      set-fix (rowsOf m) (kept-ordered kept) st (snapOf c atoms) r
       ∙ ap (λ (row : Row ℕ). setRule c (setAt st r) (mapRow (value (rowsOf m) (stepOf m st c atoms)) row)) (row-at m r h)
 
   pub set-none : (r : ℕ) → r < rowCount m → kindAt m r < 7 → setAt (stepOf m st c atoms) r ≡ []
@@ -97,11 +97,11 @@ module _ (m : List ℕ) (kept : BookKept m) (st : State) (c : ℕ) (atoms : List
       fits-or false f = absurd (true≢false (sym (f refl) ∙ e))
 
   -- a row's new value, by its new set and its operands' new values
-  value-now : (r : ℕ) → r < rowCount m → value (rowsOf m) (stepOf m st c atoms) r ≡ valueRule (atomsIn m atoms) (has (setAt (stepOf m st c atoms) r) c) (mapRow (value (rowsOf m) (stepOf m st c atoms)) (rowOf m r))
+  value-now : (r : ℕ) → r < rowCount m → value (rowsOf m) (stepOf m st c atoms) r ≡ valueRule (map isOne atoms) (has (setAt (stepOf m st c atoms) r) c) (mapRow (value (rowsOf m) (stepOf m st c atoms)) (rowOf m r))
   value-now r h =
       value-fix (rowsOf m) (kept-ordered kept) (stepOf m st c atoms) r
       ∙ ap₂ (λ (s : Snap) (row : Row ℕ). valueRule (s .atoms) (has (setAt (stepOf m st c atoms) r) (s .clock)) (mapRow (value (rowsOf m) (stepOf m st c atoms)) row))
-      (step-now (rowsOf m) st (snapOf c atoms (widthWord m))) (row-at m r h)
+      (step-now (rowsOf m) st (snapOf c atoms)) (row-at m r h)
 
 -- how far planning a step has gone, from modes₀: the rows below n have their new values, and the sets of those that are temporal their modes and room
 pub record Going (m : List ℕ) (modes₀ : List ℕ) (c : ℕ) (atoms m′ modes : List ℕ) (n : ℕ) : Type 0 where
@@ -153,9 +153,6 @@ module _ {m modes₀ : List ℕ} {c : ℕ} {atoms : List ℕ} (sound : Sound m) 
       row-now : rowOf m′ n ≡ rowOf m n
       row-now = sym (row-at m′ n (rw going-count h)) ∙ ap (λ (b : Rows). rowAt b n) (alike-rows sound going-alike) ∙ row-at m n h
 
-      width-now : widthWord m′ ≡ widthWord m
-      width-now = going-alike .below 3 (omega arith)
-
       operands-right : mapRow (heldIn m′) (rowOf m n) ≡ mapRow (value (rowsOf m) (stepOf m (ahead m c modes₀) c atoms)) (rowOf m n)
       operands-right =
           let low : Below n (rowOf m n) = rw (row-at m n h) at (kept-ordered (sound .book) n) in
@@ -200,8 +197,8 @@ module _ {m modes₀ : List ℕ} {c : ℕ} {atoms : List ℕ} (sound : Sound m) 
 
       value-right : valueNext m′ c modes atoms n ≡ value (rowsOf m) (stepOf m (ahead m c modes₀) c atoms) n
       value-right =
-          ap₂ (λ (s : Runs) (row : Row ℕ). valueRule (atomsIn m′ atoms) (has s c) (mapRow (heldIn m′) row)) set-right row-now
-          ∙ ap₂ (λ (w : ℕ) (row : Row Bool). valueRule (map isOne (take w atoms)) (has (setAt (stepOf m (ahead m c modes₀) c atoms) n) c) row) width-now operands-right
+          ap₂ (λ (s : Runs) (row : Row ℕ). valueRule (map isOne atoms) (has s c) (mapRow (heldIn m′) row)) set-right row-now
+          ∙ ap (valueRule (map isOne atoms) (has (setAt (stepOf m (ahead m c modes₀) c atoms) n) c)) operands-right
           ∙ sym (value-now m (sound .book) (ahead m c modes₀) c atoms n h)
 
       -- the mode that the code finds makes that of the set

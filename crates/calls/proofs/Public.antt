@@ -1,11 +1,11 @@
 -- The public calls, arm by arm: refused for themselves, or played. Assumes nothing.
 use Prim.Native.Nat.{ℕ, _≤_, _<_}
-use mathlib.Core.Path.{_≡_, refl, sym, ap, ap₂, _∙_}
+use mathlib.Core.Path.{_≡_, refl, sym, ap, _∙_}
 use mathlib.Core.Logic.{⊎-elim}
-use mathlib.Core.Bool.{Bool, true, false, cond, true≢false}
-use mathlib.Core.List.{List, [], _∷_, map}
+use mathlib.Core.Bool.{Bool, true, false, true≢false}
+use mathlib.Core.List.{List, [], _∷_}
 use native.Mathlib.Omega.{arith}
-use lib.ListN.{length, getD, take}
+use lib.ListN.{length, getD}
 use lib.Dec.{ltb, eqb}
 use borrow.Author.Tests.{lt-ltb, le-ltb, ltb-false, ne-eqb, eq-eqb}
 use Rattle.numbers.specs.Limits.{LAST-TIME, MOST-ATOMS}
@@ -14,9 +14,9 @@ use Rattle.pmtl.specs.Book.{widthOf, some}
 use Rattle.pmtl.specs.Monitor.{Snap, State}
 use Rattle.pmtl.specs.Calls.{Call, turns, timeRefusal, stateRefusal, firstOf, refusal, crowded, play, call}
 use Rattle.pmtl.specs.Calls.Call.{time, state, stamped}
-use Rattle.pmtl.proofs.Calls.{first-zero, timely}
+use Rattle.pmtl.proofs.Calls.{timely, well-stated}
 use Rattle.memory.specs.Layout.{SIZE}
-use Rattle.memory.specs.Memory.{begunWord, clockOf, widthWord, rowsOf, bookOf, stateOf, isOne, atomsOf}
+use Rattle.memory.specs.Memory.{begunWord, clockOf, widthWord, rowsOf, bookOf, stateOf, atomsOf}
 use Rattle.memory.specs.Tables.{Tables}
 use Rattle.memory.specs.Kept.{BookKept, Sound, Kept}
 use Rattle.memory.specs.Alike.{Alike}
@@ -25,7 +25,7 @@ use Rattle.calls.specs.Private.{Bytes, snapOf, stepOf, Atoms, Moved, Tri
 use Rattle.calls.specs.Called.{Called}
 use Rattle.calls.proofs.Plans.{some-hit}
 use Rattle.calls.proofs.Heads.{old-same, old-bytes, old-atoms}
-use Rattle.calls.proofs.Advances.{Leads, moved-width, played, due, has-room, tried-moved, tried-refused, tried-stands}
+use Rattle.calls.proofs.Advances.{Leads, played, due, has-room, tried-moved, tried-refused, tried-stands}
 
 -- ---- a call that is refused for itself, and one that is not
 called-refused : {m : List ℕ} {k : Call} {n : ℕ} → Kept m → refusal (rowsOf m) (stateOf m .now) k ≡ n → (n ≡ 0 → ⊥) → Called k m m n
@@ -34,7 +34,7 @@ called-refused {m} {k} {n} kept e ne =
     let q = ne-eqb n 0 ne in
     record { number = sym (rw (e, q) e); state = sym (rw (e, q)); book = refl; refused = λ z. refl; kept = kept }
 
-called-played : {m m′ : List ℕ} {k : Call} {r : ℕ} {ns : List Snap} → refusal (rowsOf m) (stateOf m .now) k ≡ 0 → ns ≡ turns (rowsOf m) (stateOf m .now) k → Advanced m ns m′ r → Kept m′ → Called k m m′ r
+called-played : {m m′ : List ℕ} {k : Call} {r : ℕ} {ns : List Snap} → refusal (rowsOf m) (stateOf m .now) k ≡ 0 → ns ≡ turns (stateOf m .now) k → Advanced m ns m′ r → Kept m′ → Called k m m′ r
 unfolding call bookOf
 called-played {m} {m′} {k} {r} e en a kept =
     record {
@@ -82,28 +82,34 @@ module _ {m : List ℕ} (book : BookKept m) (s : List ℕ) where
     pub number-short : length s < w → 9 ≡ stateRefusal (rowsOf m) s
     number-short k = sym (rw (le-ltb MOST-ATOMS (length s) h, width-is, lt-ltb (length s) w k))
 
-    module _ (k : w ≤ length s) {b : Bool} (eb : b ≡ some (ltb 1) s) where
-      pub number-other : b ≡ true → 10 ≡ stateRefusal (rowsOf m) s
-      number-other e = sym (rw (le-ltb MOST-ATOMS (length s) h, width-is, le-ltb (length s) w k, ← eb, e))
+    module _ (k : w ≤ length s) where
+      pub number-long : w < length s → 16 ≡ stateRefusal (rowsOf m) s
+      number-long l = sym (rw (le-ltb MOST-ATOMS (length s) h, width-is, le-ltb (length s) w k, lt-ltb w (length s) l))
 
-      pub number-bits : b ≡ false → 0 ≡ stateRefusal (rowsOf m) s
-      number-bits e = sym (rw (le-ltb MOST-ATOMS (length s) h, width-is, le-ltb (length s) w k, ← eb, e))
+      module _ (l : length s ≤ w) {b : Bool} (eb : b ≡ some (ltb 1) s) where
+        pub number-other : b ≡ true → 10 ≡ stateRefusal (rowsOf m) s
+        number-other e = sym (rw (le-ltb MOST-ATOMS (length s) h, width-is, le-ltb (length s) w k, le-ltb w (length s) l, ← eb, e))
+
+        pub number-bits : b ≡ false → 0 ≡ stateRefusal (rowsOf m) s
+        number-bits e = sym (rw (le-ltb MOST-ATOMS (length s) h, width-is, le-ltb (length s) w k, le-ltb w (length s) l, ← eb, e))
 
 -- a state that nothing is wrong with
 sound-bytes : {m : List ℕ} → BookKept m → (s : List ℕ) → stateRefusal (rowsOf m) s ≡ 0 → Bytes s (widthWord m)
 sound-bytes {m} book s e =
-    let p = first-zero (ltb MOST-ATOMS (length s)) 1 (cond (ltb (length s) (widthOf (rowsOf m))) 9 (cond (some (ltb 1) s) 10 0)) e in
-    let q = first-zero (ltb (length s) (widthOf (rowsOf m))) 8 (cond (some (ltb 1) s) 10 0) (p .1) in
-    let z = first-zero (some (ltb 1) s) 9 0 (q .1) .0 in
-    let long : widthOf (rowsOf m) ≤ length s = ltb-false (length s) (widthOf (rowsOf m)) (q .0) in
+    let p = well-stated (rowsOf m) s e in
+    let long : length s ≡ widthWord m = p .0 ∙ sym (book .width) in
     record {
-      long = rw (book .width) long;
-      bits = λ i lt. ltb-false 1 (getD s i 0) (fails-by (ltb 1 (getD s i 0)) (λ y. true≢false (sym (some-hit (ltb 1) 0 s i (let w = book .width in omega arith) y) ∙ z)));
+      long = long;
+      bits = λ i lt. ltb-false 1 (getD s i 0) (fails-by (ltb 1 (getD s i 0)) (λ y. true≢false (sym (some-hit (ltb 1) 0 s i (omega arith) y) ∙ p .1)));
     }
 
 -- there is place for the atoms of a state where the sets were changed
-roomy-for : {m m₁ s : List ℕ} {st : State} {c : ℕ} → Kept m → Bytes s (widthWord m) → Moved m st c s m₁ → (length m₁ ≡ SIZE) × (widthWord m₁ ≤ length s) × (widthWord m₁ ≤ 256)
-roomy-for kept bytes v = (v .long, rw (moved-width v) (bytes .long), omega (arith, kept .sound .book .narrow, moved-width v))
+roomy-for : {m m₁ s : List ℕ} {st : State} {c : ℕ} → Kept m → Bytes s (widthWord m) → Moved m st c s m₁ → (length m₁ ≡ SIZE) × (length s ≤ MOST-ATOMS)
+roomy-for kept bytes v = (v .long, omega (arith, kept .sound .book .narrow, bytes .long))
+
+-- and a byte for each
+enough : {s : List ℕ} {w : ℕ} → Bytes s w → w ≤ length s
+enough bytes = let e = bytes .long in omega arith
 
 -- ---- a time call
 module _ {m : List ℕ} (kept : Kept m) (t : ℕ) {late : ℕ} (el : late ≡ timeRefusal (stateOf m .now) t) where
@@ -115,7 +121,7 @@ module _ {m : List ℕ} (kept : Kept m) (t : ℕ) {late : ℕ} (el : late ≡ ti
     pub in-range : t ≤ LAST-TIME
     in-range = timely (stateOf m .now) t (sym el ∙ in-time) .1
 
-    time-played : {m′ : List ℕ} {r : ℕ} → Advanced m (snapOf t (atomsOf m) (widthWord m) ∷ []) m′ r → Kept m′ → Called (time t) m m′ r
+    time-played : {m′ : List ℕ} {r : ℕ} → Advanced m (snapOf t (atomsOf m) ∷ []) m′ r → Kept m′ → Called (time t) m m′ r
     unfolding refusal stateOf
     time-played a kept′ = called-played (sym el ∙ in-time) (ap (λ (bs : List Bool). record { clock = t; atoms = bs } ∷ []) (old-atoms (kept .sound))) a kept′
 
@@ -124,8 +130,8 @@ module _ {m : List ℕ} (kept : Kept m) (t : ℕ) {late : ℕ} (el : late ≡ ti
       time-full ne = let q = tried-refused tried refl ne in time-played (q .0) (rw (q .1) kept)
 
       -- its atoms stand there already
-      stands : r ≡ 0 → Atoms m₁ (atomsOf m) (widthWord m₁) m₁
-      stands = tried-stands tried (kept .sound) (old-same (kept .sound))
+      stands : r ≡ 0 → Atoms m₁ (atomsOf m) (length (atomsOf m)) m₁
+      stands = tried-stands tried (kept .sound) (old-bytes (kept .sound)) (old-same (kept .sound))
 
       pub time-due : r ≡ 0 → {first : Bool} → first ≡ eqb (begunWord m) 0 → Due m₁ first
       time-due z ef = due kept in-range (old-bytes (kept .sound)) (has-room tried z) (tried-moved tried z) (stands z) ef
@@ -148,21 +154,21 @@ module _ {m : List ℕ} (kept : Kept m) (s : List ℕ) {wrong : ℕ} (ew : wrong
 
     module _ {clock : ℕ} (ec : clock ≡ clockOf m) where
       pub state-timely : (Kept m × (clock ≤ LAST-TIME)) × (true ≡ true → widthWord m ≤ length s)
-      state-timely = ((kept, rw ec (kept .sound .clock)), λ e. new-bytes .long)
+      state-timely = ((kept, rw ec (kept .sound .clock)), λ e. enough new-bytes)
 
-      state-played : {m′ : List ℕ} {r : ℕ} → Advanced m (snapOf clock s (widthWord m) ∷ []) m′ r → Kept m′ → Called (state s) m m′ r
+      state-played : {m′ : List ℕ} {r : ℕ} → Advanced m (snapOf clock s ∷ []) m′ r → Kept m′ → Called (state s) m m′ r
       unfolding refusal stateOf
       state-played a kept′ =
-          called-played (sym ew ∙ right) (ap₂ (λ (c n : ℕ). record { clock = c; atoms = map isOne (take n s) } ∷ []) ec (kept .sound .book .width)) a kept′
+          called-played (sym ew ∙ right) (ap (λ (c : ℕ). snapOf c s ∷ []) ec) a kept′
 
       module _ {m₁ : List ℕ} {r : ℕ} (tried : Tried m (stateOf m) clock s m₁ r) where
         pub state-full : (r ≡ 0 → ⊥) → Called (state s) m m₁ r
         state-full ne = let q = tried-refused tried refl ne in state-played (q .0) (rw (q .1) kept)
 
-        pub state-roomy : r ≡ 0 → (length m₁ ≡ SIZE) × (widthWord m₁ ≤ length s) × (widthWord m₁ ≤ 256)
+        pub state-roomy : r ≡ 0 → (length m₁ ≡ SIZE) × (length s ≤ MOST-ATOMS)
         state-roomy z = roomy-for kept new-bytes (tried-moved tried z)
 
-        module _ {m₂ : List ℕ} (z : r ≡ 0) (a : Atoms m₁ s (widthWord m₁) m₂) where
+        module _ {m₂ : List ℕ} (z : r ≡ 0) (a : Atoms m₁ s (length s) m₂) where
           pub state-due : {first : Bool} → first ≡ eqb (begunWord m) 0 → Due m₂ first
           state-due ef = due kept (state-timely .0 .1) new-bytes (has-room tried z) (tried-moved tried z) a ef
 
@@ -197,16 +203,16 @@ module _ {m : List ℕ} (kept : Kept m) (t : ℕ) (s : List ℕ) {late : ℕ} (e
       small = in-range kept t el in-time
 
       pub stamped-timely : Kept m × (t ≤ LAST-TIME) × (widthWord m ≤ length s)
-      stamped-timely = (kept, small, bytes .long)
+      stamped-timely = (kept, small, enough bytes)
 
       abbrev snaps : List Snap
-      snaps = snapOf t (atomsOf m) (widthWord m) ∷ snapOf t s (widthWord m) ∷ []
+      snaps = snapOf t (atomsOf m) ∷ snapOf t s ∷ []
 
       stamped-played : {m′ : List ℕ} {r : ℕ} → Advanced m snaps m′ r → Kept m′ → Called (stamped t s) m m′ r
       unfolding refusal firstOf stateOf
       stamped-played a kept′ =
           called-played (rw (eq-eqb (timeRefusal (stateOf m .now) t) 0 time-fine) state-fine)
-          (ap₂ (λ (bs : List Bool) (w : ℕ). record { clock = t; atoms = bs } ∷ record { clock = t; atoms = map isOne (take w s) } ∷ []) (old-atoms (kept .sound)) (kept .sound .book .width)) a kept′
+          (ap (λ (bs : List Bool). record { clock = t; atoms = bs } ∷ snapOf t s ∷ []) (old-atoms (kept .sound))) a kept′
 
       abbrev between : State
       between = stepOf m (stateOf m) t (atomsOf m)
@@ -234,10 +240,10 @@ module _ {m : List ℕ} (kept : Kept m) (t : ℕ) (s : List ℕ) {late : ℕ} (e
           last : Tried m between t s m₁ r
           last = tried .last roomy
 
-          pub stamped-roomy : (length m₁ ≡ SIZE) × (widthWord m₁ ≤ length s) × (widthWord m₁ ≤ 256)
+          pub stamped-roomy : (length m₁ ≡ SIZE) × (length s ≤ MOST-ATOMS)
           stamped-roomy = roomy-for kept bytes (tried-moved last z)
 
-          module _ {m₂ : List ℕ} (a : Atoms m₁ s (widthWord m₁) m₂) where
+          module _ {m₂ : List ℕ} (a : Atoms m₁ s (length s) m₂) where
             pub stamped-due : {first : Bool} → first ≡ eqb (begunWord m) 0 → Due m₂ first
             stamped-due ef = due kept small bytes (has-room last z) (tried-moved last z) a ef
 

@@ -3,7 +3,7 @@ use Prim.Native.Nat.{ℕ, _+_, _≤_, _<_}
 use native.Mathlib.Omega.{arith}
 use mathlib.Core.Path.{_≡_, refl, sym, ap, ap₂, _∙_}
 use mathlib.Core.Bool.{Bool, true, false, cond, not, true≢false}
-use mathlib.Core.List.{List, []}
+use mathlib.Core.List.{List, [], map}
 use lib.ListN.{getD, set}
 use lib.Dec.{eqb}
 use borrow.Author.Tests.{lt-leb, le-leb}
@@ -12,10 +12,10 @@ use Rattle.pmtl.specs.Answer.{bitOf}
 use Rattle.pmtl.specs.Book.{mapRow}
 use Rattle.pmtl.specs.Monitor.{valueRule}
 use Rattle.memory.specs.Layout.{SET, VALUES}
-use Rattle.memory.specs.Memory.{rowCount, kindAt, slotAt, rowOf}
+use Rattle.memory.specs.Memory.{rowCount, kindAt, slotAt, rowOf, isOne}
 use Rattle.set_change.specs.Change.{bothOf}
 use Rattle.calls.specs.declared.RowPlan.{RowPlan}
-use Rattle.calls.specs.Private.{setAhead, heldIn, atomsIn, setNext, modeAt, modeNext, setAfter, rowPlan, modePut, RowTried, Timely, Slot}
+use Rattle.calls.specs.Private.{setAhead, heldIn, setNext, modeAt, modeNext, setAfter, rowPlan, modePut, RowTried, Timely, Slot}
 use Rattle.calls.proofs.Rules.{no-set, temporal-held}
 use Rattle.calls.proofs.Ahead.{rule-both}
 
@@ -28,12 +28,12 @@ module _ {m : List ℕ} {c : ℕ} (timely : Timely m c) (atoms modes : List ℕ)
     no-next : setNext m c modes r ≡ []
     no-next = no-set c (setAhead m c modes r) (heldIn m) m r low
 
-    pub tried-plain : {v : Bool} → v ≡ valueRule (atomsIn m atoms) false (mapRow (heldIn m) (rowOf m r)) → {m′ : List ℕ} → m′ ≡ set m (VALUES + r) (bitOf v) → RowTried m c atoms modes r m′ modes true
+    pub tried-plain : {v : Bool} → v ≡ valueRule (map isOne atoms) false (mapRow (heldIn m) (rowOf m r)) → {m′ : List ℕ} → m′ ≡ set m (VALUES + r) (bitOf v) → RowTried m c atoms modes r m′ modes true
     unfolding has modePut
     tried-plain ev em =
         record {
           room-is = sym (ap (fits SET) no-next);
-          value-put = λ z. em ∙ ap (λ (b : Bool). set m (VALUES + r) (bitOf b)) (ev ∙ sym (ap (λ (s : Runs). valueRule (atomsIn m atoms) (has s c) (mapRow (heldIn m) (rowOf m r))) no-next));
+          value-put = λ z. em ∙ ap (λ (b : Bool). set m (VALUES + r) (bitOf b)) (ev ∙ sym (ap (λ (s : Runs). valueRule (map isOne atoms) (has s c) (mapRow (heldIn m) (rowOf m r))) no-next));
           mode-put = λ z. sym (rw (lt-leb 7 (kindAt m r) low));
           none = λ z. absurd (true≢false z);
         }
@@ -73,7 +73,7 @@ module _ {m : List ℕ} {c : ℕ} (timely : Timely m c) (atoms modes : List ℕ)
             value-put = λ z.
                 em ∙ ap (λ (b : Bool). set m (VALUES + r) (bitOf b))
                 (ev ∙ ap₂ (λ (k : ℕ) (b : Bool). cond (eqb k 7) (not b) b) ek here-right
-                ∙ sym (temporal-held (atomsIn m atoms) (has (setNext m c modes r) c) (heldIn m) m r high (row .kind)));
+                ∙ sym (temporal-held (map isOne atoms) (has (setNext m c modes r) c) (heldIn m) m r high (row .kind)));
             mode-put = λ z. ap₂ (λ (j k : ℕ). set modes j k) es (ap (λ (p : RowPlan). p .mode) ep) ∙ sym (rw (le-leb 7 (kindAt m r) high));
             none = λ z. absurd (true≢false z);
           }

@@ -3,7 +3,7 @@ use Prim.Native.Nat.{ℕ, _+_, _≤_, _<_}
 use mathlib.Core.Path.{_≡_}
 use mathlib.Core.Bool.{Bool, true, false, cond, not}
 use mathlib.Core.List.{List, [], map}
-use lib.ListN.{length, getD, set, take}
+use lib.ListN.{length, getD, set}
 use Rattle.numbers.specs.Limits.{MAX, LAST-TIME, MOST-ROWS, MOST-TEMPORALS}
 use Rattle.numbers.specs.Refusals.{ACCEPTED, NO-ROOM}
 use Rattle.lists.specs.Lists.{listed, filledFrom}
@@ -15,7 +15,7 @@ use Rattle.pmtl.specs.Monitor.{Snap, State, setAt, valueRule, value, step}
 use Rattle.pmtl.specs.Calls.{crowded, play}
 use Rattle.book.specs.Rows.{temporal, ATOM}
 use Rattle.memory.specs.Layout.{ATOMS, SETS, SET, VALUES, SIZE, BEGUN, CLOCK}
-use Rattle.memory.specs.Memory.{rowCount, rangeAt, begunWord, clockOf, widthWord, temporals, kindAt, argAt, lowerAt, upperAt, slotAt, ownerAt, slotWords, atomsOf, valueAt, earlyAt, settledAt, rowOf, rowsOf, bookOf, stateOf, isOne}
+use Rattle.memory.specs.Memory.{rowCount, rangeAt, begunWord, clockOf, temporals, kindAt, argAt, lowerAt, upperAt, slotAt, ownerAt, slotWords, atomsOf, valueAt, earlyAt, settledAt, rowOf, rowsOf, bookOf, stateOf, isOne}
 use Rattle.memory.specs.Tables.{propertyCount, Valued, Moving, Unused}
 use Rattle.memory.specs.Kept.{Sound}
 use Rattle.tables.specs.Puts.{earlyDigit, settledDigit}
@@ -28,15 +28,15 @@ atomsFor m fresh bytes = cond fresh bytes (atomsOf m)
 
 -- bytes that can be a call's atoms
 pub record Bytes (atoms : List ℕ) (width : ℕ) : Type 0 where
-  pub long : width ≤ length atoms
+  pub long : length atoms ≡ width
   pub bits : (i : ℕ) → i < width → getD atoms i 0 ≤ 1
 
 -- the clock and atoms that a step leaves, and the state after it, from the state before
-abbrev pub snapOf : ℕ → List ℕ → ℕ → Snap
-snapOf c atoms width = record { clock = c; atoms = map isOne (take width atoms) }
+abbrev pub snapOf : ℕ → List ℕ → Snap
+snapOf c atoms = record { clock = c; atoms = map isOne atoms }
 
 abbrev pub stepOf : List ℕ → State → ℕ → List ℕ → State
-stepOf m st c atoms = step (rowsOf m) st (snapOf c atoms (widthWord m))
+stepOf m st c atoms = step (rowsOf m) st (snapOf c atoms)
 
 -- ---- the sets as modes leave them
 -- the set of slot j, changed by a mode at clock c
@@ -58,11 +58,8 @@ heldIn m r = isOne (valueAt m r)
 abbrev pub setNext : List ℕ → ℕ → List ℕ → ℕ → Runs
 setNext m c modes r = setRule c (setAhead m c modes r) (mapRow (heldIn m) (rowOf m r))
 
-abbrev pub atomsIn : List ℕ → List ℕ → List Bool
-atomsIn m atoms = map isOne (take (widthWord m) atoms)
-
 abbrev pub valueNext : List ℕ → ℕ → List ℕ → List ℕ → ℕ → Bool
-valueNext m c modes atoms r = valueRule (atomsIn m atoms) (has (setNext m c modes r) c) (mapRow (heldIn m) (rowOf m r))
+valueNext m c modes atoms r = valueRule (map isOne atoms) (has (setNext m c modes r) c) (mapRow (heldIn m) (rowOf m r))
 
 -- ---- the same as the code finds it: how the set of row r changes in this step
 abbrev pub modeAt : List ℕ → ℕ → ℕ

@@ -17,7 +17,7 @@ ghost use Rattle.memory.specs.Tables.{Tables};
 ghost use Rattle.memory.specs.Kept.{BookKept, Sound, Kept};
 ghost use Rattle.memory.specs.Alike.{Alike};
 ghost use Rattle.set_change.specs.Change.{changed, bothOf};
-ghost use Rattle.calls.specs.Private.{ahead, atomsFor, heldIn, atomsIn, Named, modeAt, setAfter, rowPlan, RowTried, clocked, Bounded, Slot, Planned, Timely, Held, Roomy, Fit, Fitting, Written, Atoms, Tried, TriedBoth, Due};
+ghost use Rattle.calls.specs.Private.{ahead, atomsFor, heldIn, Named, modeAt, setAfter, rowPlan, RowTried, clocked, Bounded, Slot, Planned, Timely, Held, Roomy, Fit, Fitting, Written, Atoms, Tried, TriedBoth, Due};
 ghost use Rattle.calls.specs.Called.{Called};
 ghost use Rattle.book.specs.Rows.{HISTORICALLY};
 ghost use Rattle.numbers.specs.Limits.{LAST-TIME, MOST-ATOMS, MOST-ROWS, MOST-TEMPORALS};
@@ -45,6 +45,7 @@ use numbers::PAST_LIMIT;
 use numbers::TOO_EARLY;
 use numbers::TOO_LATE;
 use numbers::TOO_NARROW;
+use numbers::TOO_WIDE;
 use numset::Tally;
 use tables::joined_at;
 
@@ -68,7 +69,7 @@ fn plain_value<'a>(monitor: &'a [u64; SIZE], atoms: &'a [u8], row: usize) -> boo
     requires { ⌜ BookKept (now monitor) ⌝ }
     requires { ⌜ (row < rowCount (now monitor)) × (kindAt (now monitor) row < HISTORICALLY) ⌝ }
     requires { ⌜ Named (now monitor) (now atoms) row ⌝ }
-    ensures { λ r. ⌜ r ≡ valueRule (atomsIn (now (monitor .entry)) (now (atoms .entry))) false (mapRow (heldIn (now (monitor .entry))) (rowOf (now (monitor .entry)) row)) ⌝ }
+    ensures { λ r. ⌜ r ≡ valueRule (map isOne (now (atoms .entry))) false (mapRow (heldIn (now (monitor .entry))) (rowOf (now (monitor .entry)) row)) ⌝ }
 {
     let words = memory::row_at(monitor, row);
     let kind = words.kind;
@@ -295,12 +296,11 @@ fn put_clock(monitor: &mut [u64; SIZE], clock: u64)
 
 // Sets the atoms.
 fn put_atoms(monitor: &mut [u64; SIZE], atoms: &[u8])
-    requires { ⌜ (length (now monitor) ≡ SIZE) × (widthWord (now monitor) ≤ length (now atoms)) × (widthWord (now monitor) ≤ MOST-ATOMS) ⌝ }
-    ensures { λ _. ⌜ Atoms (now (monitor .entry)) (now (atoms .entry)) (widthWord (now (monitor .entry))) (now (monitor .exit)) ⌝ }
+    requires { ⌜ (length (now monitor) ≡ SIZE) × (length (now atoms) ≤ MOST-ATOMS) ⌝ }
+    ensures { λ _. ⌜ Atoms (now (monitor .entry)) (now (atoms .entry)) (length (now (atoms .entry))) (now (monitor .exit)) ⌝ }
 {
-    let count = memory::width(monitor);
     let mut i = 0;
-    while i < count {
+    while i < atoms.len() {
         monitor[memory::ATOMS + i] = lists::wide(atoms[i]);
         i += 1;
     }
@@ -395,8 +395,12 @@ fn state_number(monitor: &[u64; SIZE], state: &[u8]) -> u64
     if MOST_ATOMS < state.len() {
         return PAST_LIMIT;
     }
-    if state.len() < memory::width(monitor) {
+    let width = memory::width(monitor);
+    if state.len() < width {
         return TOO_NARROW;
+    }
+    if width < state.len() {
+        return TOO_WIDE;
     }
     if has_other(state) {
         return NOT_A_BIT;

@@ -221,8 +221,9 @@ fn refusals(monitor: &mut [u64; SIZE])
     time(monitor, LAST_TIME + 1);
     play::wide_state(monitor);
     state(monitor, &[0]);
+    state(monitor, &[0, 1, 0]);
+    state(monitor, &[0, 1, 2]);
     state(monitor, &[0, 2]);
-    state(monitor, &[0, 0, 2]);
 }
 
 // The first call sees the old state at its time. Then each refusal of a stamped call in its order, the last two for room: where only the
@@ -247,6 +248,7 @@ fn stamped_calls() {
     wide_stamped(&mut monitor, LAST_TIME + 1);
     wide_stamped(&mut monitor, 127);
     stamped(&mut monitor, 127, &[2]);
+    stamped(&mut monitor, 127, &[1, 1, 2]);
     stamped(&mut monitor, 127, &[1, 2]);
     stamped(&mut monitor, 128, &[0, 0]);
     time(&mut monitor, 126);
@@ -256,13 +258,14 @@ fn stamped_calls() {
     stamped(&mut monitor, 128, &[0, 0]);
 }
 
-// A refused book gives an empty one, which takes calls.
+// A refused book gives an empty one, which takes calls: it has no atom, so its states have no byte.
 fn refused_book() {
     text(b"A book of one row that is not there\n");
     let mut monitor = [0u64; SIZE];
     load(&mut monitor, Words::of(1));
     time(&mut monitor, 3);
     state(&mut monitor, &[1]);
+    state(&mut monitor, b"");
     time(&mut monitor, 2);
 }
 

@@ -4,7 +4,7 @@ use mathlib.Core.Bool.{Bool, cond}
 use mathlib.Core.List.{List, []}
 use lib.ListN.{getD, take, drop}
 use lib.Dec.{eqb}
-use Rattle.numbers.specs.Limits.{MOST-OPERANDS, MOST-ATOMS}
+use Rattle.numbers.specs.Limits.{MOST-OPERANDS}
 use Rattle.lists.specs.Lists.{listed, part}
 use Rattle.numset.specs.Runs.{Runs, runs}
 use Rattle.pmtl.specs.Book.{Range, Row, Rows, Book}
@@ -75,12 +75,12 @@ rangeAt m r = record { lower = lowerAt m r; upper = upperAt m r }
 abbrev pub propertyRow : List ℕ → ℕ → ℕ
 propertyRow m i = getD m (PROPERTIES + i) 0
 
--- the atoms, a byte for each
+-- the atoms, a byte for each that the book names
 abbrev pub atomAt : List ℕ → ℕ → ℕ
 atomAt m i = getD m (ATOMS + i) 0
 
 abbrev pub atomsOf : List ℕ → List ℕ
-atomsOf m = listed (atomAt m) MOST-ATOMS
+atomsOf m = listed (atomAt m) (widthWord m)
 
 abbrev pub ownerAt : List ℕ → ℕ → ℕ
 ownerAt m j = getD m (OWNERS + j) 0

@@ -57,6 +57,10 @@ LIST-TOO-SHORT = 12
 abbrev pub BAD-WORD : ℕ
 BAD-WORD = 13
 
+-- a state longer than the largest atom plus 1
+abbrev pub TOO-WIDE : ℕ
+TOO-WIDE = 16
+
 -- a step of tidying that does not fit
 abbrev pub DOES-NOT-FIT : ℕ
 DOES-NOT-FIT = 21

@@ -77,5 +77,8 @@ pub const LIST_TOO_SHORT: u64 = 12;
 // A bad word in text, or a call of no kind.
 pub const BAD_WORD: u64 = 13;
 
+// A state longer than the largest atom plus 1.
+pub const TOO_WIDE: u64 = 16;
+
 // A step of tidying that does not fit.
 pub const DOES_NOT_FIT: u64 = 21;

@@ -12,6 +12,7 @@ pub mod Walks
 pub mod Valuations
 pub mod Replays
 pub mod Panics
+pub mod Extra
 pub mod Numbers
 pub mod Theorems
 pub mod Recorded

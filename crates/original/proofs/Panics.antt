@@ -162,7 +162,7 @@ module _ (b : Book) (w : Ordered (b .rows)) (used : Used b) (h : History) (bits 
       climb (length (b .rows)) (m .0) (omega arith) (m .1)
       (ap walk (grown-fix (b .rows) w h (m .0)) ∙ atom-panics bits (nowOf (b .rows) h .clock) tree (nowOf (b .rows) h .atoms) (setOf (b .rows) h (m .0)) (rowAt (b .rows) (m .0)) (m .2))
 
-late : (o : PmtlOracle) (t : ℕ) → t < o .time → update-time o t ≡ panic
+pub late : (o : PmtlOracle) (t : ℕ) → t < o .time → update-time o t ≡ panic
 unfolding update-time
 late o t h = rw (lt-leb (o .time) t h, update-time)
 

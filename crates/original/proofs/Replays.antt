@@ -6,14 +6,15 @@ use mathlib.Core.Path.{_≡_, refl, ap, ap₂, _∙_}
 use mathlib.Core.Bool.{Bool, true, false, cond}
 use mathlib.Core.List.{List, [], _∷_, map}
 use lib.ListN.{length, getD, take}
-use lib.Dec.{ltb, eqb}
-use borrow.Author.Tests.{ltb-false, eqb-true, le-leb}
-use Rattle.numbers.specs.Limits.{LAST-TIME, MOST-ATOMS}
-use Rattle.pmtl.specs.Book.{Rows, Book, Ordered, widthOf, some}
+use lib.Seq.{take-all}
+use lib.Dec.{eqb}
+use borrow.Author.Tests.{eqb-true, le-leb}
+use Rattle.numbers.specs.Limits.{LAST-TIME}
+use Rattle.pmtl.specs.Book.{Rows, Book, Ordered, widthOf}
 use Rattle.pmtl.specs.Monitor.{Snap, State}
-use Rattle.pmtl.specs.Calls.{Call, time, state, stamped, timed, turns, timeRefusal, stateRefusal, refusal, Outcome, play, call, after, History, nowOf, onto, accepted}
+use Rattle.pmtl.specs.Calls.{Call, time, state, stamped, timed, stated, turns, timeRefusal, stateRefusal, refusal, Outcome, play, call, after, History, nowOf, onto, accepted}
 use Rattle.pmtl.proofs.History.{now-run}
-use Rattle.pmtl.proofs.Calls.{first-zero, firsts-zero, timely}
+use Rattle.pmtl.proofs.Calls.{firsts-zero, timely, well-stated}
 use Rattle.pmtl.proofs.Theorems.{after-is}
 use Rattle.original.specs.Rust.{Ran, _>>=_, index, each}
 use Rattle.original.specs.ValPmtl.{ValPmtl, from, update-state as update-state-of, update-states, update-time as update-time-of, update-times}
@@ -56,16 +57,11 @@ unfolding call Sound
 sound b st k = go (eqb (refusal b (st .now) k) 0) refl
   where
     go : (z : Bool) → eqb (refusal b (st .now) k) 0 ≡ z → Sound b st k (elim z [
-      | true ↦ play b st st (turns b (st .now) k)
+      | true ↦ play b st st (turns (st .now) k)
       | false ↦ record { number = refusal b (st .now) k; state = st }
     ])
     go true e h = eqb-true (refusal b (st .now) k) 0 e
     go false e h = eqb-true (refusal b (st .now) k) 0 h
-
-state-sound : (b : Rows) (bytes : List ℕ) → stateRefusal b bytes ≡ 0 → widthOf b ≤ length bytes
-state-sound b bytes e =
-    let p = first-zero (ltb MOST-ATOMS (length bytes)) 1 (cond (ltb (length bytes) (widthOf b)) 9 (cond (some (ltb 1) bytes) 10 0)) e in
-    ltb-false (length bytes) (widthOf b) (first-zero (ltb (length bytes) (widthOf b)) 8 (cond (some (ltb 1) bytes) 10 0) (p .1) .0)
 
 -- ---- one call
 module _ (o : PmtlOracle) (as′ gs : List ValPmtl) where
@@ -79,6 +75,16 @@ module _ (o : PmtlOracle) (as′ gs : List ValPmtl) where
       → update-state o bits ≡ done (record { assumes = as′; guarantees = gs; time = o .time })
   unfolding update-state
   state-done bits e k = rw (e, update-state) (rw k)
+
+-- the clock and atoms that the original has after a state: entries past the largest atom are passed over
+abbrev pub seen : Rows → Snap → List ℕ → Snap
+seen b now bytes = record { clock = now .clock; atoms = map isOne (take (widthOf b) bytes) }
+
+-- where there are none, those that the state says
+all-seen : (b : Rows) (now : Snap) (bytes : List ℕ) → stateRefusal b bytes ≡ 0 → (widthOf b ≤ length bytes) × (seen b now bytes ≡ stated now bytes)
+all-seen b now bytes e =
+    let n = well-stated b bytes e .0 in
+    (omega arith, ap (λ (xs : List ℕ). record { clock = now .clock; atoms = map isOne xs }) (take-all (widthOf b) bytes (omega arith)))
 
 -- the original after a history
 abbrev pub oracleAt : Book → History → PmtlOracle
@@ -100,11 +106,11 @@ module _ (b : Book) (w : Ordered (b .rows)) (fit : Fits (b .rows)) (h : History)
       record { clocks = l′; is = time-done (oracleAt b h) _ _ t p (each (b .assumes)) (each (b .guarantees)) }
 
   pub state-at : (bytes : List ℕ) → widthOf (b .rows) ≤ length bytes
-      → At b (record { clock = nowOf (b .rows) h .clock; atoms = map isOne (take (widthOf (b .rows)) bytes) } ∷ h) (made (oracleAt b h) (state bytes))
+      → At b (seen (b .rows) (nowOf (b .rows) h) bytes ∷ h) (made (oracleAt b h) (state bytes))
   unfolding made update-state-of
   state-at bytes p =
       let c : ℕ = nowOf (b .rows) h .clock in
-      let s : Snap = record { clock = c; atoms = map isOne (take (widthOf (b .rows)) bytes) } in
+      let s : Snap = seen (b .rows) (nowOf (b .rows) h) bytes in
       let l′ : Clocks (b .rows) (s ∷ h) = (omega arith, clock-small (b .rows) h l, l) in
       let each = each-done (λ f. update-state-of f (map isOne bytes) c) (grown (b .rows) h) (grown (b .rows) (s ∷ h))
       (walked (λ f. update-state-of f (map isOne bytes) c) (λ fs. update-states fs (map isOne bytes) c) (b .rows) w fit s h (state-walk (map isOne bytes) c) l′
@@ -114,20 +120,23 @@ module _ (b : Book) (w : Ordered (b .rows)) (fit : Fits (b .rows)) (h : History)
 module _ (b : Book) (w : Ordered (b .rows)) (fit : Fits (b .rows)) (h : History) (l : Clocks (b .rows) h) where
   -- a stamped call: the state call after the time call
   pub stamped-at : (t : ℕ) (bytes : List ℕ) → nowOf (b .rows) h .clock ≤ t → t ≤ LAST-TIME → widthOf (b .rows) ≤ length bytes
-      → At b (onto (turns (b .rows) (nowOf (b .rows) h) (stamped t bytes)) h) (made (oracleAt b h) (stamped t bytes))
-  unfolding onto made
+      → At b (seen (b .rows) (timed (nowOf (b .rows) h) t) bytes ∷ timed (nowOf (b .rows) h) t ∷ h) (made (oracleAt b h) (stamped t bytes))
+  unfolding made
   stamped-at t bytes p q m =
       let first = time-at b w fit h l t p q in
       rw (first .is) (state-at b w fit (timed (nowOf (b .rows) h) t ∷ h) (first .clocks) bytes m)
 
-  made-at : (k : Call) → refusal (b .rows) (nowOf (b .rows) h) k ≡ 0 → At b (onto (turns (b .rows) (nowOf (b .rows) h) k) h) (made (oracleAt b h) k)
+  made-at : (k : Call) → refusal (b .rows) (nowOf (b .rows) h) k ≡ 0 → At b (onto (turns (nowOf (b .rows) h) k) h) (made (oracleAt b h) k)
   unfolding onto refusal
   made-at (time t) e = let p = timely (nowOf (b .rows) h) t e in time-at b w fit h l t (p .0) (p .1)
-  made-at (state bytes) e = state-at b w fit h l bytes (state-sound (b .rows) bytes e)
+  made-at (state bytes) e =
+      let s = all-seen (b .rows) (nowOf (b .rows) h) bytes e in
+      rw (← (s .1)) (state-at b w fit h l bytes (s .0))
   made-at (stamped t bytes) e =
       let z = firsts-zero (timeRefusal (nowOf (b .rows) h) t) (stateRefusal (b .rows) bytes) e in
       let p = timely (nowOf (b .rows) h) t (z .0) in
-      stamped-at t bytes (p .0) (p .1) (state-sound (b .rows) bytes (z .1))
+      let s = all-seen (b .rows) (timed (nowOf (b .rows) h) t) bytes (z .1) in
+      rw (← (s .1)) (stamped-at t bytes (p .0) (p .1) (s .0))
 
 -- ---- all of them
 module _ (b : Book) (w : Ordered (b .rows)) (fit : Fits (b .rows)) where
@@ -142,7 +151,7 @@ module _ (b : Book) (w : Ordered (b .rows)) (fit : Fits (b .rows)) where
 
   -- a call that is made if z, at the history h and clock and atoms n
   at-next : (k : Call) (h : History) (o : Ran PmtlOracle) (n : Snap) → n ≡ nowOf (b .rows) h → At b h o → (z : Bool) → (z ≡ true → refusal (b .rows) n k ≡ 0)
-      → At b (cond z (onto (turns (b .rows) n k) h) h) (elim z [ true ↦ o >>= λ p. made p k | false ↦ o ])
+      → At b (cond z (onto (turns n k) h) h) (elim z [ true ↦ o >>= λ p. made p k | false ↦ o ])
   at-next k h o n e at false ok = at
   at-next k h o n e at true ok = rw (at .is, e) (made-at b w fit h (at .clocks) k (rw e at (ok refl)))
 

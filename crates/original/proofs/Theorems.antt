@@ -5,10 +5,10 @@ use mathlib.Core.Path.{_≡_, refl, sym, ap, ap₂, _∙_}
 use mathlib.Core.Logic.{_⊎_, _↔_}
 use mathlib.Core.Bool.{Bool}
 use mathlib.Core.List.{List, [], _∷_, map}
-use lib.ListN.{length, drop}
+use lib.ListN.{length, take, drop}
 use Rattle.numset.specs.Runs.{Run}
 use Rattle.numbers.specs.Limits.{LAST-TIME, MOST-ATOMS}
-use Rattle.pmtl.specs.Book.{Rows, Book, AllBelow}
+use Rattle.pmtl.specs.Book.{Rows, Book, AllBelow, widthOf}
 use Rattle.pmtl.specs.Monitor.{Snap, State, initial, value}
 use Rattle.pmtl.specs.Early.{early}
 use Rattle.pmtl.specs.Calls.{Call, time, state, stamped, call, after, History, nowOf, accepted}
@@ -32,6 +32,7 @@ use Rattle.original.proofs.Fulls.{Clocks}
 use Rattle.original.proofs.Grown.{grown, tree-of, output-grown}
 use Rattle.original.proofs.Valuations.{legal, valuation-grown}
 use Rattle.original.proofs.Panics.{time-panics, state-panics, stamped-panics}
+use Rattle.original.proofs.Extra.{extra-in-state, extra-in-stamped}
 use Rattle.original.proofs.Numbers.{number-seven, number-nine, number-either}
 use Rattle.original.proofs.Replays.{oracleAt, replay, replay-all}
 
@@ -164,6 +165,17 @@ module _ (b : Book) (w : Proper b) (calls : List Call) where
       (both (stamped-panics b (w .ordered) (w .ranges) (h b w calls) (clocks b w calls) (w .used) t k bytes)
       (number-either (b .rows) (after (b .rows) calls) t bytes k n (nowOf (b .rows) (h b w calls) .clock)
       (ap (λ (st : State). st .now .clock) (after-is (b .rows) calls) ∙ ap (λ (s : Snap). s .clock) (now-run (b .rows) (h b w calls)))))
+
+  -- where ours is refused with 16, it goes on: what a state has past the largest atom is passed over
+  pub extra-passed-over : (bytes : List ℕ)
+      → (replayed b calls >>= λ o. made o (state bytes)) ≡ (replayed b calls >>= λ o. made o (state (take (widthOf (b .rows)) bytes)))
+  unfolding h
+  extra-passed-over bytes = rw (is b w calls) (extra-in-state b (w .ordered) (w .ranges) (h b w calls) (clocks b w calls) bytes)
+
+  pub extra-passed-over-stamped : (t : ℕ) → t ≤ LAST-TIME → (bytes : List ℕ)
+      → (replayed b calls >>= λ o. made o (stamped t bytes)) ≡ (replayed b calls >>= λ o. made o (stamped t (take (widthOf (b .rows)) bytes)))
+  unfolding h
+  extra-passed-over-stamped t k bytes = rw (is b w calls) (extra-in-stamped b (w .ordered) (w .ranges) (h b w calls) (clocks b w calls) t k bytes)
 
 -- where keys increase, as those of the sets of `Follows` do, the search does what its page says, and nothing else does
 pub search-is-documented : {A : Type 0} (d : A) (key : A → ℕ) (xs : List A) (k : ℕ) → Increasing d key xs

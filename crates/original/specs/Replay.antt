@@ -29,10 +29,10 @@ replayed b (k ∷ ks) = elim (eqb (call (b .rows) (after (b .rows) ks) k .number
   | false ↦ replayed b ks
 ]
 
--- the history of all calls that REFERENCE 5.3 allows, 7 to 10 and 2 being refused: whatever number of runs their sets have
+-- the history of all calls that REFERENCE 5.3 allows, 2, 7 to 10 and 16 being refused: whatever number of runs their sets have
 unfoldable pub allowed : Rows → List Call → History
 allowed b [] = []
-allowed b (k ∷ ks) = cond (eqb (refusal b (nowOf b (allowed b ks)) k) 0) (onto (turns b (nowOf b (allowed b ks)) k) (allowed b ks)) (allowed b ks)
+allowed b (k ∷ ks) = cond (eqb (refusal b (nowOf b (allowed b ks)) k) 0) (onto (turns (nowOf b (allowed b ks)) k) (allowed b ks)) (allowed b ks)
 
 -- the original after all of those
 unfoldable pub replayed-all : Book → List Call → Ran PmtlOracle

@@ -4,12 +4,13 @@ use native.Mathlib.Omega.{arith}
 use mathlib.Core.Path.{_≡_, refl, ap, ap₂, _∙_}
 use mathlib.Core.Bool.{Bool, true, false, cond}
 use mathlib.Core.List.{List, [], _∷_, _++_}
+use lib.ListN.{length}
 use lib.Dec.{ltb, eqb}
 use borrow.Author.Tests.{ltb-false, eqb-true, eqb-false, eq-eqb, ne-eqb}
-use Rattle.numbers.specs.Limits.{LAST-TIME}
-use Rattle.pmtl.specs.Book.{Rows}
+use Rattle.numbers.specs.Limits.{LAST-TIME, MOST-ATOMS}
+use Rattle.pmtl.specs.Book.{Rows, widthOf, some}
 use Rattle.pmtl.specs.Monitor.{Snap, State, step}
-use Rattle.pmtl.specs.Calls.{Call, time, state, stamped, turns, timeRefusal, firstOf, refusal, crowds, Outcome, play, call, after, History, nowOf, onto, accepted}
+use Rattle.pmtl.specs.Calls.{Call, time, state, stamped, turns, timeRefusal, stateRefusal, firstOf, refusal, crowds, Outcome, play, call, after, History, nowOf, onto, accepted}
 use Rattle.pmtl.specs.Past.{runBy, run}
 use Rattle.pmtl.proofs.History.{Legal, now-run, small-clock}
 
@@ -35,7 +36,7 @@ played b old st (n ∷ ns) = go (crowds b st n) (played b old (step b st n) ns)
 
 -- a call that moves is not refused for what it is
 record Called (b : Rows) (st : State) (k : Call) (o : Outcome) : Type 0 where
-  either : Either st (steps b st (turns b (st .now) k)) o
+  either : Either st (steps b st (turns (st .now) k)) o
   sound : eqb (o .number) 0 ≡ true → refusal b (st .now) k ≡ 0
 
 called : (b : Rows) (st : State) (k : Call) → Called b st k (call b st k)
@@ -43,17 +44,17 @@ unfolding call
 called b st k = go (eqb (refusal b (st .now) k) 0) refl
   where
     go : (z : Bool) → eqb (refusal b (st .now) k) 0 ≡ z → Called b st k (elim z [
-      | true ↦ play b st st (turns b (st .now) k)
+      | true ↦ play b st st (turns (st .now) k)
       | false ↦ record { number = refusal b (st .now) k; state = st }
     ])
-    go true e = record { either = played b st st (turns b (st .now) k); sound = λ h. eqb-true (refusal b (st .now) k) 0 e }
+    go true e = record { either = played b st st (turns (st .now) k); sound = λ h. eqb-true (refusal b (st .now) k) 0 e }
     go false e = record { either = stayed e refl; sound = λ h. eqb-true (refusal b (st .now) k) 0 h }
 
 -- a refused call leaves the state as it was
 pub refused-stays : (b : Rows) (st : State) (k : Call) → ¬ (call b st k .number ≡ 0) → call b st k .state ≡ st
 refused-stays b st k n = go (called b st k .either)
   where
-    go : Either st (steps b st (turns b (st .now) k)) (call b st k) → call b st k .state ≡ st
+    go : Either st (steps b st (turns (st .now) k)) (call b st k) → call b st k .state ≡ st
     go (stayed z e) = e
     go (moved z e) = absurd (n (eqb-true (call b st k .number) 0 z))
 
@@ -82,8 +83,16 @@ timely now t e =
     let p = first-zero (ltb t (now .clock)) 6 (cond (ltb LAST-TIME t) 8 0) e in
     (ltb-false t (now .clock) (p .0), ltb-false LAST-TIME t (first-zero (ltb LAST-TIME t) 7 0 (p .1) .0))
 
+-- a state that is not refused has a byte for each atom and no other, each 0 or 1
+pub well-stated : (b : Rows) (bytes : List ℕ) → stateRefusal b bytes ≡ 0 → (length bytes ≡ widthOf b) × (some (ltb 1) bytes ≡ false)
+well-stated b bytes e =
+    let p = first-zero (ltb MOST-ATOMS (length bytes)) 1 _ e in
+    let narrow = first-zero (ltb (length bytes) (widthOf b)) 8 _ (p .1) in
+    let wide = first-zero (ltb (widthOf b) (length bytes)) 15 _ (narrow .1) in
+    (omega (arith, ltb-false (length bytes) (widthOf b) (narrow .0), ltb-false (widthOf b) (length bytes) (wide .0)), first-zero (some (ltb 1) bytes) 9 0 (wide .1) .0)
+
 -- a call that is not refused for what it is is legal
-pub legal-call : (b : Rows) (h : History) → Legal b h → (k : Call) → refusal b (nowOf b h) k ≡ 0 → Legal b (onto (turns b (nowOf b h) k) h)
+pub legal-call : (b : Rows) (h : History) → Legal b h → (k : Call) → refusal b (nowOf b h) k ≡ 0 → Legal b (onto (turns (nowOf b h) k) h)
 unfolding onto refusal
 legal-call b h l (time t) e = let p = timely (nowOf b h) t e in (p .0, omega (arith, p .1), l)
 legal-call b h l (state bs) e = (omega arith, small-clock b h l, l)
@@ -101,13 +110,13 @@ unfolding after accepted runBy
 trail b [] = record { is = refl; legal = tt }
 trail b (k ∷ ks) = go (trail b ks) (called b (after b ks) k .either) (called b (after b ks) k .sound)
   where
-    go : Trail b ks (accepted b ks) → Either (after b ks) (steps b (after b ks) (turns b (after b ks .now) k)) (call b (after b ks) k)
+    go : Trail b ks (accepted b ks) → Either (after b ks) (steps b (after b ks) (turns (after b ks .now) k)) (call b (after b ks) k)
         → (eqb (call b (after b ks) k .number) 0 ≡ true → refusal b (after b ks .now) k ≡ 0) → Trail b (k ∷ ks) (accepted b (k ∷ ks))
     go ih (stayed z e) sound = rw (z, accepted) (record { is = e ∙ ih .is; legal = ih .legal })
     go ih (moved z e) sound =
         let here : after b ks .now ≡ nowOf b (accepted b ks) = ap (λ (st : State). st .now) (ih .is) ∙ now-run b (accepted b ks) in
         rw (z, accepted) (rw here (record {
-          is = e ∙ ap₂ (λ st n. steps b st (turns b n k)) (ih .is) here ∙ steps-run b (turns b (nowOf b (accepted b ks)) k) (accepted b ks);
+          is = e ∙ ap₂ (λ st n. steps b st (turns n k)) (ih .is) here ∙ steps-run b (turns (nowOf b (accepted b ks)) k) (accepted b ks);
           legal = legal-call b (accepted b ks) (ih .legal) k (rw here at (sound z));
         }))
 
@@ -123,7 +132,7 @@ further b [] ks = ([], refl)
 further b (k ∷ more) ks = go (eqb (call b (after b (more ++ ks)) k .number) 0) (further b more ks)
   where
     ns : List Snap
-    ns = turns b (after b (more ++ ks) .now) k
+    ns = turns (after b (more ++ ks) .now) k
 
     go : (z : Bool) → (h : History) × (accepted b (more ++ ks) ≡ h ++ accepted b ks)
         → (h : History) × (cond z (onto ns (accepted b (more ++ ks))) (accepted b (more ++ ks)) ≡ h ++ accepted b ks)
@@ -140,7 +149,7 @@ module _ (b : Rows) (k : Call) (calls : List Call) (n : ¬ (call b (after b call
   pub accepted-refused : (more : List Call) → accepted b (more ++ k ∷ calls) ≡ accepted b (more ++ calls)
   unfolding accepted
   accepted-refused [] = rw (ne-eqb (call b (after b calls) k .number) 0 n)
-  accepted-refused (m ∷ more) = ap₂ (λ st h. cond (eqb (call b st m .number) 0) (onto (turns b (st .now) m) h) h) (after-refused more) (accepted-refused more)
+  accepted-refused (m ∷ more) = ap₂ (λ st h. cond (eqb (call b st m .number) 0) (onto (turns (st .now) m) h) h) (after-refused more) (accepted-refused more)
 
 -- ---- when a call is accepted, and what it leaves then
 -- there is room for each snapshot in turn
@@ -150,7 +159,7 @@ Roomy b st (n ∷ ns) = (crowds b st n ≡ false) × Roomy b (step b st n) ns
 
 pub record Accepts (b : Rows) (st : State) (k : Call) : Type 0 where
   pub fine : refusal b (st .now) k ≡ 0
-  pub room : Roomy b st (turns b (st .now) k)
+  pub room : Roomy b st (turns (st .now) k)
 
 play-roomy : (b : Rows) (old st : State) (ns : List Snap) → play b old st ns .number ≡ 0 → Roomy b st ns
 unfolding play
@@ -173,12 +182,12 @@ unfolding call
 call-accepts b st k = go (eqb (refusal b (st .now) k) 0) refl
   where
     go : (z : Bool) → eqb (refusal b (st .now) k) 0 ≡ z → (elim z as (λ x. Outcome) [
-      | true ↦ play b st st (turns b (st .now) k)
+      | true ↦ play b st st (turns (st .now) k)
       | false ↦ record { number = refusal b (st .now) k; state = st }
     ]) .number ≡ 0 → Accepts b st k
-    go true z e = record { fine = eqb-true (refusal b (st .now) k) 0 z; room = play-roomy b st st (turns b (st .now) k) e }
+    go true z e = record { fine = eqb-true (refusal b (st .now) k) 0 z; room = play-roomy b st st (turns (st .now) k) e }
     go false z e = absurd (eqb-false (refusal b (st .now) k) 0 z e)
 
-pub accepts-call : (b : Rows) (st : State) (k : Call) → Accepts b st k → call b st k ≡ record { number = 0; state = steps b st (turns b (st .now) k) }
+pub accepts-call : (b : Rows) (st : State) (k : Call) → Accepts b st k → call b st k ≡ record { number = 0; state = steps b st (turns (st .now) k) }
 unfolding call
-accepts-call b st k a = rw (eq-eqb (refusal b (st .now) k) 0 (a .fine), call) (roomy-play b st st (turns b (st .now) k) (a .room))
+accepts-call b st k a = rw (eq-eqb (refusal b (st .now) k) 0 (a .fine), call) (roomy-play b st st (turns (st .now) k) (a .room))

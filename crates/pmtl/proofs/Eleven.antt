@@ -65,7 +65,8 @@ state-not-eleven : (b : Rows) (bytes : List ℕ) → stateRefusal b bytes ≡ 11
 state-not-eleven b bytes =
     first-eleven (ltb MOST-ATOMS (length bytes)) 2 _ (λ e. omega arith)
     (first-eleven (ltb (length bytes) (widthOf b)) 9 _ (λ e. omega arith)
-    (first-eleven (some (ltb 1) bytes) 10 0 (λ e. omega arith) (λ e. omega arith)))
+    (first-eleven (ltb (widthOf b) (length bytes)) 16 _ (λ e. omega arith)
+    (first-eleven (some (ltb 1) bytes) 10 0 (λ e. omega arith) (λ e. omega arith))))
 
 not-eleven : (b : Rows) (now : Snap) (k : Call) → refusal b now k ≡ 11 → ⊥
 unfolding refusal firstOf
@@ -104,24 +105,24 @@ module _ (b : Rows) where
       go false z (inr q) ih = ih q
 
   -- 11 exactly when the call is not refused for what it is, and the history is full after one of its snapshots
-  module _ (st : State) (h : History) (k : Call) (told : refusal b (st .now) k ≡ 0 → Told st h (turns b (st .now) k)) where
+  module _ (st : State) (h : History) (k : Call) (told : refusal b (st .now) k ≡ 0 → Told st h (turns (st .now) k)) where
     abbrev Eleven : Type 0
-    Eleven = (refusal b (st .now) k ≡ 0) × FullIn b h (turns b (st .now) k)
+    Eleven = (refusal b (st .now) k ≡ 0) × FullIn b h (turns (st .now) k)
 
     call-full : call b st k .number ≡ 11 → Eleven
     unfolding call
     call-full = go (eqb (refusal b (st .now) k) 0) refl
       where
         go : (z : Bool) → eqb (refusal b (st .now) k) 0 ≡ z → (elim z as (λ x. Outcome) [
-          | true ↦ play b st st (turns b (st .now) k)
+          | true ↦ play b st st (turns (st .now) k)
           | false ↦ record { number = refusal b (st .now) k; state = st }
         ]) .number ≡ 11 → Eleven
-        go true z e = let q = eqb-true (refusal b (st .now) k) 0 z in (q, play-full st st h (turns b (st .now) k) (told q) e)
+        go true z e = let q = eqb-true (refusal b (st .now) k) 0 z in (q, play-full st st h (turns (st .now) k) (told q) e)
         go false z e = absurd (not-eleven b (st .now) k e)
 
     full-call : Eleven → call b st k .number ≡ 11
     unfolding call
-    full-call f = rw (eq-eqb (refusal b (st .now) k) 0 (f .0), call) (full-play st st h (turns b (st .now) k) (told (f .0)) (f .1))
+    full-call f = rw (eq-eqb (refusal b (st .now) k) 0 (f .0), call) (full-play st st h (turns (st .now) k) (told (f .0)) (f .1))
 
-    pub eleven-iff : (call b st k .number ≡ 11) ↔ ((refusal b (st .now) k ≡ 0) × FullIn b h (turns b (st .now) k))
+    pub eleven-iff : (call b st k .number ≡ 11) ↔ ((refusal b (st .now) k ≡ 0) × FullIn b h (turns (st .now) k))
     eleven-iff = (call-full, full-call)

@@ -1,7 +1,7 @@
--- P1 to P12 of REFERENCE, what lapses, and stamped calls, computed by the definitions.
+-- P1 to P12 of REFERENCE, what lapses, states of another width, and stamped calls, computed by the definitions.
 use Prim.Native.Nat.{ℕ, zero, suc, _*_}
 use mathlib.Core.Path.{_≡_, refl}
-use mathlib.Core.List.{List, [], _∷_, map}
+use mathlib.Core.List.{List, [], _∷_, _++_, map}
 use lib.ListN.{replicate}
 use Rattle.numbers.specs.Limits.{MAX, LAST-TIME, MOST-ATOMS}
 use Rattle.numset.specs.Runs.{run, Runs, has, covers, kept, insert, union}
@@ -132,6 +132,18 @@ pub room-again : numberAt (range 0 0) 128 ∷ numberAt (range 127 127) 128 ∷ n
 unfolding evens has covers insert union stop widthOf table answer every some kept gone staysIf addedIf renewed setRuleBy initial valueRule value stepBy earlyRule early settledTrue settledFalse settled refusal crowded play call after
 room-again = refl
 
+-- ---- states of another width
+-- the numbers that a fresh monitor hands back for states
+abbrev pub numbersOf : Rows → List (List ℕ) → List ℕ
+numbersOf b states = map (λ bytes. call b (after b []) (state bytes) .number) states
+
+-- where the book has one atom: past the limit, too short, too long, a byte 2, accepted; and where it has none: too long, accepted
+pub states-refused :
+    numbersOf (atom 0 ∷ []) (replicate (suc MOST-ATOMS) 2 ∷ [] ∷ (0 ∷ 2 ∷ []) ∷ (2 ∷ []) ∷ (1 ∷ []) ∷ []) ++ numbersOf (always ∷ []) ((2 ∷ []) ∷ [] ∷ [])
+    ≡ 2 ∷ 9 ∷ 16 ∷ 10 ∷ 0 ∷ 16 ∷ 0 ∷ []
+unfolding has covers insert union stop widthOf table answer every some kept gone staysIf addedIf renewed setRuleBy initial valueRule value stepBy refusal crowded play call after
+states-refused = refl
+
 -- ---- stamped calls
 abbrev pub stamps : List Example
 stamps =
@@ -145,11 +157,12 @@ pub stamps-so : map foundIn stamps ≡ map statedIn stamps
 unfolding eachAfter has covers insert union stop widthOf table answer every some kept gone staysIf addedIf renewed setRuleBy initial valueRule value stepBy firstOf refusal crowded play call after
 stamps-so = refl
 
--- what is refused, in order: at clock 5 a time too early, too late, then with the time in order a state too wide, too narrow, with a byte 2
+-- what is refused, in order: at clock 5 a time too early, too late, then with the time in order a state past the limit, too short, too long, with a
+-- byte 2
 pub stamped-refused : let b : Rows = atom 0 ∷ [] in
     map (λ k. call b (after b (time 5 ∷ [])) k .number)
-    (stamped 4 (replicate (suc MOST-ATOMS) 2) ∷ stamped (suc LAST-TIME) [] ∷ stamped 6 (replicate (suc MOST-ATOMS) 2) ∷ stamped 6 [] ∷ stamped 6 (0 ∷ 2 ∷ []) ∷ stamped 5 (1 ∷ []) ∷ [])
-    ≡ 7 ∷ 8 ∷ 2 ∷ 9 ∷ 10 ∷ 0 ∷ []
+    (stamped 4 (replicate (suc MOST-ATOMS) 2) ∷ stamped (suc LAST-TIME) [] ∷ stamped 6 (replicate (suc MOST-ATOMS) 2) ∷ stamped 6 [] ∷ stamped 6 (0 ∷ 2 ∷ []) ∷ stamped 6 (2 ∷ []) ∷ stamped 5 (1 ∷ []) ∷ [])
+    ≡ 7 ∷ 8 ∷ 2 ∷ 9 ∷ 16 ∷ 10 ∷ 0 ∷ []
 unfolding has covers insert union stop widthOf table answer every some kept gone staysIf addedIf renewed setRuleBy initial valueRule value stepBy firstOf refusal crowded play call after
 stamped-refused = refl
 

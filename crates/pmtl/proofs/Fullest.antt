@@ -87,8 +87,8 @@ pub call-few : (b : Rows) (st : State) (k : Call) → fullest st ≤ MOST-RUNS �
 unfolding call
 call-few b st k h = go (eqb (refusal b (st .now) k) 0)
   where
-    go : (x : Bool) → Few (elim x [ true ↦ play b st st (turns b (st .now) k) | false ↦ record { number = refusal b (st .now) k; state = st } ])
-    go true = play-few b st st (turns b (st .now) k) h h
+    go : (x : Bool) → Few (elim x [ true ↦ play b st st (turns (st .now) k) | false ↦ record { number = refusal b (st .now) k; state = st } ])
+    go true = play-few b st st (turns (st .now) k) h h
     go false = h
 
 -- the count never passes the limit, after any calls

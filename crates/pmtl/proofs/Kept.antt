@@ -49,7 +49,7 @@ module _ (b : Rows) (w : Ordered b) where
   told-run [] h l = tt
   told-run (n ∷ ns) h l = (run-crowds n h (legal-first b ns (n ∷ h) l), told-run ns (n ∷ h) l)
 
-  legal-now : (h : History) → Legal b h → (k : Call) → refusal b (run b h .now) k ≡ 0 → Legal b (onto (turns b (run b h .now) k) h)
+  legal-now : (h : History) → Legal b h → (k : Call) → refusal b (run b h .now) k ≡ 0 → Legal b (onto (turns (run b h .now) k) h)
   legal-now h l k = rw (now-run b h) (legal-call b h l k)
 
 -- ---- after any calls, refused ones among them
@@ -81,6 +81,6 @@ module _ (b : Rows) (calls : List Call) where
 
     -- 11 exactly when the call is not refused for what it is, and the instants of some row at or after the new clock form more than 64 runs
     pub eleven-is : (k : Call) → (call b (after b calls) k .number ≡ 11)
-        ↔ ((refusal b (after b calls .now) k ≡ 0) × FullIn b (accepted b calls) (turns b (after b calls .now) k))
+        ↔ ((refusal b (after b calls .now) k ≡ 0) × FullIn b (accepted b calls) (turns (after b calls .now) k))
     eleven-is k = rw (trail b calls .is) (eleven-iff b (run b (accepted b calls)) (accepted b calls) k
-        (λ e. told-run b w (turns b (run b (accepted b calls) .now) k) (accepted b calls) (legal-now b w (accepted b calls) (trail b calls .legal) k e)))
+        (λ e. told-run b w (turns (run b (accepted b calls) .now) k) (accepted b calls) (legal-now b w (accepted b calls) (trail b calls .legal) k e)))

@@ -7,6 +7,7 @@ pub mod Values
 pub mod Settled
 pub mod Ago
 pub mod Calls
+pub mod Widths
 pub mod Stamped
 pub mod Theorems
 pub mod EachRun

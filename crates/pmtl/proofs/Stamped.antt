@@ -89,17 +89,17 @@ module _ (b : Rows) (st : State) (t : ℕ) (bytes : List ℕ) where
   unfolding call
   wrong k e = rw (e, call)
 
-  fine : (s : State) (k : Call) → refusal b (s .now) k ≡ 0 → call b s k ≡ play b s s (turns b (s .now) k)
+  fine : (s : State) (k : Call) → refusal b (s .now) k ≡ 0 → call b s k ≡ play b s s (turns (s .now) k)
   unfolding call
   fine s k e = rw (eq-eqb (refusal b (s .now) k) 0 e, call)
 
   -- neither its time nor its state is refused for what it is: 11 in either step
   in-turn : stateRefusal b bytes ≡ 0 → (z : Bool) → crowds b st first ≡ z
-      → play b st st (first ∷ stated b first bytes ∷ []) .number
+      → play b st st (first ∷ stated first bytes ∷ []) .number
       ≡ firstOf (play b st st (first ∷ []) .number) (call b (play b st st (first ∷ []) .state) (state bytes) .number)
   unfolding play firstOf stepBy refusal number-of
   in-turn y true z = rw (z, play)
-  in-turn y false z = rw (z, play) (same-number b st (step b st first) (step b st first) (stated b first bytes ∷ []) ∙ sym (ap number-of (fine (step b st first) (state bytes) y)))
+  in-turn y false z = rw (z, play) (same-number b st (step b st first) (step b st first) (stated first bytes ∷ []) ∙ sym (ap number-of (fine (step b st first) (state bytes) y)))
 
   number-in-turn : timeRefusal (st .now) t ≡ 0 → stateRefusal b bytes ≡ 0
       → call b st (stamped t bytes) .number ≡ firstOf (call b st (time t) .number) (call b timeState (state bytes) .number)
@@ -129,7 +129,7 @@ record Matches (b : Rows) (js : List Call) (st : State) (h : History) : Type 0 w
   is : after b js ≡ st
   all : (k : ℕ) → accepted b (drop k js) ≡ drop k h
 
-one-more : (b : Rows) (js : List Call) (st : State) (h : History) → Matches b js st h → (c : Call) (s : Snap) → turns b (st .now) c ≡ s ∷ []
+one-more : (b : Rows) (js : List Call) (st : State) (h : History) → Matches b js st h → (c : Call) (s : Snap) → turns (st .now) c ≡ s ∷ []
     → call b st c .number ≡ 0 → Matches b (c ∷ js) (call b st c .state) (s ∷ h)
 unfolding after accepted onto
 one-more b js st h m c s t e = record { is = ap (λ (q : State). call b q c .state) (m .is); all = at }
@@ -139,7 +139,7 @@ one-more b js st h m c s t e = record { is = ap (λ (q : State). call b q c .sta
     at (suc k) = m .all k
 
 made : (b : Rows) (js : List Call) (st : State) (h : History) (c : Call) → Matches b js st h → call b st c .number ≡ 0
-    → Matches b (parts c ++ js) (call b st c .state) (onto (turns b (st .now) c) h)
+    → Matches b (parts c ++ js) (call b st c .state) (onto (turns (st .now) c) h)
 unfolding onto
 made b js st h (time t) m e = one-more b js st h m (time t) _ refl e
 made b js st h (state bytes) m e = one-more b js st h m (state bytes) _ refl e
@@ -148,7 +148,7 @@ made b js st h (stamped t bytes) m e =
     rw (stamped-leaves b st t bytes e)
     (one-more b (time t ∷ js) (call b st (time t) .state) (timed (st .now) t ∷ h)
     (one-more b js st h m (time t) (timed (st .now) t) refl (p .0))
-    (state bytes) (stated b (timed (st .now) t) bytes) (ap (λ n. stated b n bytes ∷ []) (time-now b st t bytes e)) (p .1))
+    (state bytes) (stated (timed (st .now) t) bytes) (ap (λ n. stated n bytes ∷ []) (time-now b st t bytes e)) (p .1))
 
 drop-none : {A : Type 0} (k : ℕ) → drop {A = A} k [] ≡ []
 drop-none zero = refl
@@ -160,7 +160,7 @@ halves-match b [] = record { is = refl; all = λ k. ap (accepted b) (drop-none k
 halves-match b (k ∷ ks) = go (eqb (call b (after b ks) k .number) 0) refl (halves-match b ks)
   where
     go : (z : Bool) → eqb (call b (after b ks) k .number) 0 ≡ z → Matches b (halves b ks) (after b ks) (accepted b ks)
-        → Matches b (cond z (parts k ++ halves b ks) (halves b ks)) (call b (after b ks) k .state) (cond z (onto (turns b (after b ks .now) k) (accepted b ks)) (accepted b ks))
+        → Matches b (cond z (parts k ++ halves b ks) (halves b ks)) (call b (after b ks) k .state) (cond z (onto (turns (after b ks .now) k) (accepted b ks)) (accepted b ks))
     go true z m = made b (halves b ks) (after b ks) (accepted b ks) k m (eqb-true (call b (after b ks) k .number) 0 z)
     go false z m = rw (refused-stays b (after b ks) k (eqb-false (call b (after b ks) k .number) 0 z)) m
 

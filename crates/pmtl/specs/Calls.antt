@@ -2,11 +2,11 @@
 use Prim.Native.Nat.{ℕ}
 use mathlib.Core.Bool.{Bool, true, false, cond}
 use mathlib.Core.List.{List, [], _∷_, map}
-use lib.ListN.{length, take}
+use lib.ListN.{length}
 use lib.Dec.{ltb, eqb}
 use Rattle.numset.specs.Runs.{Runs}
 use Rattle.numbers.specs.Limits.{LAST-TIME, MOST-ATOMS, MOST-RUNS}
-use Rattle.numbers.specs.Refusals.{ACCEPTED, PAST-LIMIT, TOO-EARLY, TOO-LATE, TOO-NARROW, NOT-A-BIT, NO-ROOM}
+use Rattle.numbers.specs.Refusals.{ACCEPTED, PAST-LIMIT, TOO-EARLY, TOO-LATE, TOO-NARROW, NOT-A-BIT, NO-ROOM, TOO-WIDE}
 use Rattle.pmtl.specs.Book.{Rows, widthOf, some}
 use Rattle.pmtl.specs.Sets.{renewed}
 use Rattle.pmtl.specs.Monitor.{Snap, State, fresh, initial, stepBy, step}
@@ -22,24 +22,25 @@ abbrev pub timed : Snap → ℕ → Snap
 timed now t = record { clock = t; atoms = now .atoms }
 
 -- a state sets atom n from byte n
-abbrev pub stated : Rows → Snap → List ℕ → Snap
-stated b now bytes = record { clock = now .clock; atoms = map (λ x. eqb x 1) (take (widthOf b) bytes) }
+abbrev pub stated : Snap → List ℕ → Snap
+stated now bytes = record { clock = now .clock; atoms = map (λ x. eqb x 1) bytes }
 
 -- what a call leaves if it is accepted, one snapshot after the other: a stamped call does the time call and then the state call
-abbrev pub turns : Rows → Snap → Call → List Snap
-turns b now (time t) = timed now t ∷ []
-turns b now (state bytes) = stated b now bytes ∷ []
-turns b now (stamped t bytes) = timed now t ∷ stated b (timed now t) bytes ∷ []
+abbrev pub turns : Snap → Call → List Snap
+turns now (time t) = timed now t ∷ []
+turns now (state bytes) = stated now bytes ∷ []
+turns now (stamped t bytes) = timed now t ∷ stated (timed now t) bytes ∷ []
 
 -- the number of what is wrong with a time: below the clock, above the last
 abbrev pub timeRefusal : Snap → ℕ → ℕ
 timeRefusal now t = cond (ltb t (now .clock)) TOO-EARLY (cond (ltb LAST-TIME t) TOO-LATE ACCEPTED)
 
--- with a state: too wide, shorter than the largest atom plus 1, a byte, used or not, other than 0 or 1
+-- with a state: past the limit, shorter or longer than the largest atom plus 1, a byte other than 0 or 1
 abbrev pub stateRefusal : Rows → List ℕ → ℕ
 stateRefusal b bytes =
     cond (ltb MOST-ATOMS (length bytes)) PAST-LIMIT
-    (cond (ltb (length bytes) (widthOf b)) TOO-NARROW (cond (some (ltb 1) bytes) NOT-A-BIT ACCEPTED))
+    (cond (ltb (length bytes) (widthOf b)) TOO-NARROW
+    (cond (ltb (widthOf b) (length bytes)) TOO-WIDE (cond (some (ltb 1) bytes) NOT-A-BIT ACCEPTED)))
 
 -- the first of two numbers that refuses
 unfoldable pub firstOf : ℕ → ℕ → ℕ
@@ -73,7 +74,7 @@ play b old st (n ∷ ns) =
 -- a call: refused, and the state unchanged; or its snapshots in turn
 unfoldable pub call : Rows → State → Call → Outcome
 call b st k = elim (eqb (refusal b (st .now) k) ACCEPTED) [
-  | true ↦ play b st st (turns b (st .now) k)
+  | true ↦ play b st st (turns (st .now) k)
   | false ↦ record { number = refusal b (st .now) k; state = st }
 ]
 
@@ -99,4 +100,4 @@ onto (n ∷ ns) h = onto ns (n ∷ h)
 -- the history of the accepted calls
 unfoldable pub accepted : Rows → List Call → History
 accepted b [] = []
-accepted b (k ∷ ks) = cond (eqb (call b (after b ks) k .number) ACCEPTED) (onto (turns b (after b ks .now) k) (accepted b ks)) (accepted b ks)
+accepted b (k ∷ ks) = cond (eqb (call b (after b ks) k .number) ACCEPTED) (onto (turns (after b ks .now) k) (accepted b ks)) (accepted b ks)

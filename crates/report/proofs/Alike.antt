@@ -1,13 +1,13 @@
 -- A state's words and the bytes that stand for them are one call. Assumes nothing.
-use Prim.Native.Nat.{ℕ, zero, suc}
+use Prim.Native.Nat.{ℕ}
 use mathlib.Core.Path.{_≡_, refl, sym, ap, ap₂, _∙_}
 use mathlib.Core.Bool.{Bool, true, false}
 use mathlib.Core.List.{List, [], _∷_, map}
 use native.Mathlib.Omega.{arith}
-use lib.ListN.{take, length-map}
+use lib.ListN.{length-map}
 use lib.Dec.{ltb, eqb}
 use borrow.Author.Tests.{ltb-true, ne-eqb}
-use Rattle.pmtl.specs.Book.{Rows, widthOf, some}
+use Rattle.pmtl.specs.Book.{Rows, some}
 use Rattle.pmtl.specs.Monitor.{Snap, State}
 use Rattle.pmtl.specs.Calls.{Call, Outcome, timeRefusal, stateRefusal, firstOf, turns, refusal, play, call}
 use Rattle.pmtl.specs.Calls.Call.{state, stamped}
@@ -33,16 +33,15 @@ unfolding some
 same-some [] = refl
 same-some (w ∷ ws) = rw (same-over w, same-some ws)
 
-same-bits : (n : ℕ) (ws : List ℕ) → map (λ x. eqb x 1) (take n (map byteOf ws)) ≡ map (λ x. eqb x 1) (take n ws)
-same-bits zero ws = refl
-same-bits (suc n) [] = refl
-same-bits (suc n) (w ∷ ws) = rw (same-bit w, same-bits n ws)
+same-bits : (ws : List ℕ) → map (λ x. eqb x 1) (map byteOf ws) ≡ map (λ x. eqb x 1) ws
+same-bits [] = refl
+same-bits (w ∷ ws) = rw (same-bit w, same-bits ws)
 
 -- a call, by what is wrong with it and by what it leaves
 abbrev outcome : Rows → State → ℕ → List Snap → Outcome
 outcome b st n ts = elim (eqb n 0) [ true ↦ play b st st ts | false ↦ record { number = n; state = st } ]
 
-by-outcome : (b : Rows) (st : State) (k : Call) → call b st k ≡ outcome b st (refusal b (st .now) k) (turns b (st .now) k)
+by-outcome : (b : Rows) (st : State) (k : Call) → call b st k ≡ outcome b st (refusal b (st .now) k) (turns (st .now) k)
 unfolding call
 by-outcome b st k = refl
 
@@ -51,20 +50,20 @@ abbrev pub Bytewise : (List ℕ → Call) → Type 0
 Bytewise asCall = (b : Rows) (st : State) (ws : List ℕ) → call b st (asCall (map byteOf ws)) ≡ call b st (asCall ws)
 
 by-parts : (asCall : List ℕ → Call) → ((b : Rows) (now : Snap) (ws : List ℕ) → refusal b now (asCall (map byteOf ws)) ≡ refusal b now (asCall ws))
-    → ((b : Rows) (now : Snap) (ws : List ℕ) → turns b now (asCall (map byteOf ws)) ≡ turns b now (asCall ws)) → Bytewise asCall
+    → ((now : Snap) (ws : List ℕ) → turns now (asCall (map byteOf ws)) ≡ turns now (asCall ws)) → Bytewise asCall
 by-parts asCall e f b st ws =
-    by-outcome b st (asCall (map byteOf ws)) ∙ ap₂ (outcome b st) (e b (st .now) ws) (f b (st .now) ws) ∙ sym (by-outcome b st (asCall ws))
+    by-outcome b st (asCall (map byteOf ws)) ∙ ap₂ (outcome b st) (e b (st .now) ws) (f (st .now) ws) ∙ sym (by-outcome b st (asCall ws))
 
 same-wrong : (b : Rows) (ws : List ℕ) → stateRefusal b (map byteOf ws) ≡ stateRefusal b ws
 same-wrong b ws = rw (length-map ws byteOf, same-some ws)
 
 pub state-bytewise : Bytewise state
 unfolding refusal
-state-bytewise = by-parts state (λ b now ws. same-wrong b ws) (λ b now ws. rw (same-bits (widthOf b) ws))
+state-bytewise = by-parts state (λ b now ws. same-wrong b ws) (λ now ws. rw (same-bits ws))
 
 pub stamped-bytewise : (t : ℕ) → Bytewise (stamped t)
 unfolding refusal
-stamped-bytewise t = by-parts (stamped t) (λ b now ws. ap (firstOf (timeRefusal now t)) (same-wrong b ws)) (λ b now ws. rw (same-bits (widthOf b) ws))
+stamped-bytewise t = by-parts (stamped t) (λ b now ws. ap (firstOf (timeRefusal now t)) (same-wrong b ws)) (λ now ws. rw (same-bits ws))
 
 pub as-words : (asCall : List ℕ → Call) → Bytewise asCall → (ws : List ℕ) {m m′ : List ℕ} {r : ℕ} → Called (asCall (map byteOf ws)) m m′ r → Called (asCall ws) m m′ r
 as-words asCall same ws c =

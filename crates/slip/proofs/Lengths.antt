@@ -9,7 +9,7 @@ use mathlib.Core.List.{List, [], _∷_, _++_, map}
 use lib.Dec.{leb, ltb, eqb}
 use lib.ListN.{length, length-append}
 use Rattle.numbers.specs.Limits.{LAST-TIME, LONGEST-INPUT, LONGEST-REPORT, MOST-RUNS, MOST-ATOMS, MOST-PROPERTIES, MOST-TEMPORALS}
-use Rattle.numbers.specs.Refusals.{ACCEPTED, PAST-LIMIT, WRONG-FORM, WRONG-RANGE, WRONG-LINK, WRONG-USE, TOO-EARLY, TOO-LATE, TOO-NARROW, NOT-A-BIT}
+use Rattle.numbers.specs.Refusals.{ACCEPTED, PAST-LIMIT}
 use Rattle.lists.specs.Lists.{listed}
 use Rattle.lists.proofs.Listed.{listed-length}
 use Rattle.text.specs.Words.{supply}
@@ -34,33 +34,24 @@ use Rattle.slip.proofs.Calls.{two-words-each, EndsSmall, calls-read}
 use Rattle.slip.proofs.Places.{lines-loaded, lines-refused, lines-unread}
 
 -- ---- refusals have at most two digits
-one-of-two : (x y : Bool) {a b : ℕ} → a < 100 → b < 100 → cond x a (cond y b 0) < 100
-one-of-two true y p q = p
-one-of-two false true p q = q
-one-of-two false false p q = omega arith
-
-one-of-three : (x y z : Bool) {a b c : ℕ} → a < 100 → b < 100 → c < 100 → cond x a (cond y b (cond z c 0)) < 100
-one-of-three true y z p q r = p
-one-of-three false true z p q r = q
-one-of-three false false true p q r = r
-one-of-three false false false p q r = omega arith
+either-small : (z : Bool) {n m : ℕ} → n < 100 → m < 100 → cond z n m < 100
+either-small true p q = p
+either-small false p q = q
 
 small-time : (now : Snap) (t : ℕ) → timeRefusal now t < 100
-small-time now t = one-of-two (ltb t (now .clock)) (ltb LAST-TIME t) {a = TOO-EARLY} {b = TOO-LATE} (omega arith) (omega arith)
+small-time now t = either-small (ltb t (now .clock)) (omega arith) (either-small (ltb LAST-TIME t) (omega arith) (omega arith))
 
 small-state : (b : Rows) (bytes : List ℕ) → stateRefusal b bytes < 100
 small-state b bytes =
-    one-of-three (ltb MOST-ATOMS (length bytes)) (ltb (length bytes) (widthOf b)) (some (ltb 1) bytes) {a = PAST-LIMIT} {b = TOO-NARROW} {c = NOT-A-BIT} (omega arith) (omega arith) (omega arith)
-
-either-small : (z : Bool) {n m : ℕ} → n < 100 → m < 100 → cond z m n < 100
-either-small true p q = q
-either-small false p q = p
+    either-small (ltb MOST-ATOMS (length bytes)) (omega arith)
+    (either-small (ltb (length bytes) (widthOf b)) (omega arith)
+    (either-small (ltb (widthOf b) (length bytes)) (omega arith) (either-small (some (ltb 1) bytes) (omega arith) (omega arith))))
 
 small-refusal : (b : Rows) (now : Snap) (k : Call) → refusal b now k < 100
 unfolding refusal firstNumber
 small-refusal b now (time t) = small-time now t
 small-refusal b now (state bytes) = small-state b bytes
-small-refusal b now (stamped t bytes) = either-small (eqb (timeRefusal now t) 0) (small-time now t) (small-state b bytes)
+small-refusal b now (stamped t bytes) = either-small (eqb (timeRefusal now t) 0) (small-state b bytes) (small-time now t)
 
 small-play : (b : Rows) (old st : State) (ns : List Snap) → play b old st ns .number < 100
 unfolding play
@@ -76,8 +67,8 @@ small-call : (b : Rows) (st : State) (k : Call) → call b st k .number < 100
 unfolding call
 small-call b st k = go (eqb (refusal b (st .now) k) 0)
   where
-    go : (z : Bool) → elim z as (λ x. Outcome) [ true ↦ play b st st (turns b (st .now) k) | false ↦ record { number = refusal b (st .now) k; state = st } ] .number < 100
-    go true = small-play b st st (turns b (st .now) k)
+    go : (z : Bool) → elim z as (λ x. Outcome) [ true ↦ play b st st (turns (st .now) k) | false ↦ record { number = refusal b (st .now) k; state = st } ] .number < 100
+    go true = small-play b st st (turns (st .now) k)
     go false = small-refusal b (st .now) k
 
 small-first : (n m : ℕ) → n < 100 → m < 100 → firstOf n m < 100
@@ -92,12 +83,13 @@ small-firsts f h (suc n) = small-first (firstTo f n) (f n) (small-firsts f h n) 
 small-row : (ws : List ℕ) (r : ℕ) → rowNumber ws r < 100
 unfolding rowNumber
 small-row ws r =
-    one-of-three (not (formGood (kindIn ws r) (argIn ws r) (lowerIn ws r) (upperIn ws r))) (not (rangeGood (lowerIn ws r) (upperIn ws r))) (temporal (kindIn ws r) && leb MOST-TEMPORALS (temporalsIn ws r))
-    {a = WRONG-FORM} {b = WRONG-RANGE} {c = PAST-LIMIT} (omega arith) (omega arith) (omega arith)
+    either-small (not (formGood (kindIn ws r) (argIn ws r) (lowerIn ws r) (upperIn ws r))) (omega arith)
+    (either-small (not (rangeGood (lowerIn ws r) (upperIn ws r))) (omega arith)
+    (either-small (temporal (kindIn ws r) && leb MOST-TEMPORALS (temporalsIn ws r)) (omega arith) (omega arith)))
 
 small-judged : (s : Sections) → judged s < 100
 unfolding judged
-small-judged s = small-first (firstTo (rowNumber (s .rows)) (rowsIn s)) _ (small-firsts (rowNumber (s .rows)) (small-row (s .rows)) (rowsIn s)) (one-of-two (not (linksGood s)) (not (usedOnce s)) {a = WRONG-LINK} {b = WRONG-USE} (omega arith) (omega arith))
+small-judged s = small-first (firstTo (rowNumber (s .rows)) (rowsIn s)) _ (small-firsts (rowNumber (s .rows)) (small-row (s .rows)) (rowsIn s)) (either-small (not (linksGood s)) (omega arith) (either-small (not (usedOnce s)) (omega arith) (omega arith)))
 
 -- a book that is loaded has a small number, and few properties
 record Loads (l : Loaded) : Type 0 where

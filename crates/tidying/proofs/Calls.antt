@@ -4,15 +4,15 @@ use Prim.Native.Nat.{ℕ, _<_}
 use mathlib.Core.Path.{_≡_, refl, sym, ap, ap₂, _∙_}
 use mathlib.Core.Bool.{Bool, true, false, cond}
 use mathlib.Core.List.{List, [], _∷_, _++_, map}
-use lib.ListN.{length, take}
+use lib.ListN.{length}
 use lib.Dec.{ltb, eqb}
 use Rattle.numbers.specs.Limits.{MOST-ATOMS}
-use Rattle.numbers.specs.Refusals.{ACCEPTED, PAST-LIMIT, TOO-NARROW, NOT-A-BIT, NO-ROOM}
+use Rattle.numbers.specs.Refusals.{ACCEPTED, PAST-LIMIT, TOO-NARROW, NOT-A-BIT, NO-ROOM, TOO-WIDE}
 use Rattle.pmtl.specs.Book.{Rows, rowAt, Ordered, widthOf, some}
 use Rattle.pmtl.specs.Monitor.{Snap, State, fullest, value}
 use Rattle.pmtl.specs.Early.{early}
 use Rattle.pmtl.specs.Settled.{settled}
-use Rattle.pmtl.specs.Calls.{Call, time, state, stamped, timed, turns, timeRefusal, stateRefusal, firstOf, refusal, crowded, Outcome, play, call, after, History, onto, accepted}
+use Rattle.pmtl.specs.Calls.{Call, time, state, stamped, turns, timeRefusal, stateRefusal, firstOf, refusal, crowded, Outcome, play, call, after, History, onto, accepted}
 use Rattle.pmtl.specs.Past.{runBy, run}
 use Rattle.pmtl.proofs.History.{now-run}
 use Rattle.pmtl.proofs.Calls.{trail}
@@ -71,18 +71,13 @@ module _ (a a′ : Sections) (ok : judged a ≡ 0) (ok′ : judged a′ ≡ 0) (
       by-test z z′ e rest = at z rest ∙ ap (λ q. (elim q as (λ x. Outcome) [ true ↦ record { number = NO-ROOM; state = old′ } | false ↦ play b′ old′ (run b′ (n ∷ h)) ns ]) .number) e
 
   state-same : (bytes : List ℕ) → stateRefusal b bytes ≡ stateRefusal b′ bytes
-  state-same bytes = ap (λ (m : ℕ). cond (ltb MOST-ATOMS (length bytes)) PAST-LIMIT (cond (ltb (length bytes) m) TOO-NARROW (cond (some (ltb 1) bytes) NOT-A-BIT ACCEPTED))) width
+  state-same bytes = ap (λ (m : ℕ). cond (ltb MOST-ATOMS (length bytes)) PAST-LIMIT (cond (ltb (length bytes) m) TOO-NARROW (cond (ltb m (length bytes)) TOO-WIDE (cond (some (ltb 1) bytes) NOT-A-BIT ACCEPTED)))) width
 
   refusal-same : (n : Snap) (k : Call) → refusal b n k ≡ refusal b′ n k
   unfolding refusal
   refusal-same n (time t) = refl
   refusal-same n (state bytes) = state-same bytes
   refusal-same n (stamped t bytes) = ap (firstOf (timeRefusal n t)) (state-same bytes)
-
-  turns-same : (n : Snap) (k : Call) → turns b n k ≡ turns b′ n k
-  turns-same n (time t) = refl
-  turns-same n (state bytes) = ap (λ (m : ℕ). record { clock = n .clock; atoms = map (λ x. eqb x 1) (take m bytes) } ∷ []) width
-  turns-same n (stamped t bytes) = ap (λ (m : ℕ). timed n t ∷ record { clock = t; atoms = map (λ x. eqb x 1) (take m bytes) } ∷ []) width
 
   run-now : (h : History) → run b h .now ≡ run b′ h .now
   run-now h = now-run b h ∙ now-same b w s fit good-row b′ w′ width h ∙ sym (now-run b′ h)
@@ -91,21 +86,21 @@ module _ (a a′ : Sections) (ok : judged a ≡ 0) (ok′ : judged a′ ≡ 0) (
   unfolding call
   call-same h k = by-number (refusal b (run b h .now) k) (refusal b′ (run b′ h .now) k) (ap (λ n. refusal b n k) (run-now h) ∙ refusal-same (run b′ h .now) k)
     where
-      plays : play b (run b h) (run b h) (turns b (run b h .now) k) .number ≡ play b′ (run b′ h) (run b′ h) (turns b′ (run b′ h .now) k) .number
-      plays = ap (λ ns. play b (run b h) (run b h) ns .number) (ap (λ n. turns b n k) (run-now h) ∙ turns-same (run b′ h .now) k)
-          ∙ play-same (run b h) (run b′ h) (turns b′ (run b′ h .now) k) h
+      plays : play b (run b h) (run b h) (turns (run b h .now) k) .number ≡ play b′ (run b′ h) (run b′ h) (turns (run b′ h .now) k) .number
+      plays = ap (λ ns. play b (run b h) (run b h) ns .number) (ap (λ n. turns n k) (run-now h))
+          ∙ play-same (run b h) (run b′ h) (turns (run b′ h .now) k) h
 
       at : (x : ℕ) (z : Bool)
-          → (elim z as (λ y. Outcome) [ true ↦ play b (run b h) (run b h) (turns b (run b h .now) k) | false ↦ record { number = x; state = run b h } ]) .number
-          ≡ (elim z as (λ y. Outcome) [ true ↦ play b′ (run b′ h) (run b′ h) (turns b′ (run b′ h .now) k) | false ↦ record { number = x; state = run b′ h } ]) .number
+          → (elim z as (λ y. Outcome) [ true ↦ play b (run b h) (run b h) (turns (run b h .now) k) | false ↦ record { number = x; state = run b h } ]) .number
+          ≡ (elim z as (λ y. Outcome) [ true ↦ play b′ (run b′ h) (run b′ h) (turns (run b′ h .now) k) | false ↦ record { number = x; state = run b′ h } ]) .number
       at x true = plays
       at x false = refl
 
       by-number : (x x′ : ℕ) → x ≡ x′
-          → (elim (eqb x ACCEPTED) as (λ y. Outcome) [ true ↦ play b (run b h) (run b h) (turns b (run b h .now) k) | false ↦ record { number = x; state = run b h } ]) .number
-          ≡ (elim (eqb x′ ACCEPTED) as (λ y. Outcome) [ true ↦ play b′ (run b′ h) (run b′ h) (turns b′ (run b′ h .now) k) | false ↦ record { number = x′; state = run b′ h } ]) .number
+          → (elim (eqb x ACCEPTED) as (λ y. Outcome) [ true ↦ play b (run b h) (run b h) (turns (run b h .now) k) | false ↦ record { number = x; state = run b h } ]) .number
+          ≡ (elim (eqb x′ ACCEPTED) as (λ y. Outcome) [ true ↦ play b′ (run b′ h) (run b′ h) (turns (run b′ h .now) k) | false ↦ record { number = x′; state = run b′ h } ]) .number
       by-number x x′ e = at x (eqb x ACCEPTED)
-          ∙ ap (λ q. (elim (eqb q ACCEPTED) as (λ y. Outcome) [ true ↦ play b′ (run b′ h) (run b′ h) (turns b′ (run b′ h .now) k) | false ↦ record { number = q; state = run b′ h } ]) .number) e
+          ∙ ap (λ q. (elim (eqb q ACCEPTED) as (λ y. Outcome) [ true ↦ play b′ (run b′ h) (run b′ h) (turns (run b′ h .now) k) | false ↦ record { number = q; state = run b′ h } ]) .number) e
 
   -- ---- calls, the newest first: the same ones are accepted
   module _ (ks : List Call) (ih : accepted b ks ≡ accepted b′ ks) where
@@ -122,8 +117,8 @@ module _ (a a′ : Sections) (ok : judged a ≡ 0) (ok′ : judged a′ ≡ 0) (
   unfolding accepted
   accepted-same [] = refl
   accepted-same (k ∷ ks) = let ih = accepted-same ks in
-      ap₂ (λ x ns. cond (eqb x ACCEPTED) (onto ns (accepted b ks)) (accepted b ks)) (number-next ks ih k) (ap (λ n. turns b n k) (now-next ks ih) ∙ turns-same (after b′ ks .now) k)
-      ∙ ap (λ h. cond (eqb (call b′ (after b′ ks) k .number) ACCEPTED) (onto (turns b′ (after b′ ks .now) k) h) h) ih
+      ap₂ (λ x ns. cond (eqb x ACCEPTED) (onto ns (accepted b ks)) (accepted b ks)) (number-next ks ih k) (ap (λ n. turns n k) (now-next ks ih))
+      ∙ ap (λ h. cond (eqb (call b′ (after b′ ks) k .number) ACCEPTED) (onto (turns (after b′ ks .now) k) h) h) ih
 
   module _ (calls : List Call) where
     pub number-same : (k : Call) → call b (after b calls) k .number ≡ call b′ (after b′ calls) k .number

@@ -1,52 +1,49 @@
 -- `calls::put_atoms` meets its contract. The invariant: the atoms passed are written. Assumes nothing.
 use Rattle.calls.proofs.Heads.{atoms-start, atoms-more}
 use Rattle.calls.specs.Private.{Atoms}
-use Rattle.memory.specs.Memory.{widthWord}
 use mathlib.Core.Path.{_≡_}
 use Prim.Native.Nat.{_≤_, _-_}
+use lib.ListN.{length}
 use native.Mathlib.Omega.{arith}
 use borrow.Author.Needs.{needs}
 use Rattle.calls.proofs.put_atoms.Statement.{statement}
 use Rattle.calls.proofs.put_atoms.Tie as tie
 
 abbrev Inv-loop : tie.InvT-loop
-Inv-loop monitor₀ atoms count i₀ monitor i = (i ≤ count) × (count ≡ widthWord monitor₀) × Atoms monitor₀ atoms i monitor
+Inv-loop monitor₀ atoms i₀ monitor i = (i ≤ length atoms) × Atoms monitor₀ atoms i monitor
 
 abbrev μ-loop : tie.MeasureT-loop
-μ-loop monitor₀ atoms count i₀ monitor i = count - i
-
-width-requires : tie.Need-width-requires Inv-loop μ-loop
-width-requires c κs = search needs
+μ-loop monitor₀ atoms i₀ monitor i = length atoms - i
 
 loop-holds : tie.Need-loop-holds Inv-loop μ-loop
-loop-holds c = let s = (c .before .before .before) in (omega arith, c .width .ensures, atoms-start (s .args .monitor .now) (s .args .atoms .now) (s .pre .0))
+loop-holds c = let s = (c .before) in (omega arith, atoms-start (s .args .monitor .now) (s .args .atoms .now) (s .pre .0))
 
 shared-slice-read-wide : tie.Need-shared-slice-read-wide Inv-loop μ-loop
-shared-slice-read-wide c = let s = (c .before .before .before .before .before .before) in let l = (c .before .before) .loop in let e = l .inv .1 in let k = s .pre .1 in omega arith
+shared-slice-read-wide c = search needs
 
 wide-requires : tie.Need-wide-requires Inv-loop μ-loop
 wide-requires c κs = search needs
 
 add-monitor : tie.Need-add-monitor Inv-loop μ-loop
-add-monitor c = let s = (c .before .before .before .before .before .before .before) in let l = (c .before .before .before) .loop in let e = l .inv .1 in let k = s .pre .2 in omega arith
+add-monitor c = search needs
 
 mul-monitor : tie.Need-mul-monitor Inv-loop μ-loop
-mul-monitor c = let s = (c .before .before .before .before .before .before .before) in let l = (c .before .before .before) .loop in let e = l .inv .1 in let k = s .pre .2 in omega arith
+mul-monitor c = search needs
 
 element-write-monitor : tie.Need-element-write-monitor Inv-loop μ-loop
-element-write-monitor c = let s = (c .before .before .before .before .before .before .before) in let l = (c .before .before .before) .loop in let e = l .inv .1 in let k = s .pre .2 in let g = l .inv .2 .long in omega arith
+element-write-monitor c = search needs
 
 add-i : tie.Need-add-i Inv-loop μ-loop
-add-i c = let s = (c .before .before .before .before .before .before .before) in let l = (c .before .before .before) .loop in let e = l .inv .1 in let k = s .pre .2 in omega arith
+add-i c = search needs
 
 loop-less : tie.Need-loop-less Inv-loop μ-loop
 loop-less c = search needs
 
 loop-again : tie.Need-loop-again Inv-loop μ-loop
-loop-again c = let s = (c .before .before .before .before .before .before .before) in let l = (c .before .before .before) .loop in let e = l .inv .1 in let k = s .pre .2 in (omega arith, e, atoms-more (l .inv .2) (omega arith) (c .wide .ensures))
+loop-again c = let l = (c .before .before .before) .loop in (omega arith, atoms-more (l .inv .1) (omega arith) (c .wide .ensures))
 
 returns : tie.Need-returns Inv-loop μ-loop
-returns c = let s = (c .before .before .before .before .before) in let l = (c .before) .loop in let e : l .i ≡ widthWord (s .args .monitor .now) = let q = l .inv .1 in omega arith in rw e at (l .inv .2)
+returns c = let s = (c .before .before .before) in let l = (c .before) .loop in let e : l .i ≡ length (s .args .atoms .now) = let q = l .inv .0 in omega arith in rw e at (l .inv .1)
 
 pub put-atoms-spec : {M : Type 1} → statement M
 put-atoms-spec =
@@ -54,7 +51,6 @@ put-atoms-spec =
     (tie.spec
     Inv-loop
     μ-loop
-    width-requires
     loop-holds
     shared-slice-read-wide
     wide-requires

@@ -110,12 +110,12 @@ fn refused_books() -> Vec<(&'static str, String)> {
 
 fn refused_calls() -> Vec<(&'static str, String)> {
     let atom = "1\n2 1 0 0\n0\n0\n1 0\n";
-    let states = ["1 1 5", "1 2 0 2", &format!("1 3 0 1 {MAX}"), "1 3 0 1 257", "1 3 0 1 0", "1 0"];
-    let wide = |width: usize| format!("{atom}2\n0 1\n1 {width}{}\n", " 1".repeat(width));
+    let states = ["1 1 5", "1 2 0 2", &format!("1 2 0 {MAX}"), "1 2 0 257", "1 3 0 1 2", "1 3 0 1 0", "1 2 0 1", "1 0"];
+    let wide = |atom: &str, width: usize| format!("{atom}2\n0 1\n1 {width}{}\n", " 1".repeat(width));
     vec![
         ("call-states", case(atom, &states)),
         ("call-times", case(atom, &["0 5", "0 4", "0 5", "0 6", "0 0"])),
-        ("call-stamped", case(atom, &["2 5 2 0 1", "2 4 1 2", &format!("2 {OVER_H} 1 2"), "2 6 1 2", "2 6 2 0 2", "2 6 2 0 1"])),
+        ("call-stamped", case(atom, &["2 5 2 0 1", "2 4 1 2", &format!("2 {OVER_H} 1 2"), "2 6 1 2", "2 6 3 0 1 2", "2 6 2 0 2", "2 6 2 0 1"])),
         ("stop-no-count", atom.to_string()),
         ("stop-bad-count", format!("{atom}1x")),
         ("stop-large-count", format!("{atom}{MAX} 0 3")),
@@ -126,8 +126,9 @@ fn refused_calls() -> Vec<(&'static str, String)> {
         ("stop-kind", format!("{atom}2 0 1 3 x")),
         ("stop-in-stamped", format!("{atom}2 2 1 2 0 1 2 0 2 0")),
         ("stop-stamped-width", format!("{atom}2 2 1 2 0 1 2 {MAX} 257 x")),
-        ("stop-width", wide(257)),
-        ("call-widest", wide(256)),
+        ("stop-width", wide(atom, 257)),
+        ("call-too-wide", wide(atom, 256)),
+        ("call-widest", wide("1\n2 255 0 0\n0\n0\n1 0\n", 256)),
         ("spaces", "  \n1  2 0\n\n0 0 0 0 1 0\n   1 0  7  ".to_string()),
     ]
 }

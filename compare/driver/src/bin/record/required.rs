@@ -128,8 +128,8 @@ fn ranges() -> Vec<String> {
 fn refusals() -> Vec<String> {
     let books = [0, 1, 2, 3, 4, 5, 6, 13].map(|n| format!("book {n}"));
     let times = [0, 7, 8, 11].map(|n| format!("time call {n}"));
-    let states = [0, 9, 10, 11].map(|n| format!("state call {n}"));
-    let stamped = [0, 7, 8, 9, 10, 11].map(|n| format!("stamped call {n}"));
+    let states = [0, 9, 10, 11, 16].map(|n| format!("state call {n}"));
+    let stamped = [0, 7, 8, 9, 10, 11, 16].map(|n| format!("stamped call {n}"));
     let stops = [1, 2, 13].map(|n| format!("stop {n}"));
     books.into_iter().chain(times).chain(states).chain(stamped).chain(stops).collect()
 }
