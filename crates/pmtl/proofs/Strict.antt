@@ -192,10 +192,10 @@ module _ (b : Rows) (w : Ordered b) where
     pub never-eleven : (calls : List Call) (k : Call) → ¬ (call b (after b calls) k .number ≡ 11)
     never-eleven calls k e =
         let f = eleven-is b calls w k .0 e in
-        never-in (turns b (after b calls .now) k) (accepted b calls) (legal (trail b calls) f) (f .1)
+        never-in (turns (after b calls .now) k) (accepted b calls) (legal (trail b calls) f) (f .1)
       where
-        legal : Trail b calls (accepted b calls) → (refusal b (after b calls .now) k ≡ 0) × FullIn b (accepted b calls) (turns b (after b calls .now) k)
-            → Legal b (onto (turns b (after b calls .now) k) (accepted b calls))
+        legal : Trail b calls (accepted b calls) → (refusal b (after b calls .now) k ≡ 0) × FullIn b (accepted b calls) (turns (after b calls .now) k)
+            → Legal b (onto (turns (after b calls .now) k) (accepted b calls))
         legal t = rw (t .is) (λ f. legal-now b w (accepted b calls) (t .legal) k (f .0))
 
 -- ---- the same in other words

@@ -1,4 +1,4 @@
--- REFERENCE 2.7: how many runs a set can need at once, by the range of its row, and books in which none needs more than it may have. Definitions only.
+-- REFERENCE 2.8: how many runs a set can need at once, by the range of its row, and books in which none needs more than it may have. Definitions only.
 use Prim.Native.Nat.{ℕ, suc, _+_, _-_, _/_, _≤_}
 use mathlib.Core.Bool.{Bool, cond}
 use mathlib.Core.List.{[], _∷_}

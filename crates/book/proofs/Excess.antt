@@ -1,0 +1,139 @@
+-- What strict loading finds in the words of rows is what it finds in the book that they say. Assumes nothing.
+use mathlib.Core.Path.{_≡_, refl, sym, ap, _∙_}
+use mathlib.Core.Bool.{cond}
+use mathlib.Core.Logic.{⊎-elim}
+use mathlib.Core.List.{List}
+use Prim.Native.Nat.{ℕ, zero, suc, _+_, _-_, _/_, _≤_, _<_}
+use native.Mathlib.Omega.{arith}
+use lib.ListN.{length}
+use borrow.Author.Tests.{eq-eqb, ne-eqb, lt-leb, le-leb, lt-ltb, le-ltb}
+use Rattle.numbers.specs.Limits.{MAX, MOST-RUNS}
+use Rattle.lists.proofs.Tests.{lt-or-ge}
+use Rattle.lists.proofs.Listed.{listed-length, listed-at}
+use Rattle.pmtl.specs.Book.{Rows, rowAt}
+use Rattle.pmtl.specs.Book.Row.{never}
+use Rattle.pmtl.specs.Strict.{needed, neededBy, firstOver}
+use Rattle.pmtl.proofs.Strict.{first-over}
+use Rattle.book.specs.declared.strict.Loading.{Loading}
+use Rattle.book.specs.declared.strict.Loading.the-variants.{Strict}
+use Rattle.book.specs.declared.strict.Excess.{Excess}
+use Rattle.book.specs.declared.strict.Excess.the-variants.{Within, Over}
+use Rattle.book.specs.Rows.{rowFrom, temporal}
+use Rattle.book.specs.Reading.{Sections}
+use Rattle.book.specs.Judging.{kindIn, argIn, lowerIn, upperIn, rowsIn, firstTo, rowNumber, rowIn, judged, bookIn, loaded}
+use Rattle.book.specs.Placing.{partsOf, Placed, PlacedBy}
+use Rattle.book.specs.Private.{rangeIn, neededIn, NoneOver, FirstIn, Surplus}
+use Rattle.book.specs.Strict.{excessIn, excessBy, unless}
+use Rattle.book.proofs.Tests.{first-none}
+use Rattle.book.proofs.Accepted.{first-each, form-kind, row-form}
+use Rattle.book.proofs.Placing.{accepted, accepted-book, refused-book}
+
+-- ---- a range
+pub needed-endless : (lower upper : ℕ) → upper ≡ MAX → _≡_ {A = ℕ} 1 (needed (rangeIn lower upper))
+unfolding needed
+needed-endless lower upper e = rw (eq-eqb upper MAX e)
+
+pub needed-finite : (lower upper : ℕ) → (upper ≡ MAX → ⊥) → upper / (upper - lower + 2) + 1 ≡ needed (rangeIn lower upper)
+unfolding needed
+needed-finite lower upper n = rw (ne-eqb upper MAX n)
+
+-- ---- a row, by its words and as the book has it
+pub plain-needs : (ws : List ℕ) (r kind : ℕ) → kind ≡ kindIn ws r → kind < 7 → _≡_ {A = ℕ} 0 (neededIn ws r)
+unfolding neededIn
+plain-needs ws r kind e l = rw (← e, lt-leb 7 kind l)
+
+pub temporal-needs : (ws : List ℕ) (r kind lower upper n : ℕ) → kind ≡ kindIn ws r → lower ≡ lowerIn ws r → upper ≡ upperIn ws r → 7 ≤ kind
+    → n ≡ needed (rangeIn lower upper) → n ≡ neededIn ws r
+unfolding neededIn
+temporal-needs ws r kind lower upper n e el eu l en = rw (← e, ← el, ← eu, le-leb 7 kind l) en
+
+row-needs : (kind arg lower upper : ℕ) (os : List ℕ) → kind ≤ 9
+    → neededBy (rowFrom kind arg lower upper os) ≡ cond (temporal kind) (needed (rangeIn lower upper)) 0
+unfolding rowFrom neededBy
+row-needs zero arg lower upper os l = refl
+row-needs (suc zero) arg lower upper os l = refl
+row-needs (suc (suc zero)) arg lower upper os l = refl
+row-needs (suc (suc (suc zero))) arg lower upper os l = refl
+row-needs (suc (suc (suc (suc zero)))) arg lower upper os l = refl
+row-needs (suc (suc (suc (suc (suc zero))))) arg lower upper os l = refl
+row-needs (suc (suc (suc (suc (suc (suc zero)))))) arg lower upper os l = refl
+row-needs (suc (suc (suc (suc (suc (suc (suc zero))))))) arg lower upper os l = refl
+row-needs (suc (suc (suc (suc (suc (suc (suc (suc zero)))))))) arg lower upper os l = refl
+row-needs (suc (suc (suc (suc (suc (suc (suc (suc (suc zero))))))))) arg lower upper os l = refl
+row-needs (suc (suc (suc (suc (suc (suc (suc (suc (suc (suc k)))))))))) arg lower upper os l = absurd (omega arith)
+
+-- ---- the walk over the rows
+pub over-start : (ws : List ℕ) → NoneOver ws 0
+over-start ws i h = absurd (omega arith)
+
+pub over-more : (ws : List ℕ) (r n : ℕ) → NoneOver ws r → n ≡ neededIn ws r → n ≤ MOST-RUNS → NoneOver ws (r + 1)
+over-more ws r n h e l i k = ⊎-elim (h i) (λ g. let q : i ≡ r = omega arith in rw q (rw e at l)) (lt-or-ge i r)
+
+pub none-over : (ws : List ℕ) (r : ℕ) → FirstIn ws r → length ws / 4 ≤ r → NoneOver ws (length ws / 4)
+none-over ws r f l i h = f .none-before i (omega arith)
+
+-- ---- the rows of sections that are in order
+module _ (s : Sections) (ok : firstTo (rowNumber (s .rows)) (rowsIn s) ≡ 0) where
+  abbrev b : Rows
+  b = bookIn s .rows
+
+  count : length b ≡ rowsIn s
+  unfolding bookIn
+  count = listed-length (rowIn s) (rowsIn s)
+
+  same-needs : (i : ℕ) → i < rowsIn s → neededBy (rowAt b i) ≡ neededIn (s .rows) i
+  unfolding bookIn rowIn neededIn
+  same-needs i l =
+      ap neededBy (listed-at (rowIn s) never (rowsIn s) i l)
+      ∙ row-needs (kindIn (s .rows) i) (argIn (s .rows) i) (lowerIn (s .rows) i) (upperIn (s .rows) i) _
+      (form-kind (kindIn (s .rows) i) (argIn (s .rows) i) (lowerIn (s .rows) i) (upperIn (s .rows) i)
+      (row-form (s .rows) i (first-each (rowNumber (s .rows)) (rowsIn s) ok i l)))
+
+  first-is : (r : ℕ) → FirstIn (s .rows) r → firstOver b ≡ r
+  first-is r f =
+      first-over b r (rw count (f .inside))
+      (λ i h. le-ltb MOST-RUNS (neededBy (rowAt b i)) (rw (same-needs i (omega (arith, f .inside))) (f .none-before i h)))
+      (λ h. let l : r < rowsIn s = rw count at h in lt-ltb MOST-RUNS (neededBy (rowAt b r)) (rw (same-needs r l) (f .over l)))
+
+  pub surplus-is : (e : Excess) → Surplus (s .rows) e → e ≡ excessIn b
+  unfolding excessIn
+  surplus-is Within h =
+      let f = first-is (rowsIn s) (record { inside = omega arith; none-before = h; over = λ l. absurd (omega arith) }) in
+      rw (le-ltb (firstOver b) (length b) (omega (arith, f, count)))
+  surplus-is (Over r n) h =
+      let f = first-is r (h .0) in
+      rw (lt-ltb (firstOver b) (length b) (omega (arith, f, count, h .1)), f) (ap (Over r) (h .2 ∙ sym (same-needs r (h .1))))
+
+-- strict loading looks for it
+pub by-strict : (way : Loading) (b : Rows) (e : Excess) → way ≡ Strict → e ≡ excessIn b → e ≡ excessBy way b
+by-strict way b e w h = rw w h
+
+-- ---- words whose sections are placed
+module _ (words : List ℕ) (number n o a g : ℕ) (p : Placed words number n o a g) where
+  pub rows-in-order : number ≡ 0 → firstTo (rowNumber (partsOf words n o a g .rows)) (rowsIn (partsOf words n o a g)) ≡ 0
+  unfolding judged
+  rows-in-order e = first-none _ _ (accepted words number n o a g p e)
+
+  -- refused already: the book is empty
+  pub excess-refused : (number ≡ 0 → ⊥) → Within ≡ excessIn (loaded words .book .rows)
+  unfolding excessIn firstOver
+  excess-refused no-0 = rw (refused-book words number n o a g p no-0)
+
+  pub excess-accepted : number ≡ 0 → (e : Excess) → Surplus (partsOf words n o a g .rows) e → e ≡ excessIn (loaded words .book .rows)
+  excess-accepted z e h = rw (accepted-book words number n o a g p z) (surplus-is (partsOf words n o a g) (rows-in-order z) e h)
+
+  -- in either way of loading: nothing is over, or something is
+  module _ (way : Loading) (e : Excess) (is : e ≡ excessBy way (loaded words .book .rows)) where
+    pub placed-within : e ≡ Within → PlacedBy way words number n o a g
+    placed-within z = record {
+      number-is = p .number-is ∙ ap (λ (x : Excess). unless x (loaded words) .number) (sym z ∙ is);
+      counted = p .counted;
+      none = p .none;
+    }
+
+    pub placed-over : (r k : ℕ) → e ≡ Over r k → (m n′ o′ a′ g′ : ℕ) → (m ≡ 15) × (n′ ≡ 0) × (o′ ≡ 0) × (a′ ≡ 0) × (g′ ≡ 0) → PlacedBy way words m n′ o′ a′ g′
+    placed-over r k z m n′ o′ a′ g′ q = record {
+      number-is = q .0 ∙ ap (λ (x : Excess). unless x (loaded words) .number) (sym z ∙ is);
+      counted = λ y. absurd (omega (arith, q .0));
+      none = λ y. (q .1, q .2, q .3, q .4);
+    }
