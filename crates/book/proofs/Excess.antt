@@ -1,6 +1,6 @@
 -- What strict loading finds in the words of rows is what it finds in the book that they say. Assumes nothing.
 use mathlib.Core.Path.{_≡_, refl, sym, ap, _∙_}
-use mathlib.Core.Bool.{cond}
+use mathlib.Core.Bool.{Bool, true, false, cond}
 use mathlib.Core.Logic.{⊎-elim}
 use mathlib.Core.List.{List}
 use Prim.Native.Nat.{ℕ, zero, suc, _+_, _-_, _/_, _≤_, _<_}
@@ -12,21 +12,21 @@ use Rattle.lists.proofs.Tests.{lt-or-ge}
 use Rattle.lists.proofs.Listed.{listed-length, listed-at}
 use Rattle.pmtl.specs.Book.{Rows, rowAt}
 use Rattle.pmtl.specs.Book.Row.{never}
-use Rattle.pmtl.specs.Strict.{needed, neededBy, firstOver}
-use Rattle.pmtl.proofs.Strict.{first-over}
+use Rattle.pmtl.specs.Strict.{needed, neededBy, Strict as IsStrict, firstOver, anyOver}
+use Rattle.pmtl.proofs.Strict.{first-over, none-strict}
 use Rattle.book.specs.declared.strict.Loading.{Loading}
 use Rattle.book.specs.declared.strict.Loading.the-variants.{Strict}
 use Rattle.book.specs.declared.strict.Excess.{Excess}
 use Rattle.book.specs.declared.strict.Excess.the-variants.{Within, Over}
 use Rattle.book.specs.Rows.{rowFrom, temporal}
 use Rattle.book.specs.Reading.{Sections}
-use Rattle.book.specs.Judging.{kindIn, argIn, lowerIn, upperIn, rowsIn, firstTo, rowNumber, rowIn, judged, bookIn, loaded}
+use Rattle.book.specs.Judging.{Loaded, refusedWith, kindIn, argIn, lowerIn, upperIn, rowsIn, firstTo, rowNumber, rowIn, judged, bookIn, loaded}
 use Rattle.book.specs.Placing.{partsOf, Placed, PlacedBy}
 use Rattle.book.specs.Private.{rangeIn, neededIn, NoneOver, FirstIn, Surplus}
-use Rattle.book.specs.Strict.{excessIn, excessBy, unless}
+use Rattle.book.specs.Strict.{excessIn, excessBy, unless, loadedBy}
 use Rattle.book.proofs.Tests.{first-none}
 use Rattle.book.proofs.Accepted.{first-each, form-kind, row-form}
-use Rattle.book.proofs.Placing.{accepted, accepted-book, refused-book}
+use Rattle.book.proofs.Placing.{accepted, accepted-book, refused-book, refused-empty}
 
 -- ---- a range
 pub needed-endless : (lower upper : ℕ) → upper ≡ MAX → _≡_ {A = ℕ} 1 (needed (rangeIn lower upper))
@@ -137,3 +137,34 @@ module _ (words : List ℕ) (number n o a g : ℕ) (p : Placed words number n o 
       counted = λ y. absurd (omega (arith, q .0));
       none = λ y. (q .1, q .2, q .3, q .4);
     }
+
+-- ---- what loading comes to in either way
+accepted-unless : (e : Excess) (l : Loaded) → unless e l .number ≡ 0 → unless e l ≡ l
+accepted-unless Within l h = refl
+accepted-unless (Over r n) l h = absurd (omega arith)
+
+-- a book that is accepted is accepted in ordinary loading, as the same book
+pub accepted-by : (way : Loading) (words : List ℕ) → loadedBy way words .number ≡ 0 → loadedBy way words ≡ loaded words
+accepted-by way words = accepted-unless (excessBy way (loaded words .book .rows)) (loaded words)
+
+refused-unless : (e : Excess) (l : Loaded) → ((l .number ≡ 0 → ⊥) → l ≡ refusedWith (l .number)) → (unless e l .number ≡ 0 → ⊥) → unless e l ≡ refusedWith (unless e l .number)
+refused-unless Within l empty h = empty h
+refused-unless (Over r n) l empty h = refl
+
+-- a refused book gives an empty one
+pub refused-by : (way : Loading) (words : List ℕ) → (loadedBy way words .number ≡ 0 → ⊥) → loadedBy way words ≡ refusedWith (loadedBy way words .number)
+refused-by way words = refused-unless (excessBy way (loaded words .book .rows)) (loaded words) (refused-empty words)
+
+-- a strict one, accepted or empty, has no row that can need more runs than a set may have
+strict-unless : (l : Loaded) (e : Excess) → e ≡ excessIn (l .book .rows) → anyOver (unless e l .book .rows) ≡ false
+unfolding excessIn firstOver
+strict-unless l (Over r n) h = refl
+strict-unless l Within h = go (anyOver (l .book .rows)) refl h
+  where
+    go : (z : Bool) → anyOver (l .book .rows) ≡ z → Within ≡ cond z (Over (firstOver (l .book .rows)) (neededBy (rowAt (l .book .rows) (firstOver (l .book .rows))))) Within
+        → anyOver (l .book .rows) ≡ false
+    go true z h = absurd (let x : _≡_ {A = ℕ} 0 1 = cc in omega arith)
+    go false z h = z
+
+pub loaded-strict : (words : List ℕ) → IsStrict (loadedBy Strict words .book .rows)
+loaded-strict words = none-strict _ (strict-unless (loaded words) (excessIn (loaded words .book .rows)) refl)
