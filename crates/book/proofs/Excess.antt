@@ -1,32 +1,34 @@
 -- What strict loading finds in the words of rows is what it finds in the book that they say. Assumes nothing.
 use mathlib.Core.Path.{_≡_, refl, sym, ap, _∙_}
 use mathlib.Core.Bool.{Bool, true, false, cond}
-use mathlib.Core.Logic.{⊎-elim}
+use mathlib.Core.Logic.{_⊎_, inl, inr, ⊎-elim}
 use mathlib.Core.List.{List}
 use Prim.Native.Nat.{ℕ, zero, suc, _+_, _-_, _/_, _≤_, _<_}
+use native.Mathlib.Nat.{div-le-self}
+use native.Mathlib.Decide.{ℕ-discrete}
 use native.Mathlib.Omega.{arith}
 use lib.ListN.{length}
-use borrow.Author.Tests.{eq-eqb, ne-eqb, lt-leb, le-leb, lt-ltb, le-ltb}
-use Rattle.numbers.specs.Limits.{MAX, MOST-RUNS}
-use Rattle.lists.proofs.Tests.{lt-or-ge}
+use borrow.Author.Tests.{eq-eqb, ne-eqb, lt-leb, le-leb, lt-ltb, le-ltb, ltb-true}
+use Rattle.numbers.specs.Limits.{MAX, LAST-TIME, MOST-RUNS}
+use Rattle.lists.proofs.Tests.{either, lt-or-ge}
 use Rattle.lists.proofs.Listed.{listed-length, listed-at}
 use Rattle.pmtl.specs.Book.{Rows, rowAt}
 use Rattle.pmtl.specs.Book.Row.{never}
 use Rattle.pmtl.specs.Strict.{needed, neededBy, Strict as IsStrict, firstOver, anyOver}
 use Rattle.pmtl.proofs.Strict.{first-over, none-strict}
 use Rattle.book.specs.declared.strict.Loading.{Loading}
-use Rattle.book.specs.declared.strict.Loading.the-variants.{Strict}
+use Rattle.book.specs.declared.strict.Loading.the-variants.{Ordinary, Strict}
 use Rattle.book.specs.declared.strict.Excess.{Excess}
 use Rattle.book.specs.declared.strict.Excess.the-variants.{Within, Over}
 use Rattle.book.specs.Rows.{rowFrom, temporal}
 use Rattle.book.specs.Reading.{Sections}
-use Rattle.book.specs.Judging.{Loaded, refusedWith, kindIn, argIn, lowerIn, upperIn, rowsIn, firstTo, rowNumber, rowIn, judged, bookIn, loaded}
+use Rattle.book.specs.Judging.{Loaded, refusedWith, kindIn, argIn, lowerIn, upperIn, rowsIn, firstTo, rangeGood, rowNumber, rowIn, judged, bookIn, loadedFrom, loaded}
 use Rattle.book.specs.Placing.{partsOf, Placed, PlacedBy}
 use Rattle.book.specs.Private.{rangeIn, neededIn, NoneOver, FirstIn, Surplus}
-use Rattle.book.specs.Strict.{excessIn, excessBy, unless, loadedBy}
+use Rattle.book.specs.Strict.{excessIn, excessBy, unless, admitted, loadedBy}
 use Rattle.book.proofs.Tests.{first-none}
-use Rattle.book.proofs.Accepted.{first-each, form-kind, row-form}
-use Rattle.book.proofs.Placing.{accepted, accepted-book, refused-book, refused-empty}
+use Rattle.book.proofs.Accepted.{first-each, form-kind, upper-small, row-form, row-range}
+use Rattle.book.proofs.Placing.{book-judged, refused-judged, accepted, accepted-book, refused-book, refused-empty}
 
 -- ---- a range
 pub needed-endless : (lower upper : ℕ) → upper ≡ MAX → _≡_ {A = ℕ} 1 (needed (rangeIn lower upper))
@@ -166,5 +168,61 @@ strict-unless l Within h = go (anyOver (l .book .rows)) refl h
     go true z h = absurd (let x : _≡_ {A = ℕ} 0 1 = cc in omega arith)
     go false z h = z
 
-pub loaded-strict : (words : List ℕ) → IsStrict (loadedBy Strict words .book .rows)
-loaded-strict words = none-strict _ (strict-unless (loaded words) (excessIn (loaded words .book .rows)) refl)
+pub admitted-strict : (l : Loaded) → IsStrict (admitted Strict l .book .rows)
+admitted-strict l = none-strict _ (strict-unless l (excessIn (l .book .rows)) refl)
+
+within-unless : (e : Excess) (l : Loaded) → unless e l .number ≡ 0 → e ≡ Within
+within-unless Within l h = refl
+within-unless (Over r n) l h = absurd (omega arith)
+
+-- a book that is accepted has no such row
+pub accepted-within : (way : Loading) (l : Loaded) → admitted way l .number ≡ 0 → excessBy way (l .book .rows) ≡ Within
+accepted-within way l = within-unless (excessBy way (l .book .rows)) l
+
+-- ---- how large the numbers get
+needed-small : (lower upper : ℕ) → rangeGood lower upper ≡ true → needed (rangeIn lower upper) ≤ LAST-TIME + 1
+unfolding needed
+needed-small lower upper good = go (ℕ-discrete upper MAX)
+  where
+    go : Dec (upper ≡ MAX) → needed (rangeIn lower upper) ≤ LAST-TIME + 1
+    go (yes e) = rw (eq-eqb upper MAX e) (omega arith)
+    go (no n) = rw (ne-eqb upper MAX n) (omega (arith, div-le-self upper (upper - lower + 2), upper-small lower upper good n))
+
+row-small : (z : Bool) (n : ℕ) → n ≤ LAST-TIME + 1 → cond z n 0 ≤ LAST-TIME + 1
+row-small true n h = h
+row-small false n h = omega arith
+
+-- the row is one of those that there are, and what it needs has 64 bits
+pub record SmallExcess (s : Sections) (r n : ℕ) : Type 0 where
+  pub row : r < rowsIn s
+  pub count : n ≤ LAST-TIME + 1
+
+over-is : (s : Sections) {r n : ℕ} → judged s ≡ 0 → excessIn (bookIn s .rows) ≡ Over r n → SmallExcess s r n
+unfolding excessIn judged neededIn
+over-is s {r} {n} ok = go (either (anyOver (bookIn s .rows)))
+  where
+    rows-ok : firstTo (rowNumber (s .rows)) (rowsIn s) ≡ 0
+    rows-ok = first-none _ _ ok
+
+    named : firstOver (bookIn s .rows) < rowsIn s → Over (firstOver (bookIn s .rows)) (neededBy (rowAt (bookIn s .rows) (firstOver (bookIn s .rows)))) ≡ Over r n → SmallExcess s r n
+    named l e =
+        let first = firstOver (bookIn s .rows) in
+        let is-row : first ≡ r = cc in
+        let is-count : neededBy (rowAt (bookIn s .rows) first) ≡ n = cc in
+        let good = row-range (s .rows) first (first-each (rowNumber (s .rows)) (rowsIn s) rows-ok first l) in
+        let small = row-small (temporal (kindIn (s .rows) first)) (needed (rangeIn (lowerIn (s .rows) first) (upperIn (s .rows) first))) (needed-small (lowerIn (s .rows) first) (upperIn (s .rows) first) good) in
+        record { row = rw is-row at l; count = omega (arith, same-needs s rows-ok first l, small) }
+
+    go : (anyOver (bookIn s .rows) ≡ true) ⊎ (anyOver (bookIn s .rows) ≡ false)
+        → cond (anyOver (bookIn s .rows)) (Over (firstOver (bookIn s .rows)) (neededBy (rowAt (bookIn s .rows) (firstOver (bookIn s .rows))))) Within ≡ Over r n → SmallExcess s r n
+    go (inl t) e = named (omega (arith, ltb-true (firstOver (bookIn s .rows)) (length (bookIn s .rows)) t, count s rows-ok)) (rw t at e)
+    go (inr f) e = absurd (let h = rw f at e in let z : _≡_ {A = ℕ} 0 1 = cc in omega arith)
+
+pub excess-small : (way : Loading) (s : Sections) {r n : ℕ} → excessBy way (loadedFrom s .book .rows) ≡ Over r n → SmallExcess s r n
+unfolding excessIn firstOver
+excess-small Ordinary s h = absurd (let z : _≡_ {A = ℕ} 0 1 = cc in omega arith)
+excess-small Strict s {r} {n} h = go (ℕ-discrete (judged s) 0) h
+  where
+    go : Dec (judged s ≡ 0) → excessIn (loadedFrom s .book .rows) ≡ Over r n → SmallExcess s r n
+    go (yes z) h = over-is s z (rw (book-judged s z) at h)
+    go (no wrong) h = absurd (let e = rw (refused-judged s wrong) at h in let z : _≡_ {A = ℕ} 0 1 = cc in omega arith)

@@ -25,7 +25,8 @@ use Rattle.property_answers.specs.Verdict.{propertyAt, verdictIn, verdictOf}
 use Rattle.calls.specs.Called.{Called}
 use Rattle.book.specs.declared.strict.Loading.{Loading}
 use Rattle.book.specs.declared.strict.Loading.the-variants.{Strict}
-use Rattle.book.proofs.Excess.{loaded-strict}
+use Rattle.book.specs.Judging.{loaded}
+use Rattle.book.proofs.Excess.{admitted-strict}
 use Rattle.oracle.specs.Made.{Made, bookSaid}
 use Rattle.oracle.specs.Made.Made.{loads, calls}
 
@@ -101,7 +102,7 @@ demand-3 {way} {words} {ks} made i x e more later =
 -- IT NEVER RUNS OUT: from strict loading on, whatever the words, no call is ever answered 11, refused ones among those before it
 pub never-eleven : {words : List ℕ} {ks : List Call} {m m′ : List ℕ} {k : Call} {r : ℕ} → Made Strict words ks m → Called k m m′ r → ¬ (r ≡ 11)
 never-eleven {words} {ks} {k = k} made c e =
-    strict-never (bookSaid Strict words .rows) (made-ordered made) (loaded-strict words) ks k (sym (made-number made c) ∙ e)
+    strict-never (bookSaid Strict words .rows) (made-ordered made) (admitted-strict (loaded words)) ks k (sym (made-number made c) ∙ e)
 
 -- ---- demand 2 in words: of a property whose row is temporal, and the clock that the memory has
 module _ {way : Loading} {words : List ℕ} {ks : List Call} {m : List ℕ} (made : Made way words ks m) (i : ℕ) where

@@ -1,4 +1,4 @@
--- `report::binefdar_report` meets its contract. Assumes nothing.
+-- `report::report_by` meets its contract. Assumes nothing.
 use Rattle.text_reader.proofs.Taking.{part-refused}
 use mathlib.Core.Path.{_∙_, sym}
 use native.Mathlib.Omega.{arith}
@@ -7,8 +7,8 @@ use Rattle.buffer_writer.proofs.Writes.{whole}
 use Rattle.report.proofs.Lasting.{ending}
 use Rattle.report.proofs.Going.{too-long, no-book, book-there, of-book}
 use borrow.Author.Needs.{needs}
-use Rattle.report.proofs.binefdar_report.Statement.{statement}
-use Rattle.report.proofs.binefdar_report.Tie as tie
+use Rattle.report.proofs.report_by.Statement.{statement}
+use Rattle.report.proofs.report_by.Tie as tie
 
 stopped-requires : tie.Need-stopped-requires
 stopped-requires c κs = search needs
@@ -17,7 +17,7 @@ same-length : tie.Need-same-length
 same-length c = search needs
 
 returns : tie.Need-returns
-returns c = ending _ _ (c .before .before .stopped .ensures) (too-long _ (c .before .before .before .before .if1 .taken)) ∙ whole _ _
+returns c = ending _ _ (c .before .before .stopped .ensures) (too-long _ _ (c .before .before .before .before .if1 .taken)) ∙ whole _ _
 
 book-requires : tie.Need-book-requires
 book-requires c κs = search needs
@@ -38,7 +38,7 @@ same-length-2 : tie.Need-same-length-2
 same-length-2 c = search needs
 
 returns-2 : tie.Need-returns-2
-returns-2 c = let e = c .before .before .before .before .before .enum-told .given .1 in ending _ _ (c .before .before .refused-book .ensures) (no-book _ (c .before .before .before .before .before .before .before .before .before .if1 .left) _ (c .before .before .before .before .before .before .before .book .ensures) e (c .before .before .before .part-number .ensures ∙ sym (part-refused e))) ∙ whole _ _
+returns-2 c = let e = c .before .before .before .before .before .enum-told .given .1 in ending _ _ (c .before .before .refused-book .ensures) (no-book _ _ (c .before .before .before .before .before .before .before .before .before .if1 .left) _ (c .before .before .before .before .before .before .before .book .ensures) e (c .before .before .before .part-number .ensures ∙ sym (part-refused e))) ∙ whole _ _
 
 array-share-prefix-words : tie.Need-array-share-prefix-words
 array-share-prefix-words c = omega (arith, book-there _ _ (c .before .before .before .book .ensures) (c .before .read .given .1) .place)
@@ -53,10 +53,10 @@ same-length-3 : tie.Need-same-length-3
 same-length-3 c = search needs
 
 returns-3 : tie.Need-returns-3
-returns-3 c = ending _ _ (c .before .before .loaded-book .ensures) (of-book _ (c .before .before .before .before .before .before .before .before .before .before .if1 .left) (book-there _ _ (c .before .before .before .before .before .before .before .before .book .ensures) (c .before .before .before .before .before .before .read .given .1))) ∙ whole _ _
+returns-3 c = ending _ _ (c .before .before .loaded-book .ensures) (of-book _ _ (c .before .before .before .before .before .before .before .before .before .before .if1 .left) (book-there _ _ (c .before .before .before .before .before .before .before .before .book .ensures) (c .before .before .before .before .before .before .read .given .1))) ∙ whole _ _
 
-pub binefdar-report-spec : {M : Type 1} → statement M
-binefdar-report-spec =
+pub report-by-spec : {M : Type 1} → statement M
+report-by-spec =
     tie.close
     (tie.spec
     stopped-requires

@@ -1,20 +1,20 @@
 -- The room falls from call to call.
 use borrow.Author.Needs.{needs}
 use mathlib.Core.Path.{sym, _∙_}
-use Rattle.monitor.proofs.Rooms.{only-short, long-too}
+use Rattle.reporter.proofs.Rooms.{only-short, long-too}
 use Prim.Native.Nat.{ℕ, _<_}
 use borrow.Fn.Kinds.{In}
 use borrow.Fn.PlainCycle.{Measures, is, falls, and}
-use Rattle.monitor.proofs.show.Reads as show
-use Rattle.monitor.proofs.show.Kinds as show-kinds
-use Rattle.monitor.proofs.+show.Lts-show as show-lts
-use Rattle.monitor.proofs.show_long.Reads as show-long-reads
-use Rattle.monitor.proofs.show_short.Reads as show-short-reads
-use Rattle.monitor.proofs.+show.{statement}
-use Rattle.monitor.proofs.+show.Tie.{close}
+use Rattle.reporter.proofs.show.Reads as show
+use Rattle.reporter.proofs.show.Kinds as show-kinds
+use Rattle.reporter.proofs.+show.Lts-show as show-lts
+use Rattle.reporter.proofs.show_long.Reads as show-long-reads
+use Rattle.reporter.proofs.show_short.Reads as show-short-reads
+use Rattle.reporter.proofs.+show.{statement}
+use Rattle.reporter.proofs.+show.Tie.{close}
 
 abbrev μ-show : Measures 1 show-kinds.ps ℕ
-μ-show κs a = a .1 .0
+μ-show κs a = a .1 .1 .0
 
 abbrev show-at : ℕ → In 1 show-kinds.ps
 show-at t = and 1 show-kinds.ps (is 1 show-kinds.ps μ-show t) show.Pre
@@ -40,7 +40,7 @@ show-returns : (t : ℕ) → show-lts.Need-returns (
   show-long-reads.Asked,
   show-long-reads.Learnt,
 ) (show-at t) show.Post
-show-returns t c = c .show-short .ensures ∙ sym (only-short _ _ (c .before .if1 .taken))
+show-returns t c = c .show-short .ensures ∙ sym (only-short _ _ _ (c .before .if1 .taken))
 
 show-sub-show : (t : ℕ) → show-lts.Need-sub-show (
   show-short-reads.Asked,
@@ -80,7 +80,7 @@ show-returns-2 : (t : ℕ) → show-lts.Need-returns-2 (
   show-long-reads.Asked,
   show-long-reads.Learnt,
 ) (show-at t) show.Post
-show-returns-2 t c = c .if2 .taken ∙ sym (long-too _ _ (c .before .before .if1 .left))
+show-returns-2 t c = c .if2 .taken ∙ sym (long-too _ _ _ (c .before .before .if1 .left))
 
 show-returns-3 : (t : ℕ) → show-lts.Need-returns-3 (
   show-short-reads.Asked,
@@ -90,7 +90,7 @@ show-returns-3 : (t : ℕ) → show-lts.Need-returns-3 (
   show-long-reads.Asked,
   show-long-reads.Learnt,
 ) (show-at t) show.Post
-show-returns-3 t c = c .show-long .ensures ∙ sym (long-too _ _ (c .before .before .before .if1 .left))
+show-returns-3 t c = c .show-long .ensures ∙ sym (long-too _ _ _ (c .before .before .before .if1 .left))
 
 pub +show-spec : {M : Type 1} → statement M
 +show-spec = close μ-show λ t. show-lts.spec (

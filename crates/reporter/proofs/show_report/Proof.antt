@@ -1,8 +1,8 @@
 -- Of the rooms up to the largest that is needed one holds the report.
 use mathlib.Core.Path.{_∙_}
 use borrow.Author.Needs.{needs}
-use Rattle.monitor.proofs.show_report.Statement.{statement}
-use Rattle.monitor.proofs.show_report.Tie as tie
+use Rattle.reporter.proofs.show_report.Statement.{statement}
+use Rattle.reporter.proofs.show_report.Tie as tie
 
 largest-room-requires : tie.Need-largest-room-requires
 largest-room-requires c κs = search needs

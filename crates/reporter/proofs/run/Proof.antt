@@ -4,8 +4,8 @@ use lib.Seq.{length-take-le}
 use native.Mathlib.Omega.{arith}
 use Rattle.console.proofs.Bounds.{within}
 use borrow.Author.Needs.{needs}
-use Rattle.monitor.proofs.main.Statement.{statement}
-use Rattle.monitor.proofs.main.Tie as tie
+use Rattle.reporter.proofs.run.Statement.{statement}
+use Rattle.reporter.proofs.run.Tie as tie
 
 slice-aggregate-read-all : tie.Need-slice-aggregate-read-all
 slice-aggregate-read-all c = search needs
@@ -34,8 +34,8 @@ show-report-requires c κs = search needs
 returns-2 : tie.Need-returns-2
 returns-2 c = search needs
 
-pub main-spec : {M : Type 1} → statement M
-main-spec =
+pub run-spec : {M : Type 1} → statement M
+run-spec =
     tie.close
     (tie.spec
     slice-aggregate-read-all
