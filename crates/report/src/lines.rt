@@ -52,8 +52,8 @@ pub fn put_book(out: &mut [u8], at: usize, number: u64, excess: Excess) -> usize
 fn put_stop(out: &mut [u8], at: usize, number: u64) -> usize
     ensures { λ r. ⌜ Wrote (now (out .entry)) at (stopLine number) (now (out .exit)) r ⌝ }
 {
-    let a = put_numbered(out, at, b"stop ", number);
-    buffer_writer::put_bytes(out, a, b"\n")
+    let p = put_numbered(out, at, b"stop ", number);
+    buffer_writer::put_bytes(out, p, b"\n")
 }
 
 // A report that ends with `stop `.
