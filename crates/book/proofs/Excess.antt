@@ -15,7 +15,7 @@ use Rattle.lists.proofs.Listed.{listed-length, listed-at}
 use Rattle.pmtl.specs.Book.{Rows, rowAt}
 use Rattle.pmtl.specs.Book.Row.{never}
 use Rattle.pmtl.specs.Strict.{needed, neededBy, Strict as IsStrict, firstOver, anyOver}
-use Rattle.pmtl.proofs.Strict.{first-over, none-strict}
+use Rattle.pmtl.proofs.Strict.{first-over, none-strict, some-not-strict}
 use Rattle.book.specs.declared.strict.Loading.{Loading}
 use Rattle.book.specs.declared.strict.Loading.the-variants.{Ordinary, Strict}
 use Rattle.book.specs.declared.strict.Excess.{Excess}
@@ -170,6 +170,15 @@ strict-unless l Within h = go (anyOver (l .book .rows)) refl h
 
 pub admitted-strict : (l : Loaded) → IsStrict (admitted Strict l .book .rows)
 admitted-strict l = none-strict _ (strict-unless l (excessIn (l .book .rows)) refl)
+
+-- and a book that has none is admitted as it is
+pub strict-admitted : (l : Loaded) → IsStrict (l .book .rows) → admitted Strict l ≡ l
+unfolding excessIn
+strict-admitted l s = go (anyOver (l .book .rows)) refl
+  where
+    go : (z : Bool) → anyOver (l .book .rows) ≡ z → unless (cond z (Over (firstOver (l .book .rows)) (neededBy (rowAt (l .book .rows) (firstOver (l .book .rows))))) Within) l ≡ l
+    go true z = absurd (some-not-strict (l .book .rows) z s)
+    go false z = refl
 
 within-unless : (e : Excess) (l : Loaded) → unless e l .number ≡ 0 → e ≡ Within
 within-unless Within l h = refl
