@@ -1,10 +1,10 @@
 /*
  * Binefdar: a runtime monitor for past-time metric temporal logic, proved correct.
  *
- * One function. It takes the bytes of an input (a book of rules, then calls, as decimal words parted by
- * spaces or line feeds) and a buffer, and writes the report of that input into the buffer. A scan is a call
- * `2 time width` and that many words 0 or 1: its time and then its state, or neither. The two alone, `0 time` and
- * `1 width` with its words, are for old logs and for a state that changes without a scan.
+ * One function, for two ways of loading a book. It takes the bytes of an input (a book of rules, then calls, as
+ * decimal words parted by spaces or line feeds) and a buffer, and writes the report of that input into the buffer. A
+ * scan is a call `2 time width` and that many words 0 or 1: its time and then its state, or neither. The two alone,
+ * `0 time` and `1 width` with its words, are for old logs and for a state that changes without a scan.
  *
  *     book 0              the book was loaded; another number says why it was not, and nothing follows
  *     1 0 022 111 1       call 1 was accepted; a word for each property: value, early, settled; and the count
@@ -19,7 +19,11 @@
  * stretches of time it remembers that are not over. 0 is none and 64 is full; a call that needs one more is then
  * refused with 11. From 48 on, think about the rule.
  *
- * What it promises, for every input and every buffer (it is proved, and nothing is asked of the caller
+ * binefdar_report_strict is the same, but that it refuses a book of which a rule could ever need more than 64 of these
+ * stretches. Then its one line is `book 15 ROW COUNT`: the first such row, counted from 0, and how many it could need.
+ * Of a book that it takes no call is ever refused with 11: for a host that nobody watches.
+ *
+ * What they promise, for every input and every buffer (it is proved, and nothing is asked of the caller
  * beyond the pointers):
  *
  *   - It returns. It keeps nothing between calls, allocates nothing, and touches nothing but the buffer.
@@ -62,6 +66,9 @@ extern "C" {
 #define BINEFDAR_STACK 131072
 
 uint64_t binefdar_report(const uint8_t *input, size_t input_length, uint8_t *report, size_t report_length);
+
+/* The same, its book loaded strictly. */
+uint64_t binefdar_report_strict(const uint8_t *input, size_t input_length, uint8_t *report, size_t report_length);
 
 #ifdef __cplusplus
 }

@@ -1,4 +1,5 @@
-/* The counter: prints the report of a file, or of standard input. Its status is 0 if the report was printed, 1 if reading,
+/* The counter: prints the report of a file, or of standard input; compiled with -DSTRICT that of a book that is loaded
+ * strictly. Its status is 0 if the report was printed, 1 if reading,
  * memory or printing failed, which is said, and 2 if it was called wrongly.
  *
  * To build it from the repository's root, on x86-64:
@@ -21,12 +22,18 @@ static int fail(const char *what) {
     return 1;
 }
 
+#ifdef STRICT
+#define REPORT binefdar_report_strict
+#else
+#define REPORT binefdar_report
+#endif
+
 /* The report, in the largest buffer that there is memory for: the first that is tried holds every report. */
 static uint8_t *report_of(const uint8_t *input, size_t input_length, uint64_t *length) {
     for (size_t room = BINEFDAR_LONGEST_REPORT; room >= LEAST_ROOM; room /= 2) {
         uint8_t *report = malloc(room);
         if (report != NULL) {
-            *length = binefdar_report(input, input_length, report, room);
+            *length = REPORT(input, input_length, report, room);
             if (*length != BINEFDAR_TOO_SHORT) {
                 return report;
             }

@@ -1,5 +1,6 @@
 //! The book: its sections as words, and what they mean once they are judged.
 
+use crate::monitor::MOST_RUNS;
 use crate::text::Reader;
 
 /// Unbounded, as an upper.
@@ -23,6 +24,9 @@ pub const BAD_BOUNDS: u64 = 4;
 pub const BAD_OPERAND: u64 = 5;
 /// A row used never or twice.
 pub const NOT_USED_ONCE: u64 = 6;
+
+/// A range of which a set can need more runs than there is room for, where a book is loaded strictly.
+pub const COULD_RUN_OUT: u64 = 15;
 
 /// The four sections of a book as they are read.
 #[derive(Debug, Clone, PartialEq, Eq, Default)]
@@ -80,6 +84,17 @@ impl Book {
     pub fn properties(&self) -> impl Iterator<Item = usize> + '_ {
         self.assumes.iter().chain(&self.guarantees).copied()
     }
+}
+
+/// The first row whose set can need more runs than there is room for, and how many it can need.
+pub fn over(book: &Book) -> Option<(usize, u64)> {
+    book.rows.iter().enumerate().find_map(|(row, kind)| {
+        let (Row::Historically(_, range) | Row::Once(_, range) | Row::Since(_, _, range)) = kind else {
+            return None;
+        };
+        let count = range.upper / (range.upper - range.lower).checked_add(2)? + 1;
+        (range.upper != MAX && count > MOST_RUNS as u64).then_some((row, count))
+    })
 }
 
 /// Reads the four sections; a count is judged before what follows it.

@@ -1,6 +1,6 @@
 //! The examples of docs/REFERENCE.md, run through the report.
 
-use crate::report::{report, Nobody, LONGEST_INPUT};
+use crate::report::{report, strictly, Nobody, LONGEST_INPUT};
 
 const MAX: &str = "18446744073709551615";
 
@@ -198,4 +198,18 @@ fn input_too_long() {
     let padded = |length: usize| format!("0 0 0 0 0{}", " ".repeat(length - 9));
     assert_eq!(reported(&padded(LONGEST_INPUT)), "book 0\nend\n");
     assert_eq!(reported(&padded(LONGEST_INPUT + 1)), "stop 2\n");
+}
+
+#[test]
+fn strict_loading() {
+    let report = |rows: &str| {
+        let input = format!("2 2 0 0 0 {rows} 1 0 0 1 1 0");
+        let ordinary = reported(&input);
+        String::from_utf8(strictly(input.as_bytes(), ordinary.as_bytes())).expect("a report is ASCII")
+    };
+    assert_eq!(report("8 1 127 127"), "book 0\nend\n");
+    assert_eq!(report("8 1 128 128"), "book 15 1 65\n");
+    assert_eq!(report("7 1 0 9223372036854775807"), "book 0\nend\n");
+    assert_eq!(report("7 1 9223372036854775807 9223372036854775807"), "book 15 1 4611686018427387904\n");
+    assert_eq!(report(&format!("8 1 9223372036854775807 {MAX}")), "book 0\nend\n");
 }

@@ -1,6 +1,7 @@
-//! Reads an input from standard input and prints the report that docs/REFERENCE.md asks for.
+//! Reads an input from standard input and prints the report that docs/REFERENCE.md asks for; with the word `strict` that of strict loading.
 
-use judge::report::{report, Nobody, LONGEST_INPUT};
+use judge::report::{report, strictly, Nobody, LONGEST_INPUT};
+use std::env;
 use std::io::{self, Read, Write};
 use std::process::ExitCode;
 
@@ -10,7 +11,8 @@ fn main() -> io::Result<ExitCode> {
     io::stdin().take(LONGEST_INPUT as u64 + 1).read_to_end(&mut input)?;
     match report(&input, &mut Nobody) {
         Ok(bytes) => {
-            io::stdout().write_all(&bytes)?;
+            let strict = env::args().nth(1).is_some_and(|word| word == "strict");
+            io::stdout().write_all(&if strict { strictly(&input, &bytes) } else { bytes })?;
             Ok(ExitCode::SUCCESS)
         }
         Err(difference) => {

@@ -1,6 +1,6 @@
 //! The report, byte for byte.
 
-use crate::book::{self, Book, PASSES_LIMIT};
+use crate::book::{self, Book, COULD_RUN_OUT, PASSES_LIMIT};
 use crate::monitor::{Monitor, ACCEPTED, MOST_WIDTH};
 use crate::original::Original;
 use crate::rules::Answer;
@@ -51,6 +51,15 @@ pub fn report(input: &[u8], watch: &mut impl Watch) -> Result<Vec<u8>, String> {
         }
     }
     Ok(out)
+}
+
+/// The report of an input whose book is loaded strictly, from the ordinary one: one line if a row can need more runs than there is room for.
+pub fn strictly(input: &[u8], ordinary: &[u8]) -> Vec<u8> {
+    let judged = book::read(&mut Reader::new(input)).and_then(|sections| book::judge(&sections));
+    match judged.ok().filter(|_| input.len() <= LONGEST_INPUT).as_ref().and_then(book::over) {
+        Some((row, count)) => format!("book {COULD_RUN_OUT} {row} {count}\n").into_bytes(),
+        None => ordinary.to_vec(),
+    }
 }
 
 /// All calls were read, and nothing is left over.

@@ -8,4 +8,5 @@ pub mod All
 pub mod Links
 pub mod Uses
 pub mod Judges
+pub mod Excess
 pub mod Ordered

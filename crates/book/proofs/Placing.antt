@@ -7,7 +7,7 @@ use native.Mathlib.Omega.{arith}
 use lib.ListN.{length, drop, length-drop}
 use lib.Seq.{length-take-le}
 use lib.Dec.{eqb}
-use borrow.Author.Tests.{eqb-true}
+use borrow.Author.Tests.{eqb-true, ne-eqb}
 use Rattle.pmtl.specs.Book.{Book}
 use Rattle.lists.specs.Lists.{part}
 use Rattle.book.specs.Reading.{Read, got, refused, Sections, sections}
@@ -34,6 +34,10 @@ number-judged s = picked-number (eqb (judged s) 0) (judged s) (bookIn s) refl
 pub book-judged : (s : Sections) → judged s ≡ 0 → loadedFrom s ≡ record { number = 0; book = bookIn s }
 unfolding loadedFrom
 book-judged s ok = rw (ok, loadedFrom)
+
+pub refused-judged : (s : Sections) → (judged s ≡ 0 → ⊥) → loadedFrom s ≡ refusedWith (judged s)
+unfolding loadedFrom
+refused-judged s no-0 = rw (ne-eqb (judged s) 0 no-0, loadedFrom)
 
 whole-refused : (read : Read Sections) → (whole read .number ≡ 0 → ⊥) → whole read ≡ refusedWith (whole read .number)
 unfolding whole loadedFrom

@@ -1,5 +1,6 @@
 pub mod Reading
 pub mod Judging
+pub mod Strict
 pub mod Placing
 pub mod Private
 pub mod Rows

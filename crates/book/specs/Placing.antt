@@ -7,6 +7,8 @@ use Rattle.lists.specs.Lists.{part}
 use Rattle.book.specs.Reading.{got, Sections, sections}
 use Rattle.numbers.specs.Limits.{ROW-WORDS, MOST-ASSUMES, MOST-GUARANTEES, MOST-OPERANDS, MOST-ROWS}
 use Rattle.book.specs.Judging.{loaded}
+use Rattle.book.specs.declared.strict.Loading.{Loading}
+use Rattle.book.specs.Strict.{loadedBy}
 use Rattle.numbers.specs.Refusals.{ACCEPTED, WRONG-LENGTH}
 
 -- the sections, from how many rows, operands, assumes and guarantees there are: each stands after its count
@@ -34,5 +36,11 @@ pub record Counted (words : List ℕ) (n o a g : ℕ) : Type 0 where
 -- the number that the words are refused with, and the counts: all 0 where they are refused
 pub record Placed (words : List ℕ) (number n o a g : ℕ) : Type 0 where
   pub number-is : number ≡ loaded words .number
+  pub counted : number ≡ ACCEPTED → Counted words n o a g
+  pub none : (number ≡ ACCEPTED → ⊥) → (n ≡ 0) × (o ≡ 0) × (a ≡ 0) × (g ≡ 0)
+
+-- the same in either way of loading
+pub record PlacedBy (way : Loading) (words : List ℕ) (number n o a g : ℕ) : Type 0 where
+  pub number-is : number ≡ loadedBy way words .number
   pub counted : number ≡ ACCEPTED → Counted words n o a g
   pub none : (number ≡ ACCEPTED → ⊥) → (n ≡ 0) × (o ≡ 0) × (a ≡ 0) × (g ≡ 0)

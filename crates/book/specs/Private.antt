@@ -6,11 +6,20 @@ use mathlib.Core.List.{List, [], _∷_}
 use lib.ListN.{length, getD, drop}
 use lib.Dec.{ltb, eqb}
 use Rattle.lists.specs.Lists.{part}
+use Rattle.pmtl.specs.Book.{Range}
+use Rattle.pmtl.specs.Strict.{needed}
+use Rattle.book.specs.declared.strict.Excess.{Excess}
+use Rattle.book.specs.declared.strict.Excess.the-variants.{Within, Over}
+use Rattle.book.specs.Rows.{temporal}
 use Rattle.book.specs.Reading.{got, refused, Sections, section}
-use Rattle.numbers.specs.Limits.{ROW-WORDS, MOST-ASSUMES, MOST-ATOMS, MOST-GUARANTEES, MOST-OPERANDS, MOST-ROWS}
-use Rattle.book.specs.Judging.{rowsIn, startIn, allTo, operandsGood, linksGood, timesIn, refusedWith, loaded}
+use Rattle.numbers.specs.Limits.{ROW-WORDS, MOST-ASSUMES, MOST-ATOMS, MOST-GUARANTEES, MOST-OPERANDS, MOST-ROWS, MOST-RUNS}
+use Rattle.book.specs.Judging.{kindIn, lowerIn, upperIn, rowsIn, startIn, allTo, operandsGood, linksGood, timesIn, refusedWith, loaded}
 use Rattle.book.specs.Placing.{sectionsOf, Counted}
 use Rattle.numbers.specs.Refusals.{ACCEPTED, WRONG-LENGTH}
+
+-- a range of these bounds
+abbrev pub rangeIn : ℕ → ℕ → Range
+rangeIn lower upper = record { lower = lower; upper = upper }
 
 -- what reading alone says: the counts, or the numberUnless that ends it
 pub record Counting (words : List ℕ) (number n o a g : ℕ) : Type 0 where
@@ -68,3 +77,23 @@ pub record Few (s : Sections) : Type 0 where
 pub record Linked (s : Sections) : Type 0 where
   pub few : Few s
   pub links : linksGood s ≡ true
+
+-- ---- strict loading
+-- how many runs the set of row r can need at once, by the row's words
+unfoldable pub neededIn : List ℕ → ℕ → ℕ
+neededIn ws r = cond (temporal (kindIn ws r)) (needed (rangeIn (lowerIn ws r) (upperIn ws r))) 0
+
+-- no row before r can need more runs than a set may have
+abbrev pub NoneOver : List ℕ → ℕ → Type 0
+NoneOver ws r = (i : ℕ) → i < r → neededIn ws i ≤ MOST-RUNS
+
+-- r is the first that can, or there is none and r is the row count
+pub record FirstIn (ws : List ℕ) (r : ℕ) : Type 0 where
+  pub inside : r ≤ length ws / ROW-WORDS
+  pub none-before : NoneOver ws r
+  pub over : r < length ws / ROW-WORDS → MOST-RUNS < neededIn ws r
+
+-- what that says of rows: none can, or the first that can and how many it can need
+abbrev pub Surplus : List ℕ → Excess → Type 0
+Surplus ws Within = NoneOver ws (length ws / ROW-WORDS)
+Surplus ws (Over r n) = FirstIn ws r × (r < length ws / ROW-WORDS) × (n ≡ neededIn ws r)

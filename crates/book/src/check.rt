@@ -127,7 +127,7 @@ fn read_section(words: &[u64], at: usize, limit: usize, size: usize) -> Section
 }
 
 // A refused book has no sections.
-fn refused(number: u64) -> Places
+pub fn refused(number: u64) -> Places
     ensures { λ r. ⌜ (r .number ≡ number) × (r .rows ≡ 0) × (r .operands ≡ 0) × (r .assumes ≡ 0) × (r .guarantees ≡ 0) ⌝ }
 {
     Places {

@@ -4,12 +4,13 @@ use mathlib.Core.Path.{_≡_}
 use mathlib.Core.List.{List}
 use Rattle.pmtl.specs.Monitor.{initial}
 use Rattle.memory.specs.Memory.{bookOf, stateOf}
-use Rattle.book.specs.Judging.{loaded}
+use Rattle.book.specs.declared.strict.Loading.{Loading}
+use Rattle.book.specs.Strict.{loadedBy}
 use Rattle.memory.specs.Kept.{Kept}
 
--- words were loaded: r was handed back, and the memory m holds the book and a fresh monitor; a refused book gives an empty one
-pub record Loads (words m : List ℕ) (r : ℕ) : Type 0 where
-  pub number : r ≡ loaded words .number
-  pub book : bookOf m ≡ loaded words .book
-  pub state : stateOf m ≡ initial (loaded words .book .rows)
+-- words were loaded in a way: r was handed back, and the memory m holds the book and a fresh monitor; a refused book gives an empty one
+pub record Loads (way : Loading) (words m : List ℕ) (r : ℕ) : Type 0 where
+  pub number : r ≡ loadedBy way words .number
+  pub book : bookOf m ≡ loadedBy way words .book
+  pub state : stateOf m ≡ initial (loadedBy way words .book .rows)
   pub kept : Kept m

@@ -13,7 +13,9 @@ use Rattle.lists.specs.Lists.{put}
 use Rattle.memory.specs.Memory.{bookOf, stateOf}
 use Rattle.numbers.specs.Limits.{ROW-WORDS, MOST-OPERANDS, MOST-ROWS, MOST-TEMPORALS}
 use Rattle.book.specs.Reading.{Sections}
-use Rattle.book.specs.Judging.{kindIn, argIn, lowerIn, upperIn, rowsIn, temporalsIn, startIn, argGood, judged, bookIn, loaded}
+use Rattle.book.specs.Judging.{kindIn, argIn, lowerIn, upperIn, rowsIn, temporalsIn, startIn, argGood, judged, bookIn}
+use Rattle.book.specs.declared.strict.Loading.{Loading}
+use Rattle.book.specs.Strict.{loadedBy}
 use Rattle.book.specs.Private.{Few}
 use Rattle.memory.specs.Kept.{Sound}
 use Rattle.memory.specs.Tables.{Unused}
@@ -84,9 +86,9 @@ pub record Holds (s : Sections) (m : List ℕ) : Type 0 where
   pub unused : Unused m
 
 -- the same of words, accepted or refused, and the number that is handed back
-pub record Stored (words m : List ℕ) (r : ℕ) : Type 0 where
-  pub number : r ≡ loaded words .number
-  pub book : bookOf m ≡ loaded words .book
-  pub state : stateOf m ≡ initial (loaded words .book .rows)
+pub record Stored (way : Loading) (words m : List ℕ) (r : ℕ) : Type 0 where
+  pub number : r ≡ loadedBy way words .number
+  pub book : bookOf m ≡ loadedBy way words .book
+  pub state : stateOf m ≡ initial (loadedBy way words .book .rows)
   pub sound : Sound m
   pub unused : Unused m

@@ -21,6 +21,8 @@ use book::check::operands_part;
 use book::check::rows_part;
 use book::check::taken_by;
 use book::check::upper_in;
+use book::strict::Loading;
+use book::strict::place_by;
 use memory::ARG;
 use memory::ASSUMES;
 use memory::GUARANTEES;
@@ -169,11 +171,11 @@ fn store_parts(words: &[u64], places: Places, monitor: &mut [u64])
 }
 
 // Loading but for the tables, over a memory whose length is not part of its type.
-fn store_judged(words: &[u64], monitor: &mut [u64]) -> u64
+fn store_judged(way: Loading, words: &[u64], monitor: &mut [u64]) -> u64
     requires { ⌜ length (now monitor) ≡ SIZE ⌝ }
-    ensures { λ r. ⌜ Stored (now (words .entry)) (now (monitor .exit)) r ⌝ }
+    ensures { λ r. ⌜ Stored way (now (words .entry)) (now (monitor .exit)) r ⌝ }
 {
-    let places = book::check::place(words);
+    let places = place_by(way, words);
     let number = places.number;
     if number != ACCEPTED {
         lists::clear(monitor);
@@ -183,11 +185,26 @@ fn store_judged(words: &[u64], monitor: &mut [u64]) -> u64
     number
 }
 
-// Loads a book from words: a fresh monitor of it, or of an empty book where it is refused, whatever stood in the memory before.
-pub fn load(words: &[u64], monitor: &mut [u64; SIZE]) -> u64
-    ensures { λ r. ⌜ Loads (now (words .entry)) (now (monitor .exit)) r ⌝ }
+// Loads a book from words in a way of loading: a fresh monitor of it, or of an empty book where it is refused, whatever stood in
+// the memory before.
+pub fn load_by(way: Loading, words: &[u64], monitor: &mut [u64; SIZE]) -> u64
+    ensures { λ r. ⌜ Loads way (now (words .entry)) (now (monitor .exit)) r ⌝ }
 {
-    let number = store_judged(words, monitor);
+    let number = store_judged(way, words, monitor);
     tables::work_out(monitor);
     number
+}
+
+// Loads a book as any that is in order.
+pub fn load(words: &[u64], monitor: &mut [u64; SIZE]) -> u64
+    ensures { λ r. ⌜ Loads Loading.Ordinary (now (words .entry)) (now (monitor .exit)) r ⌝ }
+{
+    load_by(Loading::Ordinary, words, monitor)
+}
+
+// Loads a book so that no call ever lacks room: one in which a row can need more runs than a set may have is refused, too.
+pub fn load_strict(words: &[u64], monitor: &mut [u64; SIZE]) -> u64
+    ensures { λ r. ⌜ Loads Loading.Strict (now (words .entry)) (now (monitor .exit)) r ⌝ }
+{
+    load_by(Loading::Strict, words, monitor)
 }

@@ -57,6 +57,10 @@ LIST-TOO-SHORT = 12
 abbrev pub BAD-WORD : ℕ
 BAD-WORD = 13
 
+-- a range of which a set could need more runs than there is room for: refused where a book is loaded strictly
+abbrev pub COULD-RUN-OUT : ℕ
+COULD-RUN-OUT = 15
+
 -- a state longer than the largest atom plus 1
 abbrev pub TOO-WIDE : ℕ
 TOO-WIDE = 16

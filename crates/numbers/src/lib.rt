@@ -77,6 +77,9 @@ pub const LIST_TOO_SHORT: u64 = 12;
 // A bad word in text, or a call of no kind.
 pub const BAD_WORD: u64 = 13;
 
+// A range of which a set could need more runs than there is room for: refused where a book is loaded strictly.
+pub const COULD_RUN_OUT: u64 = 15;
+
 // A state longer than the largest atom plus 1.
 pub const TOO_WIDE: u64 = 16;
 

@@ -1,4 +1,4 @@
--- What load and the calls promise over any list of calls: the memory holds the definitions' monitor after those calls, so that the
+-- What loading, in either way, and the calls promise over any list of calls: the memory holds the definitions' monitor after those calls, so that the
 -- demands hold of the answers that the code hands back. Nothing is assumed.
 use Prim.Native.Nat.{ℕ}
 use mathlib.Core.Path.{_≡_, sym, ap, ap₂, _∙_}
@@ -14,6 +14,7 @@ use Rattle.pmtl.specs.Settled.{settled}
 use Rattle.pmtl.specs.Calls.{Call, call, after, accepted}
 use Rattle.pmtl.specs.Meaning.{meaning}
 use Rattle.pmtl.specs.Past.{held, SomeCall, SinceCall}
+use Rattle.pmtl.proofs.Strict.{never-eleven as strict-never}
 use Rattle.pmtl.proofs.Theorems.{demand-2 as means, demand-3 as stays, once-holds as once-means, historically-holds as historically-means, since-holds as since-means}
 use Rattle.memory.specs.Memory.{clockOf, bookOf, stateOf}
 use Rattle.memory.proofs.Rows.{kept-ordered}
@@ -22,100 +23,109 @@ use Rattle.memory.proofs.Same.{same-words}
 use Rattle.property_answers.specs.declared.Verdict.{Verdict}
 use Rattle.property_answers.specs.Verdict.{propertyAt, verdictIn, verdictOf}
 use Rattle.calls.specs.Called.{Called}
+use Rattle.book.specs.declared.strict.Loading.{Loading}
+use Rattle.book.specs.declared.strict.Loading.the-variants.{Strict}
+use Rattle.book.specs.Judging.{loaded}
+use Rattle.book.proofs.Excess.{admitted-strict}
 use Rattle.oracle.specs.Made.{Made, bookSaid}
 use Rattle.oracle.specs.Made.Made.{loads, calls}
 
 -- load and the calls leave memories that the next call may be made on
-pub made-kept : {words : List ℕ} {ks : List Call} {m : List ℕ} → Made words ks m → Kept m
+pub made-kept : {way : Loading} {words : List ℕ} {ks : List Call} {m : List ℕ} → Made way words ks m → Kept m
 made-kept (loads l) = l .kept
 made-kept (calls k made c) = c .kept
 
 -- the memory holds the book that was loaded
-pub made-book : {words : List ℕ} {ks : List Call} {m : List ℕ} → Made words ks m → bookOf m ≡ bookSaid words
+pub made-book : {way : Loading} {words : List ℕ} {ks : List Call} {m : List ℕ} → Made way words ks m → bookOf m ≡ bookSaid way words
 made-book (loads l) = l .book
 made-book (calls k made c) = c .book ∙ made-book made
 
 -- and the definitions' state after those calls
-pub made-state : {words : List ℕ} {ks : List Call} {m : List ℕ} → Made words ks m → stateOf m ≡ after (bookSaid words .rows) ks
+pub made-state : {way : Loading} {words : List ℕ} {ks : List Call} {m : List ℕ} → Made way words ks m → stateOf m ≡ after (bookSaid way words .rows) ks
 unfolding after
 made-state (loads l) = l .state
 made-state (calls k made c) =
     c .state ∙ ap₂ (λ (b : Book) (st : State). call (b .rows) st k .state) (made-book made) (made-state made)
 
 -- a call handed back the definitions' number
-pub made-number : {words : List ℕ} {ks : List Call} {m m′ : List ℕ} {k : Call} {r : ℕ} → Made words ks m → Called k m m′ r
-    → r ≡ call (bookSaid words .rows) (after (bookSaid words .rows) ks) k .number
+pub made-number : {way : Loading} {words : List ℕ} {ks : List Call} {m m′ : List ℕ} {k : Call} {r : ℕ} → Made way words ks m → Called k m m′ r
+    → r ≡ call (bookSaid way words .rows) (after (bookSaid way words .rows) ks) k .number
 made-number {k = k} made c = c .number ∙ ap₂ (λ (b : Book) (st : State). call (b .rows) st k .number) (made-book made) (made-state made)
 
 -- the count that it handed back is that of the definitions' state after it
-pub made-count : {words : List ℕ} {ks : List Call} {m m′ : List ℕ} {k : Call} {r count : ℕ} → Made words ks m → Called k m m′ r → count ≡ fullest (stateOf m′)
-    → count ≡ fullest (after (bookSaid words .rows) (k ∷ ks))
+pub made-count : {way : Loading} {words : List ℕ} {ks : List Call} {m m′ : List ℕ} {k : Call} {r count : ℕ} → Made way words ks m → Called k m m′ r → count ≡ fullest (stateOf m′)
+    → count ≡ fullest (after (bookSaid way words .rows) (k ∷ ks))
 made-count {k = k} made c e = e ∙ ap fullest (made-state (calls k made c))
 
 -- operands are below their owners
-made-ordered : {words : List ℕ} {ks : List Call} {m : List ℕ} → Made words ks m → Ordered (bookSaid words .rows)
+made-ordered : {way : Loading} {words : List ℕ} {ks : List Call} {m : List ℕ} → Made way words ks m → Ordered (bookSaid way words .rows)
 unfolding bookOf
 made-ordered {m = m} made = rw (sym (ap (λ (b : Book). b .rows) (made-book made))) (kept-ordered (made-kept made .sound .book))
 
 -- the answers of property i are the definitions'
-pub made-verdict : {words : List ℕ} {ks : List Call} {m : List ℕ} → Made words ks m → (i : ℕ) → verdictOf m i ≡ verdictIn (bookSaid words) (after (bookSaid words .rows) ks) i
+pub made-verdict : {way : Loading} {words : List ℕ} {ks : List Call} {m : List ℕ} → Made way words ks m → (i : ℕ) → verdictOf m i ≡ verdictIn (bookSaid way words) (after (bookSaid way words .rows) ks) i
 made-verdict made i = ap₂ (λ (b : Book) (st : State). verdictIn b st i) (made-book made) (made-state made)
 
 -- so is the clock
-pub made-clock : {words : List ℕ} {ks : List Call} {m : List ℕ} → Made words ks m → clockOf m ≡ after (bookSaid words .rows) ks .now .clock
+pub made-clock : {way : Loading} {words : List ℕ} {ks : List Call} {m : List ℕ} → Made way words ks m → clockOf m ≡ after (bookSaid way words .rows) ks .now .clock
 unfolding stateOf
 made-clock made = ap (λ (st : State). st .now .clock) (made-state made)
 
 -- and so are the three answers of a property, each by itself
-module _ {words : List ℕ} {ks : List Call} {m : List ℕ} (made : Made words ks m) (i : ℕ) where
-  pub value-is : verdictOf m i .value ≡ value (bookSaid words .rows) (after (bookSaid words .rows) ks) (propertyAt (bookSaid words) i)
+module _ {way : Loading} {words : List ℕ} {ks : List Call} {m : List ℕ} (made : Made way words ks m) (i : ℕ) where
+  pub value-is : verdictOf m i .value ≡ value (bookSaid way words .rows) (after (bookSaid way words .rows) ks) (propertyAt (bookSaid way words) i)
   unfolding verdictIn
   value-is = ap (λ (v : Verdict). v .value) (made-verdict made i)
 
-  pub early-is : verdictOf m i .early ≡ early (bookSaid words .rows) (after (bookSaid words .rows) ks) (propertyAt (bookSaid words) i)
+  pub early-is : verdictOf m i .early ≡ early (bookSaid way words .rows) (after (bookSaid way words .rows) ks) (propertyAt (bookSaid way words) i)
   unfolding verdictIn
   early-is = ap (λ (v : Verdict). v .early) (made-verdict made i)
 
-  pub settled-is : verdictOf m i .settled ≡ settled (bookSaid words .rows) (after (bookSaid words .rows) ks) (propertyAt (bookSaid words) i)
+  pub settled-is : verdictOf m i .settled ≡ settled (bookSaid way words .rows) (after (bookSaid way words .rows) ks) (propertyAt (bookSaid way words) i)
   unfolding verdictIn
   settled-is = ap (λ (v : Verdict). v .settled) (made-verdict made i)
 
 -- DEMAND 2: the value handed back of a property is what its row means on the history of the accepted calls
-pub demand-2 : {words : List ℕ} {ks : List Call} {m : List ℕ} → Made words ks m → (i : ℕ)
-    → verdictOf m i .value ≡ meaning (bookSaid words .rows) (propertyAt (bookSaid words) i) (accepted (bookSaid words .rows) ks)
-demand-2 {words} {ks} made i =
-    value-is made i ∙ means (bookSaid words .rows) (made-ordered made) ks (propertyAt (bookSaid words) i)
+pub demand-2 : {way : Loading} {words : List ℕ} {ks : List Call} {m : List ℕ} → Made way words ks m → (i : ℕ)
+    → verdictOf m i .value ≡ meaning (bookSaid way words .rows) (propertyAt (bookSaid way words) i) (accepted (bookSaid way words .rows) ks)
+demand-2 {way} {words} {ks} made i =
+    value-is made i ∙ means (bookSaid way words .rows) (made-ordered made) ks (propertyAt (bookSaid way words) i)
 
 -- DEMAND 3: if settled is handed back true or false, then now and after every further list of calls the value handed back is that, and settled is that
-pub demand-3 : {words : List ℕ} {ks : List Call} {m : List ℕ} → Made words ks m → (i : ℕ) (x : Bool) → verdictOf m i .settled ≡ known x
-    → (more : List Call) {m′ : List ℕ} → Made words (more ++ ks) m′ → (verdictOf m′ i .value ≡ x) × (verdictOf m′ i .settled ≡ known x)
-demand-3 {words} {ks} made i x e more later =
-    let b : Book = bookSaid words in
+pub demand-3 : {way : Loading} {words : List ℕ} {ks : List Call} {m : List ℕ} → Made way words ks m → (i : ℕ) (x : Bool) → verdictOf m i .settled ≡ known x
+    → (more : List Call) {m′ : List ℕ} → Made way words (more ++ ks) m′ → (verdictOf m′ i .value ≡ x) × (verdictOf m′ i .settled ≡ known x)
+demand-3 {way} {words} {ks} made i x e more later =
+    let b : Book = bookSaid way words in
     let s = stays (b .rows) (made-ordered made) ks (propertyAt b i) more x (sym (settled-is made i) ∙ e) in
     (value-is later i ∙ s .0, settled-is later i ∙ s .1)
 
+-- IT NEVER RUNS OUT: from strict loading on, whatever the words, no call is ever answered 11, refused ones among those before it
+pub never-eleven : {words : List ℕ} {ks : List Call} {m m′ : List ℕ} {k : Call} {r : ℕ} → Made Strict words ks m → Called k m m′ r → ¬ (r ≡ 11)
+never-eleven {words} {ks} {k = k} made c e =
+    strict-never (bookSaid Strict words .rows) (made-ordered made) (admitted-strict (loaded words)) ks k (sym (made-number made c) ∙ e)
+
 -- ---- demand 2 in words: of a property whose row is temporal, and the clock that the memory has
-module _ {words : List ℕ} {ks : List Call} {m : List ℕ} (made : Made words ks m) (i : ℕ) where
+module _ {way : Loading} {words : List ℕ} {ks : List Call} {m : List ℕ} (made : Made way words ks m) (i : ℕ) where
   -- Once is handed back true exactly if its argument held after some accepted call whose range, counted from that call, contains now
-  pub once-holds : (g : Range) (o : ℕ) → rowAt (bookSaid words .rows) (propertyAt (bookSaid words) i) ≡ once g o
+  pub once-holds : (g : Range) (o : ℕ) → rowAt (bookSaid way words .rows) (propertyAt (bookSaid way words) i) ≡ once g o
       → (verdictOf m i .value ≡ true)
-      ↔ SomeCall (bookSaid words .rows) g (held (bookSaid words .rows) o) (accepted (bookSaid words .rows) ks) (clockOf m)
+      ↔ SomeCall (bookSaid way words .rows) g (held (bookSaid way words .rows) o) (accepted (bookSaid way words .rows) ks) (clockOf m)
   once-holds g o e =
-      rw (value-is made i, made-clock made) (once-means (bookSaid words .rows) (made-ordered made) ks (propertyAt (bookSaid words) i) g o e)
+      rw (value-is made i, made-clock made) (once-means (bookSaid way words .rows) (made-ordered made) ks (propertyAt (bookSaid way words) i) g o e)
 
   -- Historically exactly if its argument failed after no such call
-  pub historically-holds : (g : Range) (o : ℕ) → rowAt (bookSaid words .rows) (propertyAt (bookSaid words) i) ≡ historically g o
+  pub historically-holds : (g : Range) (o : ℕ) → rowAt (bookSaid way words .rows) (propertyAt (bookSaid way words) i) ≡ historically g o
       → (verdictOf m i .value ≡ true)
-      ↔ ¬ (SomeCall (bookSaid words .rows) g (λ past. not (held (bookSaid words .rows) o past)) (accepted (bookSaid words .rows) ks) (clockOf m))
+      ↔ ¬ (SomeCall (bookSaid way words .rows) g (λ past. not (held (bookSaid way words .rows) o past)) (accepted (bookSaid way words .rows) ks) (clockOf m))
   historically-holds g o e =
-      rw (value-is made i, made-clock made) (historically-means (bookSaid words .rows) (made-ordered made) ks (propertyAt (bookSaid words) i) g o e)
+      rw (value-is made i, made-clock made) (historically-means (bookSaid way words .rows) (made-ordered made) ks (propertyAt (bookSaid way words) i) g o e)
 
   -- Since exactly if right held after some such call and left after every later one
-  pub since-holds : (g : Range) (left right : ℕ) → rowAt (bookSaid words .rows) (propertyAt (bookSaid words) i) ≡ since g left right
+  pub since-holds : (g : Range) (left right : ℕ) → rowAt (bookSaid way words .rows) (propertyAt (bookSaid way words) i) ≡ since g left right
       → (verdictOf m i .value ≡ true)
-      ↔ SinceCall (bookSaid words .rows) g (held (bookSaid words .rows) left) (held (bookSaid words .rows) right) (accepted (bookSaid words .rows) ks) (clockOf m)
+      ↔ SinceCall (bookSaid way words .rows) g (held (bookSaid way words .rows) left) (held (bookSaid way words .rows) right) (accepted (bookSaid way words .rows) ks) (clockOf m)
   since-holds g left right e =
-      rw (value-is made i, made-clock made) (since-means (bookSaid words .rows) (made-ordered made) ks (propertyAt (bookSaid words) i) g left right e)
+      rw (value-is made i, made-clock made) (since-means (bookSaid way words .rows) (made-ordered made) ks (propertyAt (bookSaid way words) i) g left right e)
 
 -- ---- what is allowed for one input coincides
 -- a call on a memory has one answer and leaves one memory
@@ -124,6 +134,6 @@ called-unique {k} {m} {m′} {m″} c d =
     (c .number ∙ sym (d .number), same-words m′ m″ (c .kept) (d .kept) (c .book ∙ sym (d .book)) (c .state ∙ sym (d .state)))
 
 -- so have words loaded and any list of calls
-pub made-unique : {words : List ℕ} {ks : List Call} {m m′ : List ℕ} → Made words ks m → Made words ks m′ → m ≡ m′
-made-unique {words} {ks} {m} {m′} a b =
+pub made-unique : {way : Loading} {words : List ℕ} {ks : List Call} {m m′ : List ℕ} → Made way words ks m → Made way words ks m′ → m ≡ m′
+made-unique {way} {words} {ks} {m} {m′} a b =
     same-words m m′ (made-kept a) (made-kept b) (made-book a ∙ sym (made-book b)) (made-state a ∙ sym (made-state b))

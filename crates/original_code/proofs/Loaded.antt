@@ -19,8 +19,13 @@ use Rattle.book.specs.Rows.{rowFrom}
 use Rattle.lists.proofs.Listed.{listed-length, listed-at}
 use Rattle.book.specs.Reading.{Read, got, refused, Sections, sections}
 use Rattle.book.specs.Judging.{rowsIn, rangeGood, judged, rowIn, bookIn, refusedWith, loadedFrom, whole, loaded}
+use Rattle.book.specs.declared.strict.Loading.{Loading}
+use Rattle.book.specs.declared.strict.Excess.{Excess}
+use Rattle.book.specs.declared.strict.Excess.the-variants.{Within, Over}
+use Rattle.book.specs.Strict.{excessBy, unless}
 use Rattle.book.proofs.Accepted.{range, range-ordered, lower-small, upper-small, assume-below, guarantee-below}
 use Rattle.book.proofs.Ordered.{book-ordered}
+use Rattle.oracle.specs.Made.{bookSaid}
 use Rattle.original.specs.Proper.{Fit, RowFit, Proper}
 use Rattle.original_code.proofs.Uses.{book-used}
 
@@ -71,7 +76,7 @@ book-proper s ok = record {
     go r (yes h) = rw (listed-at (rowIn s) never (rowsIn s) r h) (row-fit _ _ _ _ _ (range s ok r h))
     go r (no h) = rw (row-out (bookIn s .rows) r (omega (arith, listed-length (rowIn s) (rowsIn s)))) tt
 
-pub loaded-proper : (words : List ℕ) → Proper (loaded words .book)
+loaded-proper : (words : List ℕ) → Proper (loaded words .book)
 unfolding loaded whole loadedFrom
 loaded-proper words = go (sections 1 words)
   where
@@ -83,3 +88,11 @@ loaded-proper words = go (sections 1 words)
     go (got s []) = picked s (eqb (judged s) 0) refl
     go (got s (w ∷ ws)) = empty-proper
     go (refused n) = empty-proper
+
+-- in either way of loading
+pub said-proper : (way : Loading) (words : List ℕ) → Proper (bookSaid way words)
+said-proper way words = go (excessBy way (loaded words .book .rows))
+  where
+    go : (e : Excess) → Proper (unless e (loaded words) .book)
+    go Within = loaded-proper words
+    go (Over r n) = empty-proper

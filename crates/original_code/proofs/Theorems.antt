@@ -1,4 +1,4 @@
--- What our code hands back, from load on and over any list of calls, is what the original answers. Assumes nothing.
+-- What our code hands back, from loading on, in either way, and over any list of calls, is what the original answers. Assumes nothing.
 use Prim.Native.Nat.{ℕ, zero, suc, _≤_}
 use native.Mathlib.Omega.{arith}
 use mathlib.Core.Path.{_≡_, refl, sym, ap, ap₂, _∙_}
@@ -16,11 +16,11 @@ use Rattle.pmtl.specs.Calls.{Call, time, state, call, after, accepted}
 use Rattle.memory.specs.Memory.{stateOf}
 use Rattle.lists.specs.Lists.{listed}
 use Rattle.lists.proofs.Listed.{listed-length, listed-at, listed-agree}
-use Rattle.book.specs.Judging.{loaded}
+use Rattle.book.specs.declared.strict.Loading.{Loading}
 use Rattle.property_answers.specs.declared.Verdict.{Verdict}
 use Rattle.property_answers.specs.Verdict.{propertyAt, verdictIn, verdictOf, propertiesIn, answersNumber, answersList}
 use Rattle.calls.specs.Called.{Called}
-use Rattle.oracle.specs.Made.{Made}
+use Rattle.oracle.specs.Made.{Made, bookSaid}
 use Rattle.oracle.proofs.Theorems.{made-book, made-state, made-number, made-verdict}
 use Rattle.original.specs.Rust.{_>>=_}
 use Rattle.original.specs.Rust.Ran.{panic, done}
@@ -31,7 +31,7 @@ use Rattle.original.specs.Agrees.{optionOf, Follows, Agrees}
 use Rattle.original.specs.Recorded.{answered}
 use Rattle.original.proofs.Theorems.{never-panics, sets-are-instants, answers-agree, panics-as-7, panics-as-9}
 use Rattle.original_code.specs.Answers.{earlyIn, valueIn, handed, Answers}
-use Rattle.original_code.proofs.Loaded.{loaded-proper}
+use Rattle.original_code.proofs.Loaded.{said-proper}
 
 -- ---- lists by their places
 map-listed : {A : Type 0} (f : ℕ → A) (d : ℕ) (xs : List ℕ) → map f xs ≡ listed (λ i. f (getD xs i d)) (length xs)
@@ -55,13 +55,13 @@ records-first m out = go (ltb (length out) (propertiesIn m)) refl
     go false e h = take-at (listed (verdictOf m) (propertiesIn m)) (drop (propertiesIn m) out) (propertiesIn m) (listed-length (verdictOf m) (propertiesIn m))
 
 -- ---- the statements, of any words loaded and any calls made on what that left
-module _ (words : List ℕ) (ks : List Call) (m : List ℕ) (came : Made words ks m) where
+module _ (way : Loading) (words : List ℕ) (ks : List Call) (m : List ℕ) (came : Made way words ks m) where
   book : Book
-  book = loaded words .book
+  book = bookSaid way words
 
   -- 1. the original has made the accepted ones of them without a panic
-  pub code-never-panics : (o : PmtlOracle) × (replayed (loaded words .book) ks ≡ done o)
-  code-never-panics = never-panics (loaded words .book) (loaded-proper words) ks
+  pub code-never-panics : (o : PmtlOracle) × (replayed (bookSaid way words) ks ≡ done o)
+  code-never-panics = never-panics (bookSaid way words) (said-proper way words) ks
 
   -- what is answered of the properties, place by place
   by-place : {A : Type 0} (f : ℕ → A) (g : Verdict → A) → ((i : ℕ) → f (propertyAt book i) ≡ g (verdictIn book (after (book .rows) ks) i))
@@ -72,10 +72,10 @@ module _ (words : List ℕ) (ks : List Call) (m : List ℕ) (came : Made words k
       ∙ listed-agree _ _ (length (properties book)) (λ i h. e i ∙ ap g (sym (made-verdict came i)))
       ∙ ap (λ (b : Book). listed (λ i. g (verdictOf m i)) (length (properties b))) (sym (made-book came))
 
-  module _ (o : PmtlOracle) (made-them : replayed (loaded words .book) ks ≡ done o) where
+  module _ (o : PmtlOracle) (made-them : replayed (bookSaid way words) ks ≡ done o) where
     agreed : Agrees book (after (book .rows) ks) o
     unfolding book
-    agreed = answers-agree book (loaded-proper words) ks o made-them
+    agreed = answers-agree book (said-proper way words) ks o made-them
 
     listed-answers : answered o ≡ done (listed (λ i. earlyIn (verdictOf m i)) (propertiesIn m), listed (λ i. valueIn (verdictOf m i)) (propertiesIn m))
     unfolding answered verdictIn
@@ -85,8 +85,8 @@ module _ (words : List ℕ) (ks : List Call) (m : List ℕ) (came : Made words k
         (by-place (value (book .rows) (after (book .rows) ks)) valueIn (λ i. refl)))
 
     -- 2. each of its sets has exactly the instants that REFERENCE 3.5 defines
-    pub code-sets : Follows (loaded words .book) (accepted (loaded words .book .rows) ks) o
-    code-sets = sets-are-instants (loaded words .book) (loaded-proper words) ks o made-them
+    pub code-sets : Follows (bookSaid way words) (accepted (bookSaid way words .rows) ks) o
+    code-sets = sets-are-instants (bookSaid way words) (said-proper way words) ks o made-them
 
     -- 3. WHAT IT ANSWERS IS WHAT OUR CODE HANDS BACK
     pub code-answers : Answers m o
@@ -100,20 +100,20 @@ module _ (words : List ℕ) (ks : List Call) (m : List ℕ) (came : Made words k
 
   -- a call hands back n exactly where the original panics, if the definitions say so
   panics-as : (k : Call) (n : ℕ) {m′ : List ℕ} {r : ℕ} → Called k m m′ r
-      → ((replayed (loaded words .book) ks >>= λ o. made o k) ≡ panic) ↔ (call (loaded words .book .rows) (after (loaded words .book .rows) ks) k .number ≡ n)
-      → ((replayed (loaded words .book) ks >>= λ o. made o k) ≡ panic) ↔ (r ≡ n)
+      → ((replayed (bookSaid way words) ks >>= λ o. made o k) ≡ panic) ↔ (call (bookSaid way words .rows) (after (bookSaid way words .rows) ks) k .number ≡ n)
+      → ((replayed (bookSaid way words) ks >>= λ o. made o k) ≡ panic) ↔ (r ≡ n)
   panics-as k n c e = (λ p. made-number came c ∙ e .0 p, λ p. e .1 (sym (made-number came c) ∙ p))
 
   -- a time call hands back 7 exactly where the original's assertion on time panics
-  pub code-7 : (t : ℕ) → t ≤ LAST-TIME → {m′ : List ℕ} {r : ℕ} → Called (time t) m m′ r → ((replayed (loaded words .book) ks >>= λ o. made o (time t)) ≡ panic) ↔ (r ≡ 7)
-  code-7 t k c = panics-as (time t) 7 c (panics-as-7 (loaded words .book) (loaded-proper words) ks t k)
+  pub code-7 : (t : ℕ) → t ≤ LAST-TIME → {m′ : List ℕ} {r : ℕ} → Called (time t) m m′ r → ((replayed (bookSaid way words) ks >>= λ o. made o (time t)) ≡ panic) ↔ (r ≡ 7)
+  code-7 t k c = panics-as (time t) 7 c (panics-as-7 (bookSaid way words) (said-proper way words) ks t k)
 
   -- a state call hands back 9 exactly where its `state[*atom]` does
   pub code-9 : (bytes : List ℕ) → length bytes ≤ MOST-ATOMS → {m′ : List ℕ} {r : ℕ} → Called (state bytes) m m′ r
-      → ((replayed (loaded words .book) ks >>= λ o. made o (state bytes)) ≡ panic) ↔ (r ≡ 9)
-  code-9 bytes k c = panics-as (state bytes) 9 c (panics-as-9 (loaded words .book) (loaded-proper words) ks bytes k)
+      → ((replayed (bookSaid way words) ks >>= λ o. made o (state bytes)) ≡ panic) ↔ (r ≡ 9)
+  code-9 bytes k c = panics-as (state bytes) 9 c (panics-as-9 (bookSaid way words) (said-proper way words) ks bytes k)
 
 -- 4. ALSO BEFORE THE FIRST CALL: what a monitor just loaded answers is what the original just made answers
-pub code-before-the-first-call : (words m : List ℕ) → Made words [] m → Answers m (oracleOf (loaded words .book))
+pub code-before-the-first-call : (way : Loading) (words m : List ℕ) → Made way words [] m → Answers m (oracleOf (bookSaid way words))
 unfolding replayed
-code-before-the-first-call words m came = code-answers words [] m came (oracleOf (loaded words .book)) refl
+code-before-the-first-call way words m came = code-answers way words [] m came (oracleOf (bookSaid way words)) refl

@@ -60,3 +60,13 @@ pub none-before-kept : (c : ℕ) (s : Runs) → NoneBefore c s → kept c s ≡ 
 unfolding kept AllRuns
 none-before-kept c [] h = refl
 none-before-kept c (run l u ∷ rs) h = kept-in c l u rs (h .0) ∙ ap (λ q. run l u ∷ q) (none-before-kept c rs (h .1))
+
+-- what follows of every run is so of those that are kept
+pub kept-all : (P Q : ℕ → ℕ → Type 0) → ((l u : ℕ) → P l u → Q l u) → (c : ℕ) (s : Runs) → AllRuns P s → AllRuns Q (kept c s)
+unfolding kept AllRuns
+kept-all P Q f c [] h = tt
+kept-all P Q f c (run l u ∷ rs) h =
+    ⊎-elim
+    (λ p. rw (kept-out c l u rs p) (kept-all P Q f c rs (h .1)))
+    (λ p. rw (kept-in c l u rs p) (f l u (h .0), kept-all P Q f c rs (h .1)))
+    (lt-or-ge u c)

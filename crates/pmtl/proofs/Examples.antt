@@ -1,4 +1,5 @@
--- P1 to P12 of REFERENCE, what lapses, states of another width, and stamped calls, computed by the definitions.
+-- P1 to P12 of REFERENCE, what lapses, how many runs a range can need, states of another width, and stamped calls, computed by the
+-- definitions.
 use Prim.Native.Nat.{ℕ, zero, suc, _*_}
 use mathlib.Core.Path.{_≡_, refl}
 use mathlib.Core.List.{List, [], _∷_, _++_, map}
@@ -9,10 +10,11 @@ use Rattle.pmtl.specs.Answer.{bitOf, digitOf}
 use Rattle.pmtl.specs.Book.{Range, stop, Row, Rows, widthOf, table, answer, every, some}
 use Rattle.pmtl.specs.Book.Row.{never, always, atom, conj, disj, historically, once, since}
 use Rattle.pmtl.specs.Sets.{gone, staysIf, addedIf, renewed, setRuleBy}
-use Rattle.pmtl.specs.Monitor.{State, setAt, initial, valueRule, value, stepBy}
+use Rattle.pmtl.specs.Monitor.{State, setAt, mostRuns, fullest, initial, valueRule, value, stepBy}
 use Rattle.pmtl.specs.Early.{earlyRule, early}
 use Rattle.pmtl.specs.Settled.{settledTrue, settledFalse, settled}
 use Rattle.pmtl.specs.Calls.{Call, time, state, stamped, firstOf, refusal, crowded, play, call, after}
+use Rattle.pmtl.specs.Strict.{needed}
 
 -- what an example gives: a set; a row's value after each of some calls; its value, early and settled answer after each
 pub data Result : Type 0 where
@@ -131,6 +133,12 @@ numberAt g t = let b : Rows = atom 0 ∷ once g 0 ∷ [] in call b (after b (eve
 pub room-again : numberAt (range 0 0) 128 ∷ numberAt (range 127 127) 128 ∷ numberAt (range 128 128) 128 ∷ numberAt (range 128 128) 129 ∷ [] ≡ 0 ∷ 0 ∷ 11 ∷ 0 ∷ []
 unfolding evens has covers insert union stop widthOf table answer every some kept gone staysIf addedIf renewed setRuleBy initial valueRule value stepBy earlyRule early settledTrue settledFalse settled refusal crowded play call after
 room-again = refl
+
+-- Once[127,127] a can need 64 runs, and has them after these calls; Once[128,128] a, whose 65th was refused above, can need 65; Once[0,*] a can need one
+pub needs-so : let b : Rows = atom 0 ∷ once (range 127 127) 0 ∷ [] in
+    needed (range 127 127) ∷ fullest (after b (evens s1 63)) ∷ needed (range 128 128) ∷ needed (range 0 MAX) ∷ [] ≡ 64 ∷ 64 ∷ 65 ∷ 1 ∷ []
+unfolding evens has covers insert union stop widthOf table answer every some kept gone staysIf addedIf renewed setRuleBy initial valueRule value stepBy refusal crowded play call after mostRuns needed
+needs-so = refl
 
 -- ---- states of another width
 -- the numbers that a fresh monitor hands back for states

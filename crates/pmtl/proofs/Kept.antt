@@ -26,7 +26,7 @@ use Rattle.pmtl.proofs.Alike.{Alike, value-alike, early-alike, settled-
 use Rattle.pmtl.proofs.Eleven.{crowded-is, Told, eleven-iff}
 
 -- ---- along a history
-run-none-before : (b : Rows) (h : History) → Legal b h → (r : ℕ) → NoneBefore (nowOf b h .clock) (setAt (run b h) r)
+pub run-none-before : (b : Rows) (h : History) → Legal b h → (r : ℕ) → NoneBefore (nowOf b h .clock) (setAt (run b h) r)
 unfolding runBy AllRuns
 run-none-before b [] l r = rw (initial-set b r) tt
 run-none-before b (s ∷ h) l r =
@@ -34,7 +34,7 @@ run-none-before b (s ∷ h) l r =
     let old = setAt (run b h) r in
     rw (m .1) (rule-any (NoneBefore (s .clock)) tt renewed (s .clock) old (λ k x g. renewed-none-before k x g (s .clock) old (l .1)) (m .0))
 
-legal-first : (b : Rows) (ns : List Snap) (h : History) → Legal b (onto ns h) → Legal b h
+pub legal-first : (b : Rows) (ns : List Snap) (h : History) → Legal b (onto ns h) → Legal b h
 unfolding onto
 legal-first b [] h l = l
 legal-first b (n ∷ ns) h l = legal-first b ns (n ∷ h) l .2
@@ -49,7 +49,7 @@ module _ (b : Rows) (w : Ordered b) where
   told-run [] h l = tt
   told-run (n ∷ ns) h l = (run-crowds n h (legal-first b ns (n ∷ h) l), told-run ns (n ∷ h) l)
 
-  legal-now : (h : History) → Legal b h → (k : Call) → refusal b (run b h .now) k ≡ 0 → Legal b (onto (turns (run b h .now) k) h)
+  pub legal-now : (h : History) → Legal b h → (k : Call) → refusal b (run b h .now) k ≡ 0 → Legal b (onto (turns (run b h .now) k) h)
   legal-now h l k = rw (now-run b h) (legal-call b h l k)
 
 -- ---- after any calls, refused ones among them

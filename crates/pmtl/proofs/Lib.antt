@@ -16,6 +16,7 @@ pub mod Cut
 pub mod Alike
 pub mod Eleven
 pub mod Kept
+pub mod Strict
 pub mod Fullest
 pub mod Lapsed
 pub mod Examples

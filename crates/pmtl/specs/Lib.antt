@@ -8,4 +8,5 @@ pub mod Calls
 pub mod Meaning
 pub mod Past
 pub mod Kept
+pub mod Strict
 pub mod Lapsed

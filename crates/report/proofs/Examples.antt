@@ -1,4 +1,4 @@
--- The whole case of REFERENCE 8.6 and the empty input, computed from the definition of the report. Assumes nothing.
+-- The whole case of REFERENCE 8.6, the empty input and a book that strict loading refuses, computed from the definition of the report. Assumes nothing.
 use Prim.Native.Nat.{ℕ}
 use mathlib.Core.Path.{_≡_, refl, _∙_}
 use mathlib.Core.List.{List, [], _∷_}
@@ -12,21 +12,25 @@ use Rattle.pmtl.specs.Calls.{refusal, crowded, play, call}
 use Rattle.book.specs.Rows.{rowFrom, countOf}
 use Rattle.lists.specs.Lists.{listed}
 use Rattle.book.specs.Reading.{section, next, sections}
+use Rattle.book.specs.declared.strict.Loading.{Loading}
+use Rattle.book.specs.declared.strict.Loading.the-variants.{Ordinary, Strict}
 use Rattle.book.specs.Judging.{temporalsIn, startIn, firstTo, allTo, argGood, formGood, rangeGood, rowNumber, operandsGood, linksGood, timesIn, usedOnce, judged, rowIn, bookIn, loadedFrom}
+use Rattle.pmtl.specs.Strict.{needed, neededBy, firstOver}
+use Rattle.book.specs.Strict.{excessIn}
 use Rattle.property_answers.specs.Verdict.{verdictIn}
 use Rattle.text.specs.Words.{pick, parts, digit, letters, allDigits, said, plain, good, begun, writtenWords, supplied, supply}
 use Rattle.text.specs.Decimals.{digitsBefore, decimal}
 use Rattle.report.specs.Lines.{timeFrom, stateFrom, stampedFrom, callFrom, orStop, endingOf, callsFrom, callsAfter, lineOf, linesOf, linesFrom, callLines, bookThen, bookLines, lines}
-use Rattle.report.specs.Report.{bookLine, stopLine, endLine, lastLine, propertyWord, propertyWords, restWords, callLine, line, written, report}
+use Rattle.report.specs.Report.{excessWords, bookLine, stopLine, endLine, lastLine, propertyWord, propertyWords, restWords, callLine, line, written, report}
 
 -- the report, by what every definition says
-unfoldable pub reportOf : List ℕ → List ℕ
-unfolding has covers insert union stop widthOf table answer every some kept gone staysIf addedIf renewed setRuleBy mostRuns initial valueRule value stepBy earlyRule early settledTrue settledFalse settled refusal crowded play call rowFrom countOf listed section next sections temporalsIn startIn firstTo allTo argGood formGood rangeGood rowNumber operandsGood linksGood timesIn usedOnce judged rowIn bookIn loadedFrom verdictIn pick parts digit letters allDigits said plain good begun writtenWords supplied supply digitsBefore decimal timeFrom stateFrom stampedFrom callFrom orStop endingOf callsFrom callsAfter lineOf linesOf linesFrom callLines bookThen bookLines lines bookLine stopLine endLine lastLine propertyWord propertyWords restWords callLine line written report
-reportOf s = report s
+unfoldable pub reportOf : Loading → List ℕ → List ℕ
+unfolding has covers insert union stop widthOf table answer every some kept gone staysIf addedIf renewed setRuleBy mostRuns initial valueRule value stepBy earlyRule early settledTrue settledFalse settled refusal crowded play call rowFrom countOf listed section next sections temporalsIn startIn firstTo allTo argGood formGood rangeGood rowNumber operandsGood linksGood timesIn usedOnce judged rowIn bookIn loadedFrom needed neededBy firstOver excessIn verdictIn pick parts digit letters allDigits said plain good begun writtenWords supplied supply digitsBefore decimal timeFrom stateFrom stampedFrom callFrom orStop endingOf callsFrom callsAfter lineOf linesOf linesFrom callLines bookThen bookLines lines excessWords bookLine stopLine endLine lastLine propertyWord propertyWords restWords callLine line written report
+reportOf way s = report way s
 
-pub opened : (s : List ℕ) → report s ≡ reportOf s
+pub opened : (way : Loading) (s : List ℕ) → report way s ≡ reportOf way s
 unfolding reportOf
-opened s = refl
+opened way s = refl
 
 -- the whole case, its input and its report
 abbrev pub caseInput : List ℕ
@@ -35,11 +39,19 @@ caseInput = 51 ∷ 10 ∷ 50 ∷ 32 ∷ 48 ∷ 32 ∷ 48 ∷ 32 ∷ 48 ∷ 10 �
 abbrev pub caseReport : List ℕ
 caseReport = 98 ∷ 111 ∷ 111 ∷ 107 ∷ 32 ∷ 48 ∷ 10 ∷ 49 ∷ 32 ∷ 48 ∷ 32 ∷ 48 ∷ 48 ∷ 48 ∷ 32 ∷ 49 ∷ 10 ∷ 50 ∷ 32 ∷ 48 ∷ 32 ∷ 48 ∷ 48 ∷ 48 ∷ 32 ∷ 49 ∷ 10 ∷ 51 ∷ 32 ∷ 48 ∷ 32 ∷ 48 ∷ 49 ∷ 48 ∷ 32 ∷ 49 ∷ 10 ∷ 52 ∷ 32 ∷ 48 ∷ 32 ∷ 48 ∷ 49 ∷ 48 ∷ 32 ∷ 49 ∷ 10 ∷ 101 ∷ 110 ∷ 100 ∷ 10 ∷ []
 
-pub whole : report caseInput ≡ caseReport
+pub whole : report Ordinary caseInput ≡ caseReport
 unfolding reportOf
-whole = opened caseInput ∙ refl
+whole = opened Ordinary caseInput ∙ refl
 
 -- the empty input: `book 1`
-pub empty : report [] ≡ 98 ∷ 111 ∷ 111 ∷ 107 ∷ 32 ∷ 49 ∷ 10 ∷ []
+pub empty : report Ordinary [] ≡ 98 ∷ 111 ∷ 111 ∷ 107 ∷ 32 ∷ 49 ∷ 10 ∷ []
 unfolding reportOf
-empty = opened [] ∙ refl
+empty = opened Ordinary [] ∙ refl
+
+-- Once[128,128] a, which can need 65 runs: `book 15 1 65` where the book is loaded strictly
+abbrev pub overInput : List ℕ
+overInput = 50 ∷ 32 ∷ 50 ∷ 32 ∷ 48 ∷ 32 ∷ 48 ∷ 32 ∷ 48 ∷ 32 ∷ 56 ∷ 32 ∷ 49 ∷ 32 ∷ 49 ∷ 50 ∷ 56 ∷ 32 ∷ 49 ∷ 50 ∷ 56 ∷ 32 ∷ 49 ∷ 32 ∷ 48 ∷ 32 ∷ 48 ∷ 32 ∷ 49 ∷ 32 ∷ 49 ∷ 32 ∷ 48 ∷ []
+
+pub over : report Strict overInput ≡ 98 ∷ 111 ∷ 111 ∷ 107 ∷ 32 ∷ 49 ∷ 53 ∷ 32 ∷ 49 ∷ 32 ∷ 54 ∷ 53 ∷ 10 ∷ []
+unfolding reportOf
+over = opened Strict overInput ∙ refl

@@ -14,6 +14,11 @@ use Rattle.pmtl.specs.Monitor.{State, initial}
 use Rattle.pmtl.specs.Calls.{Outcome, call}
 use Rattle.memory.specs.Memory.{bookOf, stateOf}
 use Rattle.book.specs.Reading.{got, refused}
+use Rattle.book.specs.declared.strict.Loading.{Loading}
+use Rattle.book.specs.declared.strict.Excess.{Excess}
+use Rattle.book.specs.declared.strict.Excess.the-variants.{Within}
+use Rattle.book.specs.Strict.{excessBy, admitted}
+use Rattle.book.proofs.Excess.{accepted-within}
 use Rattle.book.specs.Judging.{Loaded, whole as wholeBook, loaded}
 use Rattle.memory.specs.Kept.{Kept}
 use Rattle.text_reader.specs.declared.Part as reader
@@ -107,33 +112,38 @@ module _ (input : List ℕ) (cursor : ℕ) (out : List ℕ) (at : ℕ) (b : Book
   after-count {h} e f p = let s = word input cursor e .gave in p ∙ rw (s, f)
 
 -- ---- the book, and what follows it
-pub book-accepted : (l : Loaded) (ending : ℕ) (ws : List ℕ) {out out₁ : List ℕ} {at n : ℕ} {h : Handed} {b : Book} → Wrote out 0 (bookLine n) out₁ at → n ≡ 0 → n ≡ l .number → b ≡ l .book → h ≡ finish out₁ at (written (callLines b ending ws)) → h ≡ finish out 0 (written (bookThen l ending ws))
-unfolding written line bookThen
-book-accepted l ending ws {n = n} w z e f p =
-    let y : l .number ≡ 0 = sym e ∙ z in
-    p ∙ sym (w .same (written (callLines _ ending ws))) ∙ rw (eq-eqb (l .number) 0 y, e, f)
+module _ (way : Loading) (l : Loaded) (ending : ℕ) (ws : List ℕ) where
+  pub book-accepted : {out out₁ : List ℕ} {at n : ℕ} {h : Handed} {b : Book} → Wrote out 0 (bookLine n Within) out₁ at → n ≡ 0 → n ≡ admitted way l .number → b ≡ admitted way l .book
+      → h ≡ finish out₁ at (written (callLines b ending ws)) → h ≡ finish out 0 (written (bookThen way l ending ws))
+  unfolding written line bookThen
+  book-accepted {out} w z e f p =
+      let y : admitted way l .number ≡ 0 = sym e ∙ z in
+      p ∙ sym (w .same (written (callLines _ ending ws)))
+      ∙ rw (eq-eqb (admitted way l .number) 0 y, e, f)
+      (ap (λ (x : Excess). finish out 0 (bookLine (admitted way l .number) x ++ written (callLines (admitted way l .book) ending ws))) (sym (accepted-within way l y)))
 
-pub book-refused : (l : Loaded) (ending : ℕ) (ws out : List ℕ) {n : ℕ} {h : Handed} → (n ≡ 0 → ⊥) → n ≡ l .number → h ≡ finish out 0 (bookLine n) → h ≡ finish out 0 (written (bookThen l ending ws))
-unfolding written line bookThen
-book-refused l ending ws out {n} z e p =
-    let y : l .number ≡ 0 → ⊥ = λ q. z (e ∙ q) in
-    p ∙ rw (ne-eqb (l .number) 0 y, e, append-nil)
+  pub book-refused : (out : List ℕ) {n : ℕ} {x : Excess} {h : Handed} → (n ≡ 0 → ⊥) → n ≡ admitted way l .number → x ≡ excessBy way (l .book .rows)
+      → h ≡ finish out 0 (bookLine n x) → h ≡ finish out 0 (written (bookThen way l ending ws))
+  unfolding written line bookThen
+  book-refused out {n} z e f p =
+      let y : admitted way l .number ≡ 0 → ⊥ = λ q. z (e ∙ q) in
+      p ∙ rw (ne-eqb (admitted way l .number) 0 y, e, f, append-nil)
 
 -- ---- the whole report
 pub book-there : (input m : List ℕ) {p : reader.Part} {end next : ℕ} → BookRead input m p → p ≡ reader.the-variants.Words end next → BookTook input m end next
 unfolding BookRead
 book-there input m q e = rw e at q
 
-module _ (input : List ℕ) where
-  pub too-long : LONGEST-INPUT < length input → stopLine 2 ≡ report input
+module _ (way : Loading) (input : List ℕ) where
+  pub too-long : LONGEST-INPUT < length input → stopLine 2 ≡ report way input
   unfolding report lines written line lastLine
   too-long h = rw (lt-ltb LONGEST-INPUT (length input) h, append-nil)
 
   module _ (fits : length input ≤ LONGEST-INPUT) where
-    pub no-book : (m : List ℕ) {p : reader.Part} {n k : ℕ} → BookRead input m p → p ≡ reader.the-variants.Refused n → k ≡ n → bookLine k ≡ report input
+    pub no-book : (m : List ℕ) {p : reader.Part} {n k : ℕ} → BookRead input m p → p ≡ reader.the-variants.Refused n → k ≡ n → bookLine k Within ≡ report way input
     unfolding report lines bookLines written line BookRead
     no-book m q e f = let s = rw e at q in rw (le-ltb LONGEST-INPUT (length input) fits, s, f, append-nil)
 
-    pub of-book : {m : List ℕ} {end next : ℕ} → BookTook input m end next → written (bookThen (loaded (take end m)) (supplyFrom input next .ending) (supplyFrom input next .words)) ≡ report input
+    pub of-book : {m : List ℕ} {end next : ℕ} → BookTook input m end next → written (bookThen way (loaded (take end m)) (supplyFrom input next .ending) (supplyFrom input next .words)) ≡ report way input
     unfolding report lines bookLines loaded wholeBook
     of-book k = rw (le-ltb LONGEST-INPUT (length input) fits, k .read, k .ending, k .stand)

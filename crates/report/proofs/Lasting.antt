@@ -20,6 +20,8 @@ use Rattle.pmtl.specs.declared.Answer.{Answer}
 use Rattle.pmtl.specs.declared.Answer.the-variants.{False, True, Open}
 use Rattle.pmtl.specs.Answer.{bitOf, digitOf}
 use Rattle.lists.specs.Lists.{listed}
+use Rattle.book.specs.declared.strict.Excess.{Excess}
+use Rattle.book.specs.declared.strict.Excess.the-variants.{Within, Over}
 use Rattle.memory.specs.Memory.{rowCount, propertyRow, valueAt, earlyAt, settledAt, fullestWord, bookOf, stateOf}
 use Rattle.memory.specs.Tables.{propertyCount, valueOf, earlyOf, settledOf}
 use Rattle.memory.specs.Kept.{Kept}
@@ -29,7 +31,7 @@ use Rattle.buffer_writer.specs.Buffer.{Handed}
 use Rattle.buffer_writer.specs.Finish.{finish, Wrote}
 use Rattle.buffer_writer.proofs.Writes.{and-then}
 use Rattle.report.specs.Lines.{PropertyWord, wordOf, endingOf, restOf, lineOf}
-use Rattle.report.specs.Report.{stopLine, endLine, propertyWord, propertyWords, restWords, callLine, lastLine}
+use Rattle.report.specs.Report.{excessWords, stopLine, endLine, propertyWord, propertyWords, restWords, callLine, lastLine}
 use Rattle.report.specs.Private.{digitWord, wordAt, digitWords, digitRest, digitLine}
 
 pub ending : {h : Handed} (out : List ℕ) (at : ℕ) {x y : List ℕ} → h ≡ finish out at x → x ≡ y → h ≡ finish out at y
@@ -48,6 +50,16 @@ module _ (input : List ℕ) (cursor : ℕ) where
   pub last-end : {n : ℕ} → nextWord input cursor ≡ Refused n → (n ≡ BAD-WORD → ⊥) → endLine ≡ lastLine (endingOf (supplyFrom input cursor .ending) (supplyFrom input cursor .words))
   unfolding lastLine endingOf
   last-end {n} e f = rw (ended input cursor e, ne-eqb n BAD-WORD f)
+
+-- ---- what strict loading refuses
+pub excess-none : (e : Excess) (out : List ℕ) (at : ℕ) → e ≡ Within → Wrote out at (excessWords e) out at
+unfolding excessWords
+excess-none e out at h = rw h (record { same = λ rest. refl })
+
+pub excess-written : (e : Excess) {row count : ℕ} {out out₁ out₂ : List ℕ} {at at₁ at₂ : ℕ} → e ≡ Over row count → Wrote out at (space ∷ decimal row) out₁ at₁ → Wrote out₁ at₁ (space ∷ decimal count) out₂ at₂
+    → Wrote out at (excessWords e) out₂ at₂
+unfolding excessWords
+excess-written e h p q = rw h (and-then p q)
 
 -- ---- the words of the properties
 -- the words of the first i properties are written

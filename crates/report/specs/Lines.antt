@@ -15,6 +15,10 @@ use Rattle.pmtl.specs.Calls.{Call, Outcome, call}
 use Rattle.pmtl.specs.Calls.Call.{time, state, stamped}
 use Rattle.book.specs.Reading.{Read, section, next, Sections, sections}
 use Rattle.book.specs.Reading.Read.{got, refused}
+use Rattle.book.specs.declared.strict.Loading.{Loading}
+use Rattle.book.specs.declared.strict.Excess.{Excess}
+use Rattle.book.specs.declared.strict.Excess.the-variants.{Within}
+use Rattle.book.specs.Strict.{excessBy, admitted}
 use Rattle.book.specs.Judging.{Loaded, loadedFrom}
 use Rattle.property_answers.specs.declared.Verdict.{Verdict}
 use Rattle.property_answers.specs.Verdict.{verdictIn}
@@ -51,9 +55,9 @@ pub data Ending : Type 0 where
   end : Ending
   stop : ℕ → Ending
 
--- a line: the book's number; a call; how it ended
+-- a line: the book's number, and what strict loading refuses in it; a call; how it ended
 pub data Line : Type 0 where
-  book : ℕ → Line
+  book : ℕ → Excess → Line
   called : CallLine → Line
   last : Ending → Line
 
@@ -134,15 +138,17 @@ linesFrom b done st r = map called (linesOf b done st (r .calls)) ++ last (r .en
 unfoldable pub callLines : Book → ℕ → List ℕ → List Line
 callLines b ending ws = linesFrom b 0 (initial (b .rows)) (callsAfter ending ws)
 
--- a book, loaded or refused: nothing follows a refused book
-unfoldable pub bookThen : Loaded → ℕ → List ℕ → List Line
-bookThen l ending ws = book (l .number) ∷ cond (eqb (l .number) ACCEPTED) (callLines (l .book) ending ws) []
+-- a book, loaded or refused in this way of loading: nothing follows a refused book
+unfoldable pub bookThen : Loading → Loaded → ℕ → List ℕ → List Line
+bookThen way l ending ws =
+    let a = admitted way l in
+    book (a .number) (excessBy way (l .book .rows)) ∷ cond (eqb (a .number) ACCEPTED) (callLines (a .book) ending ws) []
 
-unfoldable pub bookLines : Read Sections → ℕ → List Line
-bookLines (got s ws) ending = bookThen (loadedFrom s) ending ws
-bookLines (refused n) ending = book n ∷ []
+unfoldable pub bookLines : Loading → Read Sections → ℕ → List Line
+bookLines way (got s ws) ending = bookThen way (loadedFrom s) ending ws
+bookLines way (refused n) ending = book n Within ∷ []
 
 -- the lines of a report; an input that is too long gives only `stop 2`
-unfoldable pub lines : List ℕ → List Line
-lines input = cond (ltb LONGEST-INPUT (length input)) (last (stop PAST-LIMIT) ∷ [])
-    (bookLines (sections (supply input .ending) (supply input .words)) (supply input .ending))
+unfoldable pub lines : Loading → List ℕ → List Line
+lines way input = cond (ltb LONGEST-INPUT (length input)) (last (stop PAST-LIMIT) ∷ [])
+    (bookLines way (sections (supply input .ending) (supply input .words)) (supply input .ending))

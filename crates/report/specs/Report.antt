@@ -3,6 +3,9 @@ use Prim.Native.Nat.{ℕ, _+_}
 use mathlib.Core.List.{List, [], _∷_, _++_}
 use Rattle.text.specs.Words.{space, lineFeed, digit0}
 use Rattle.text.specs.Decimals.{decimal}
+use Rattle.book.specs.declared.strict.Loading.{Loading}
+use Rattle.book.specs.declared.strict.Excess.{Excess}
+use Rattle.book.specs.declared.strict.Excess.the-variants.{Within, Over}
 use Rattle.report.specs.Lines.{PropertyWord, Rest, nothing, told, CallLine, Ending, end, stop, Line, book, called, last, lines}
 
 -- ---- lines. The words book, stop and end are fixed
@@ -19,9 +22,14 @@ endWord = 101 ∷ 110 ∷ 100 ∷ []
 abbrev pub ended : List ℕ
 ended = lineFeed ∷ []
 
--- `book ` and the number; `stop ` and the number; `end`
-unfoldable pub bookLine : ℕ → List ℕ
-bookLine n = bookWord ++ decimal n ++ ended
+-- the row that strict loading refuses, and how many runs it can need, each after a space
+unfoldable pub excessWords : Excess → List ℕ
+excessWords Within = []
+excessWords (Over row count) = space ∷ decimal row ++ space ∷ decimal count
+
+-- `book ` and the number, and where a row is refused these; `stop ` and the number; `end`
+unfoldable pub bookLine : ℕ → Excess → List ℕ
+bookLine n e = bookWord ++ decimal n ++ excessWords e ++ ended
 
 unfoldable pub stopLine : ℕ → List ℕ
 stopLine n = stopWord ++ decimal n ++ ended
@@ -52,7 +60,7 @@ callLine l = decimal (l .number) ++ space ∷ decimal (l .refusal) ++ restWords 
 
 -- ---- a line, and lines one after the other
 unfoldable pub line : Line → List ℕ
-line (book n) = bookLine n
+line (book n e) = bookLine n e
 line (called l) = callLine l
 line (last e) = lastLine e
 
@@ -60,6 +68,6 @@ unfoldable pub written : List Line → List ℕ
 written [] = []
 written (l ∷ ls) = line l ++ written ls
 
--- the report
-unfoldable pub report : List ℕ → List ℕ
-report input = written (lines input)
+-- the report, in a way of loading
+unfoldable pub report : Loading → List ℕ → List ℕ
+report way input = written (lines way input)

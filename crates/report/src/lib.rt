@@ -12,6 +12,9 @@ ghost use Rattle.buffer_writer.specs.Buffer.{handed, inBuffer};
 ghost use Rattle.buffer_writer.specs.Finish.{finish};
 ghost use Rattle.report.specs.Lines.{callsFrom, linesFrom, callLines, bookThen};
 ghost use Rattle.report.specs.Report.{bookLine, written, report};
+use book::strict::Excess;
+use book::strict::Loading;
+use book::strict::first_excess;
 use memory::SIZE;
 use numbers::ACCEPTED;
 use numbers::LONGEST_INPUT;
@@ -72,31 +75,30 @@ fn counted_calls(
 }
 
 // A refused book's line, which nothing follows.
-fn refused_book(out: &mut [u8], number: u64) -> u64
-    ensures { λ r. ⌜ handed r (now (out .exit)) ≡ finish (now (out .entry)) 0 (bookLine number) ⌝ }
+fn refused_book(out: &mut [u8], number: u64, excess: Excess) -> u64
+    ensures { λ r. ⌜ handed r (now (out .exit)) ≡ finish (now (out .entry)) 0 (bookLine number excess) ⌝ }
 {
-    let at = lines::put_book(out, 0, number);
+    let at = lines::put_book(out, 0, number, excess);
     buffer_writer::finished(out, at)
 }
 
 // The report from a book's words on, the text after them at `cursor`.
-fn loaded_book(input: &[u8], cursor: usize, words: &[u64], out: &mut [u8]) -> u64
-    ensures { λ r. ⌜ handed r (now (out .exit)) ≡ finish (now (out .entry)) 0 (written (bookThen (loaded (now (words .entry))) (supplyFrom (now (input .entry)) cursor .ending) (supplyFrom (now (input .entry)) cursor .words))) ⌝ }
+fn loaded_book(way: Loading, input: &[u8], cursor: usize, words: &[u64], out: &mut [u8]) -> u64
+    ensures { λ r. ⌜ handed r (now (out .exit)) ≡ finish (now (out .entry)) 0 (written (bookThen way (loaded (now (words .entry))) (supplyFrom (now (input .entry)) cursor .ending) (supplyFrom (now (input .entry)) cursor .words))) ⌝ }
 {
     let mut monitor = [0u64; SIZE];
-    let number = loader::load(words, &mut monitor);
+    let number = loader::load_by(way, words, &mut monitor);
     if number == ACCEPTED {
-        let at = lines::put_book(out, 0, number);
+        let at = lines::put_book(out, 0, number, Excess::Within);
         return counted_calls(input, cursor, &mut monitor, out, at);
     }
-    refused_book(out, number)
+    refused_book(out, number, first_excess(way, words))
 }
 
-// The report of `input` in `out`: its length, with what stands after it unchanged; or MAX, with zeros throughout, where it
-// does not fit.
-#[no_mangle]
-pub extern "C" fn binefdar_report(input: &[u8], out: &mut [u8]) -> u64
-    ensures { λ r. ⌜ handed r (now (out .exit)) ≡ inBuffer (now (out .entry)) (report (now (input .entry))) ⌝ }
+// The report of `input`, its book loaded in this way, in `out`: its length, with what stands after it unchanged; or MAX, with
+// zeros throughout, where it does not fit.
+pub fn report_by(way: Loading, input: &[u8], out: &mut [u8]) -> u64
+    ensures { λ r. ⌜ handed r (now (out .exit)) ≡ inBuffer (now (out .entry)) (report way (now (input .entry))) ⌝ }
 {
     if LONGEST_INPUT < input.len() {
         return lines::stopped(out, 0, PAST_LIMIT);
@@ -104,7 +106,23 @@ pub extern "C" fn binefdar_report(input: &[u8], out: &mut [u8]) -> u64
     let mut words = [0u64; text_reader::BOOK_WORDS];
     let read = text_reader::book(input, &mut words);
     let Part::Words(end, next) = read else {
-        return refused_book(out, text_reader::part_number(read));
+        return refused_book(out, text_reader::part_number(read), Excess::Within);
     };
-    loaded_book(input, next, &words[..end], out)
+    loaded_book(way, input, next, &words[..end], out)
+}
+
+// For C: a book is loaded as any that is in order.
+#[no_mangle]
+pub extern "C" fn binefdar_report(input: &[u8], out: &mut [u8]) -> u64
+    ensures { λ r. ⌜ handed r (now (out .exit)) ≡ inBuffer (now (out .entry)) (report Loading.Ordinary (now (input .entry))) ⌝ }
+{
+    report_by(Loading::Ordinary, input, out)
+}
+
+// For C: a book is loaded strictly.
+#[no_mangle]
+pub extern "C" fn binefdar_report_strict(input: &[u8], out: &mut [u8]) -> u64
+    ensures { λ r. ⌜ handed r (now (out .exit)) ≡ inBuffer (now (out .entry)) (report Loading.Strict (now (input .entry))) ⌝ }
+{
+    report_by(Loading::Strict, input, out)
 }

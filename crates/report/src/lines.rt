@@ -8,10 +8,11 @@ ghost use Rattle.text.specs.Decimals.{decimal};
 ghost use Rattle.buffer_writer.specs.Buffer.{handed};
 ghost use Rattle.buffer_writer.specs.Finish.{finish, Wrote};
 ghost use Rattle.report.specs.Lines.{endingOf};
-ghost use Rattle.report.specs.Report.{ended as Report·ended, bookLine, stopLine, endLine, lastLine};
+ghost use Rattle.report.specs.Report.{excessWords, bookLine, stopLine, endLine, lastLine};
 ghost use Rattle.report.specs.Private.{wordAt, digitWords, digitRest, digitLine};
 ghost use Rattle.memory.specs.Tables.{propertyCount};
 ghost use Rattle.memory.specs.Kept.{Kept};
+use book::strict::Excess;
 use memory::SIZE;
 use numbers::ACCEPTED;
 use numbers::BAD_WORD;
@@ -21,25 +22,38 @@ use text::Read;
 // The byte of the digit 0.
 const ZERO: u8 = b'0';
 
-// A line of a word and a number.
+// A word and a number.
 fn put_numbered(out: &mut [u8], at: usize, word: &[u8], number: u64) -> usize
-    ensures { λ r. ⌜ Wrote (now (out .entry)) at (now (word .entry) ++ decimal number ++ Report·ended) (now (out .exit)) r ⌝ }
+    ensures { λ r. ⌜ Wrote (now (out .entry)) at (now (word .entry) ++ decimal number) (now (out .exit)) r ⌝ }
 {
     let a = buffer_writer::put_bytes(out, at, word);
-    let b = buffer_writer::put_number(out, a, number);
-    buffer_writer::put_bytes(out, b, b"\n")
+    buffer_writer::put_number(out, a, number)
 }
 
-pub fn put_book(out: &mut [u8], at: usize, number: u64) -> usize
-    ensures { λ r. ⌜ Wrote (now (out .entry)) at (bookLine number) (now (out .exit)) r ⌝ }
+// The row that strict loading refuses, and how many runs it can need.
+fn put_excess(out: &mut [u8], at: usize, excess: Excess) -> usize
+    ensures { λ r. ⌜ Wrote (now (out .entry)) at (excessWords excess) (now (out .exit)) r ⌝ }
 {
-    put_numbered(out, at, b"book ", number)
+    let Excess::Over(row, count) = excess else {
+        return at;
+    };
+    let a = put_numbered(out, at, b" ", row);
+    put_numbered(out, a, b" ", count)
+}
+
+pub fn put_book(out: &mut [u8], at: usize, number: u64, excess: Excess) -> usize
+    ensures { λ r. ⌜ Wrote (now (out .entry)) at (bookLine number excess) (now (out .exit)) r ⌝ }
+{
+    let a = put_numbered(out, at, b"book ", number);
+    let b = put_excess(out, a, excess);
+    buffer_writer::put_bytes(out, b, b"\n")
 }
 
 fn put_stop(out: &mut [u8], at: usize, number: u64) -> usize
     ensures { λ r. ⌜ Wrote (now (out .entry)) at (stopLine number) (now (out .exit)) r ⌝ }
 {
-    put_numbered(out, at, b"stop ", number)
+    let p = put_numbered(out, at, b"stop ", number);
+    buffer_writer::put_bytes(out, p, b"\n")
 }
 
 // A report that ends with `stop `.

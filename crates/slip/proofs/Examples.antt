@@ -7,22 +7,23 @@ use lib.ListN.{length, getD}
 use Rattle.text.specs.Words.{pick, parts, digit, letters, allDigits, said, plain, good, begun, writtenWords, supplied, supply}
 use Rattle.pmtl.specs.Calls.Call.{time}
 use Rattle.book.specs.Reading.{section, next, sections}
+use Rattle.book.specs.declared.strict.Loading.the-variants.{Ordinary}
 use Rattle.report.specs.Lines.{nothing, told, called, lines}
 use Rattle.report.specs.Report.{report}
 use Rattle.report.proofs.Examples.{reportOf, opened, caseInput, whole}
-use Rattle.slip.specs.Back.{before, pieces, wordIn, wordThen, restIn, lineIn, linesIn}
+use Rattle.slip.specs.Back.{before, pieces, wordIn, wordThen, restIn, excessSaid, lineIn, linesIn}
 use Rattle.slip.specs.Says.{noLine, Says}
 use Rattle.slip.specs.TakenOut.{allWords, CallAt, TakenOut}
 use Rattle.slip.specs.Longest.{longest}
 use Rattle.slip.proofs.Theorems.{read-back}
 
 -- lines of a report that is known
-known-lines : {bytes : List ℕ} (input : List ℕ) → report input ≡ bytes → lines input ≡ linesIn bytes
-known-lines input e = sym (read-back input) ∙ ap linesIn e
+known-lines : {bytes : List ℕ} (input : List ℕ) → report Ordinary input ≡ bytes → lines Ordinary input ≡ linesIn bytes
+known-lines input e = sym (read-back Ordinary input) ∙ ap linesIn e
 
 -- ---- a settled word: in the whole case of REFERENCE 8.6 the line of call 3 says 010 of the property, and 1 run
-pub a-word : Says (lines caseInput) 3 0 (record { value = 0; early = 1; settled = 0 })
-unfolding linesIn pieces before lineIn wordIn wordThen restIn said
+pub a-word : Says (lines Ordinary caseInput) 3 0 (record { value = 0; early = 1; settled = 0 })
+unfolding linesIn pieces before excessSaid lineIn wordIn wordThen restIn said
 a-word = record {
   line = record { number = 3; refusal = 0; rest = told (record { value = 0; early = 1; settled = 0 } ∷ []) 1 };
   stands = ap (λ ls. getD ls 3 noLine) (known-lines caseInput whole);
@@ -38,12 +39,12 @@ twoTimes = 48 ∷ 32 ∷ 48 ∷ 32 ∷ 48 ∷ 32 ∷ 48 ∷ 32 ∷ 50 ∷ 32 ∷
 abbrev pub oneTime : List ℕ
 oneTime = 48 ∷ 32 ∷ 48 ∷ 32 ∷ 48 ∷ 32 ∷ 48 ∷ 32 ∷ 49 ∷ 32 ∷ 48 ∷ 32 ∷ 53 ∷ []
 
-times-report : report twoTimes ≡ 98 ∷ 111 ∷ 111 ∷ 107 ∷ 32 ∷ 48 ∷ 10 ∷ 49 ∷ 32 ∷ 48 ∷ 32 ∷ 48 ∷ 10 ∷ 50 ∷ 32 ∷ 55 ∷ 10 ∷ 101 ∷ 110 ∷ 100 ∷ 10 ∷ []
+times-report : report Ordinary twoTimes ≡ 98 ∷ 111 ∷ 111 ∷ 107 ∷ 32 ∷ 48 ∷ 10 ∷ 49 ∷ 32 ∷ 48 ∷ 32 ∷ 48 ∷ 10 ∷ 50 ∷ 32 ∷ 55 ∷ 10 ∷ 101 ∷ 110 ∷ 100 ∷ 10 ∷ []
 unfolding reportOf
-times-report = opened twoTimes ∙ refl
+times-report = opened Ordinary twoTimes ∙ refl
 
-pub a-refused-line : getD (lines twoTimes) 2 noLine ≡ called (record { number = 2; refusal = 7; rest = nothing })
-unfolding linesIn pieces before lineIn wordIn wordThen restIn said
+pub a-refused-line : getD (lines Ordinary twoTimes) 2 noLine ≡ called (record { number = 2; refusal = 7; rest = nothing })
+unfolding linesIn pieces before excessSaid lineIn wordIn wordThen restIn said
 a-refused-line = ap (λ ls. getD ls 2 noLine) (known-lines twoTimes times-report)
 
 pub its-call : CallAt twoTimes 2
@@ -69,6 +70,6 @@ taken-out = record { short = omega arith; ending = refl; words = refl }
 abbrev pub tight : List ℕ
 tight = 48 ∷ 32 ∷ 48 ∷ 32 ∷ 48 ∷ 32 ∷ 48 ∷ 32 ∷ 120 ∷ []
 
-pub reached : length (report tight) ≡ longest (length tight)
+pub reached : length (report Ordinary tight) ≡ longest (length tight)
 unfolding reportOf
-reached = ap length (opened tight) ∙ refl
+reached = ap length (opened Ordinary tight) ∙ refl

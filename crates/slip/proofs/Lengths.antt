@@ -14,17 +14,22 @@ use Rattle.lists.specs.Lists.{listed}
 use Rattle.lists.proofs.Listed.{listed-length}
 use Rattle.text.specs.Words.{supply}
 use Rattle.text.specs.Decimals.{decimal}
-use Rattle.text.proofs.Digits.{at-most}
+use Rattle.text.proofs.Digits.{at-most, at-most-20}
 use Rattle.pmtl.specs.Book.{Rows, Book, properties, widthOf, some}
 use Rattle.pmtl.specs.Monitor.{Snap, State, fullest, initial, step}
 use Rattle.pmtl.specs.Calls.{Call, time, state, stamped, turns, timeRefusal, stateRefusal, firstOf as firstNumber, refusal, crowded, Outcome, play, call}
 use Rattle.pmtl.proofs.Fullest.{fresh-none, call-few}
 use Rattle.book.specs.Rows.{temporal}
 use Rattle.book.specs.Reading.{Read, got, refused, Sections}
+use Rattle.book.specs.declared.strict.Loading.{Loading}
+use Rattle.book.specs.declared.strict.Excess.{Excess}
+use Rattle.book.specs.declared.strict.Excess.the-variants.{Within, Over}
+use Rattle.book.specs.Strict.{excessBy, unless, admitted}
+use Rattle.book.proofs.Excess.{excess-small}
 use Rattle.book.specs.Judging.{Loaded, firstOf, firstTo, formGood, rangeGood, kindIn, argIn, lowerIn, upperIn, temporalsIn, rowsIn, rowNumber, linksGood, usedOnce, judged, bookIn, refusedWith, loadedFrom}
 use Rattle.property_answers.specs.Verdict.{verdictIn}
 use Rattle.report.specs.Lines.{PropertyWord, nothing, told, CallLine, Ending, end, stop, book, called, last, wordOf, callsFrom, callsAfter, restOf, lineOf, linesOf, linesFrom, lines}
-use Rattle.report.specs.Report.{bookLine, stopLine, endLine, lastLine, propertyWord, propertyWords, restWords, callLine, line, written, report}
+use Rattle.report.specs.Report.{excessWords, bookLine, stopLine, endLine, lastLine, propertyWord, propertyWords, restWords, callLine, line, written, report}
 use Rattle.slip.specs.Says.{sectionsSaid}
 use Rattle.slip.specs.TakenOut.{allWords}
 use Rattle.slip.specs.Longest.{WORD-BYTES, COUNT-BYTES, LINE-BYTES, FIRST-BYTES, LAST-BYTES, longest}
@@ -116,12 +121,17 @@ unfolding propertyWords propertyWord
 words-length [] = refl
 words-length (w ∷ ws) = let h = words-length ws in omega arith
 
-book-length : (n : ℕ) → n < 100 → length (bookLine n) ≤ LAST-BYTES
-unfolding bookLine
+book-length : (n : ℕ) → n < 100 → length (bookLine n Within) ≤ LAST-BYTES
+unfolding bookLine excessWords
 book-length n h = simp length-append (omega (arith, two-digits n h))
 
-first-length : length (bookLine ACCEPTED) ≤ FIRST-BYTES
-unfolding bookLine
+-- a row of an input that is not too long has at most five digits, and what it can need at most twenty
+over-length : (n row count : ℕ) → n < 100 → row < 100000 → count ≤ LAST-TIME + 1 → length (bookLine n (Over row count)) ≤ 35
+unfolding bookLine excessWords
+over-length n row count h k l = simp length-append (omega (arith, two-digits n h, five-digits row k, at-most-20 count (omega arith)))
+
+first-length : length (bookLine ACCEPTED Within) ≤ FIRST-BYTES
+unfolding bookLine excessWords
 first-length = simp length-append (omega (arith, at-most 0 ACCEPTED (omega arith)))
 
 last-length : (e : Ending) → EndsSmall e → length (lastLine e) ≤ LAST-BYTES
@@ -179,51 +189,75 @@ after-read ending small (count ∷ ws) =
     (h .ends, omega (arith, two-words-each ks, length-append (allWords ks) (h .left), ap length (h .are)))
 
 -- a line alone
-lone-book : (n room : ℕ) → n < 100 → length (written (book n ∷ [])) ≤ longest room
+lone-book : (n room : ℕ) → n < 100 → length (written (book n Within ∷ [])) ≤ longest room
 unfolding written line
 lone-book n room h = simp length-append (omega (arith, book-length n h))
 
-module _ (input : List ℕ) where
-  whole-length : {s : Sections} {ws : List ℕ} → length input ≤ LONGEST-INPUT → sectionsSaid input ≡ got s ws → loadedFrom s .number ≡ ACCEPTED → length (report input) ≤ longest (length input)
+-- a book that is loaded in a way
+loads-by : (way : Loading) (s : Sections) → Few s → Loads (admitted way (loadedFrom s))
+loads-by way s f = go (excessBy way (loadedFrom s .book .rows))
+  where
+    go : (e : Excess) → Loads (unless e (loadedFrom s))
+    go Within = loads s f
+    go (Over r n) = record { small = omega arith; few = omega arith }
+
+module _ (way : Loading) (input : List ℕ) where
+  whole-length : {s : Sections} {ws : List ℕ} → length input ≤ LONGEST-INPUT → sectionsSaid input ≡ got s ws → admitted way (loadedFrom s) .number ≡ ACCEPTED
+      → length (report way input) ≤ longest (length input)
   unfolding report written line linesFrom
   whole-length {s} {ws} f e z =
       let ending = supply input .ending in
       let g = sections-got ending (small-ending input) (supply input .words) e in
       let c = after-read ending (small-ending input) ws in
-      let b = loadedFrom s .book in
+      let b = admitted way (loadedFrom s) .book in
       let ks = callsAfter ending ws .calls in
       let few : 4 * length ks ≤ length input - 9 = omega (arith, g .1, c .1, few-words input) in
-      let l = lines-length b (callsAfter ending ws .ends) (loads s (g .0) .few) (c .0) ks 0 (initial (b .rows)) (omega (arith, fresh-none (b .rows))) (omega arith) in
+      let l = lines-length b (callsAfter ending ws .ends) (loads-by way s (g .0) .few) (c .0) ks 0 (initial (b .rows)) (omega (arith, fresh-none (b .rows))) (omega arith) in
       let n = first-length in
-      rw (lines-loaded input f e z) (simp length-append (omega arith))
+      rw (lines-loaded way input f e z) (simp length-append (omega arith))
 
-  by-number : (s : Sections) (ws : List ℕ) → length input ≤ LONGEST-INPUT → sectionsSaid input ≡ got s ws → Dec (loadedFrom s .number ≡ ACCEPTED) → length (report input) ≤ longest (length input)
+  -- a refused book's line alone. Where a row of it is named, the input has the words of a row, and so there would be room for a call's line
+  refused-length : (s : Sections) (ws : List ℕ) → length input ≤ LONGEST-INPUT → sectionsSaid input ≡ got s ws → (e : Excess) → excessBy way (loadedFrom s .book .rows) ≡ e
+      → length (written (book (admitted way (loadedFrom s) .number) e ∷ [])) ≤ longest (length input)
+  unfolding written line
+  refused-length s ws f e Within h =
+      let g = sections-got (supply input .ending) (small-ending input) (supply input .words) e in
+      lone-book (admitted way (loadedFrom s) .number) (length input) (loads-by way s (g .0) .small)
+  refused-length s ws f e (Over r n) h =
+      let g = sections-got (supply input .ending) (small-ending input) (supply input .words) e in
+      let x = excess-small way s h in
+      let rows : 4 ≤ length (s .rows) = omega (arith, x .row) in
+      let far : 15 ≤ length input = omega (arith, g .1, few-words input) in
+      let near : r < 100000 = omega (arith, x .row, g .1, few-words input) in
+      let l = over-length (admitted way (loadedFrom s) .number) r n (loads-by way s (g .0) .small) near (x .count) in
+      simp length-append (omega arith)
+
+  by-number : (s : Sections) (ws : List ℕ) → length input ≤ LONGEST-INPUT → sectionsSaid input ≡ got s ws → Dec (admitted way (loadedFrom s) .number ≡ ACCEPTED)
+      → length (report way input) ≤ longest (length input)
   unfolding report
   by-number s ws f e (yes z) = whole-length f e z
-  by-number s ws f e (no z) =
-      let g = sections-got (supply input .ending) (small-ending input) (supply input .words) e in
-      rw (lines-refused input f e z) (lone-book (loadedFrom s .number) (length input) (loads s (g .0) .small))
+  by-number s ws f e (no z) = rw (lines-refused way input f e z) (refused-length s ws f e (excessBy way (loadedFrom s .book .rows)) refl)
 
-  by-read : (r : Read Sections) → length input ≤ LONGEST-INPUT → sectionsSaid input ≡ r → length (report input) ≤ longest (length input)
+  by-read : (r : Read Sections) → length input ≤ LONGEST-INPUT → sectionsSaid input ≡ r → length (report way input) ≤ longest (length input)
   unfolding report
-  by-read (got s ws) f e = by-number s ws f e (ℕ-discrete (loadedFrom s .number) ACCEPTED)
+  by-read (got s ws) f e = by-number s ws f e (ℕ-discrete (admitted way (loadedFrom s) .number) ACCEPTED)
   by-read (refused n) f e =
-      rw (lines-unread input f e) (lone-book n (length input) (sections-refused (supply input .ending) (small-ending input) (supply input .words) e .1))
+      rw (lines-unread way input f e) (lone-book n (length input) (sections-refused (supply input .ending) (small-ending input) (supply input .words) e .1))
 
-  stop-length : LONGEST-INPUT < length input → length (report input) ≤ LAST-BYTES
+  stop-length : LONGEST-INPUT < length input → length (report way input) ≤ LAST-BYTES
   unfolding report lines written line EndsSmall
   stop-length h = rw (lt-ltb LONGEST-INPUT (length input) h) (simp length-append (omega (arith, last-length (stop PAST-LIMIT) (omega arith))))
 
-  pub at-most-longest : length (report input) ≤ longest (length input)
+  pub at-most-longest : length (report way input) ≤ longest (length input)
   at-most-longest = go (decLt LONGEST-INPUT (length input))
     where
-      go : Dec (LONGEST-INPUT < length input) → length (report input) ≤ longest (length input)
+      go : Dec (LONGEST-INPUT < length input) → length (report way input) ≤ longest (length input)
       go (yes h) = omega (arith, stop-length h)
       go (no h) = by-read (sectionsSaid input) (omega arith) refl
 
-  pub room-enough : length (report input) ≤ LONGEST-REPORT
+  pub room-enough : length (report way input) ≤ LONGEST-REPORT
   room-enough = go (decLt LONGEST-INPUT (length input))
     where
-      go : Dec (LONGEST-INPUT < length input) → length (report input) ≤ LONGEST-REPORT
+      go : Dec (LONGEST-INPUT < length input) → length (report way input) ≤ LONGEST-REPORT
       go (yes h) = omega (arith, stop-length h)
       go (no h) = omega (arith, at-most-longest)

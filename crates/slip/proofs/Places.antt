@@ -13,15 +13,20 @@ use Rattle.pmtl.specs.Book.{Book}
 use Rattle.pmtl.specs.Monitor.{State, initial}
 use Rattle.pmtl.specs.Calls.{Call, Outcome, call, after}
 use Rattle.book.specs.Reading.{Read, got, refused, Sections}
+use Rattle.book.specs.declared.strict.Loading.{Loading}
+use Rattle.book.specs.declared.strict.Excess.{Excess}
+use Rattle.book.specs.declared.strict.Excess.the-variants.{Within}
+use Rattle.book.specs.Strict.{excessBy, admitted}
+use Rattle.book.proofs.Excess.{accepted-within}
 use Rattle.book.specs.Judging.{Loaded, loadedFrom}
 use Rattle.report.specs.Lines.{CallLine, Ending, Line, book, called, last, CallsRead, callsAfter, lineOf, linesOf, linesFrom, callLines, bookThen, bookLines, lines}
-use Rattle.slip.specs.Says.{sectionsSaid, loadedOf, bookSaid, wordsAfter, readSaid, callsSaid, endSaid, noLine, noCallLine, missingCall, Whole, Shape}
+use Rattle.slip.specs.Says.{sectionsSaid, loadedOf, excessOf, bookSaid, wordsAfter, readSaid, callsSaid, endSaid, noLine, noCallLine, missingCall, Whole, Shape}
 use Rattle.slip.specs.Says.Shape.{whole, refused-book, too-long}
 use Rattle.text.proofs.Few.{small-ending}
 use Rattle.slip.proofs.Words.{sections-refused}
 
 -- ---- a call's line among the others
-not-book : {n : ℕ} {l : CallLine} → book n ≡ called l → ⊥
+not-book : {n : ℕ} {e : Excess} {l : CallLine} → book n e ≡ called l → ⊥
 not-book h = let z : _≡_ {A = ℕ} 0 1 = cc in omega arith
 
 not-last : {e : Ending} {l : CallLine} → last e ≡ called l → ⊥
@@ -71,8 +76,8 @@ one-more (k ∷ ks) past zero h = refl
 one-more (k ∷ ks) past (suc i) h = one-more ks (k ∷ past) i (omega arith)
 
 -- ---- the lines of an input
-module _ (input : List ℕ) {s : Sections} {ws : List ℕ} (e : sectionsSaid input ≡ got s ws) where
-  pub loads-as : loadedOf (sectionsSaid input) ≡ loadedFrom s
+module _ (way : Loading) (input : List ℕ) {s : Sections} {ws : List ℕ} (e : sectionsSaid input ≡ got s ws) where
+  pub loads-as : loadedOf way (sectionsSaid input) ≡ admitted way (loadedFrom s)
   unfolding loadedOf
   loads-as = rw e
 
@@ -80,75 +85,78 @@ module _ (input : List ℕ) {s : Sections} {ws : List ℕ} (e : sectionsSaid inp
   unfolding wordsAfter
   read-as = ap (λ r. callsAfter (supply input .ending) (wordsAfter r)) e
 
-module _ (input : List ℕ) (fits : length input ≤ LONGEST-INPUT) where
+module _ (way : Loading) (input : List ℕ) (fits : length input ≤ LONGEST-INPUT) where
   -- of a loaded book
-  pub lines-loaded : {s : Sections} {ws : List ℕ} → sectionsSaid input ≡ got s ws → loadedFrom s .number ≡ ACCEPTED
-      → lines input ≡ book ACCEPTED ∷ linesFrom (loadedFrom s .book) 0 (initial (loadedFrom s .book .rows)) (callsAfter (supply input .ending) ws)
+  pub lines-loaded : {s : Sections} {ws : List ℕ} → sectionsSaid input ≡ got s ws → admitted way (loadedFrom s) .number ≡ ACCEPTED
+      → lines way input ≡ book ACCEPTED Within ∷ linesFrom (admitted way (loadedFrom s) .book) 0 (initial (admitted way (loadedFrom s) .book .rows)) (callsAfter (supply input .ending) ws)
   unfolding lines bookLines bookThen callLines
-  lines-loaded {s} e z = rw (le-ltb LONGEST-INPUT (length input) fits, e, eq-eqb (loadedFrom s .number) ACCEPTED z, z)
+  lines-loaded {s} {ws} e z =
+      rw (le-ltb LONGEST-INPUT (length input) fits, e, eq-eqb (admitted way (loadedFrom s) .number) ACCEPTED z)
+      (ap₂ (λ n x. book n x ∷ linesFrom (admitted way (loadedFrom s) .book) 0 (initial (admitted way (loadedFrom s) .book .rows)) (callsAfter (supply input .ending) ws)) z
+      (accepted-within way (loadedFrom s) z))
 
-  pub lines-refused : {s : Sections} {ws : List ℕ} → sectionsSaid input ≡ got s ws → ¬ (loadedFrom s .number ≡ ACCEPTED) → lines input ≡ book (loadedFrom s .number) ∷ []
+  pub lines-refused : {s : Sections} {ws : List ℕ} → sectionsSaid input ≡ got s ws → ¬ (admitted way (loadedFrom s) .number ≡ ACCEPTED) → lines way input ≡ book (admitted way (loadedFrom s) .number) (excessBy way (loadedFrom s .book .rows)) ∷ []
   unfolding lines bookLines bookThen
-  lines-refused {s} e z = rw (le-ltb LONGEST-INPUT (length input) fits, e, ne-eqb (loadedFrom s .number) ACCEPTED z)
+  lines-refused {s} e z = rw (le-ltb LONGEST-INPUT (length input) fits, e, ne-eqb (admitted way (loadedFrom s) .number) ACCEPTED z)
 
-  pub lines-unread : {n : ℕ} → sectionsSaid input ≡ refused n → lines input ≡ book n ∷ []
+  pub lines-unread : {n : ℕ} → sectionsSaid input ≡ refused n → lines way input ≡ book n Within ∷ []
   unfolding lines bookLines
   lines-unread e = rw (le-ltb LONGEST-INPUT (length input) fits, e)
 
-  whole-of : {s : Sections} {ws : List ℕ} → sectionsSaid input ≡ got s ws → loadedFrom s .number ≡ ACCEPTED → Whole input
+  whole-of : {s : Sections} {ws : List ℕ} → sectionsSaid input ≡ got s ws → admitted way (loadedFrom s) .number ≡ ACCEPTED → Whole way input
   unfolding linesFrom
   whole-of {s} {ws} e z =
-      let b = loadedFrom s .book in
+      let b = admitted way (loadedFrom s) .book in
       let ks = callsAfter (supply input .ending) ws .calls in
       let n = lines-length b 0 (initial (b .rows)) ks in
-      let said : ks ≡ callsSaid input = ap (λ (r : CallsRead). r .calls) (sym (read-as input e)) in
+      let said : ks ≡ callsSaid input = ap (λ (r : CallsRead). r .calls) (sym (read-as way input e)) in
       record {
         calls = linesOf b 0 (initial (b .rows)) ks;
-        loads = rw (loads-as input e) z;
-        all = lines-loaded e z ∙ ap (λ x. book ACCEPTED ∷ map called (linesOf b 0 (initial (b .rows)) ks) ++ last x ∷ []) (ap (λ (r : CallsRead). r .ends) (sym (read-as input e)));
+        loads = rw (loads-as way input e) z;
+        all = lines-loaded e z ∙ ap (λ x. book ACCEPTED Within ∷ map called (linesOf b 0 (initial (b .rows)) ks) ++ last x ∷ []) (ap (λ (r : CallsRead). r .ends) (sym (read-as way input e)));
         each = n ∙ ap length said;
         numbered = λ i h. ap (λ (l : CallLine). l .number) (said-at b ks i (omega arith)) ∙ number-of b (suc i) _;
-        in-order = λ i h. said-at b ks i (omega arith) ∙ ap₂ (sayings i) (sym (ap (λ (l : Loaded). l .book) (loads-as input e))) said;
+        in-order = λ i h. said-at b ks i (omega arith) ∙ ap₂ (sayings i) (sym (ap (λ (l : Loaded). l .book) (loads-as way input e))) said;
       }
 
-pub shape : (input : List ℕ) → Shape input
-unfolding loadedOf lines
-shape input = go (decLt LONGEST-INPUT (length input))
+pub shape : (way : Loading) (input : List ℕ) → Shape way input
+unfolding loadedOf excessOf lines
+shape way input = go (decLt LONGEST-INPUT (length input))
   where
-    by-number : (s : Sections) (ws : List ℕ) → length input ≤ LONGEST-INPUT → sectionsSaid input ≡ got s ws → Dec (loadedFrom s .number ≡ ACCEPTED) → Shape input
-    by-number s ws f e (yes z) = whole f (whole-of input f e z)
-    by-number s ws f e (no z) = refused-book (rw e z) (lines-refused input f e z ∙ ap (λ r. book (loadedOf r .number) ∷ []) (sym e))
+    by-number : (s : Sections) (ws : List ℕ) → length input ≤ LONGEST-INPUT → sectionsSaid input ≡ got s ws → Dec (admitted way (loadedFrom s) .number ≡ ACCEPTED) → Shape way input
+    by-number s ws f e (yes z) = whole f (whole-of way input f e z)
+    by-number s ws f e (no z) = refused-book (rw e z) (lines-refused way input f e z ∙ ap (λ r. book (loadedOf way r .number) (excessOf way r) ∷ []) (sym e))
 
-    by-read : (r : Read Sections) → length input ≤ LONGEST-INPUT → sectionsSaid input ≡ r → Shape input
-    by-read (got s ws) f e = by-number s ws f e (ℕ-discrete (loadedFrom s .number) ACCEPTED)
+    by-read : (r : Read Sections) → length input ≤ LONGEST-INPUT → sectionsSaid input ≡ r → Shape way input
+    by-read (got s ws) f e = by-number s ws f e (ℕ-discrete (admitted way (loadedFrom s) .number) ACCEPTED)
     by-read (refused n) f e =
         let m = sections-refused (supply input .ending) (small-ending input) (supply input .words) e in
-        refused-book (rw e (λ z. omega (arith, m .0))) (lines-unread input f e ∙ ap (λ r. book (loadedOf r .number) ∷ []) (sym e))
+        refused-book (rw e (λ z. omega (arith, m .0))) (lines-unread way input f e ∙ ap (λ r. book (loadedOf way r .number) (excessOf way r) ∷ []) (sym e))
 
-    go : Dec (LONGEST-INPUT < length input) → Shape input
+    go : Dec (LONGEST-INPUT < length input) → Shape way input
     go (yes h) = too-long h (rw (lt-ltb LONGEST-INPUT (length input) h))
     go (no h) = by-read (sectionsSaid input) (omega arith) refl
 
 -- ---- a call's line in a report
 -- line i is that of a call that the text says, after so many others
-pub record CalledLine (input : List ℕ) (i : ℕ) (l : CallLine) : Type 0 where
+pub record CalledLine (way : Loading) (input : List ℕ) (i : ℕ) (l : CallLine) : Type 0 where
   pub fits : length input ≤ LONGEST-INPUT
-  pub loads : loadedOf (sectionsSaid input) .number ≡ ACCEPTED
+  pub loads : loadedOf way (sectionsSaid input) .number ≡ ACCEPTED
   pub others : ℕ
   pub place : i ≡ suc others
   pub said : others < length (callsSaid input)
-  pub is : sayings others (bookSaid input) (callsSaid input) ≡ l
+  pub is : sayings others (bookSaid way input) (callsSaid input) ≡ l
 
-in-whole : (input : List ℕ) → length input ≤ LONGEST-INPUT → (w : Whole input) (i : ℕ) (l : CallLine) → getD (book ACCEPTED ∷ map called (w .calls) ++ last (endSaid input) ∷ []) i noLine ≡ called l → CalledLine input i l
-in-whole input f w zero l h = absurd (not-book h)
-in-whole input f w (suc i) l h =
+in-whole : (way : Loading) (input : List ℕ) → length input ≤ LONGEST-INPUT → (w : Whole way input) (i : ℕ) (l : CallLine) → getD (book ACCEPTED Within ∷ map called (w .calls) ++ last (endSaid input) ∷ []) i noLine ≡ called l → CalledLine way input i l
+in-whole way input f w zero l h = absurd (not-book h)
+in-whole way input f w (suc i) l h =
     let q = at-place (w .calls) (endSaid input) i l h in
     record { fits = f; loads = w .loads; others = i; place = refl; said = omega (arith, q .0, w .each); is = sym (w .in-order i (q .0)) ∙ q .1 }
 
-pub called-line : (input : List ℕ) (i : ℕ) {l : CallLine} → getD (lines input) i noLine ≡ called l → CalledLine input i l
-called-line input i {l} h = go (shape input)
+pub called-line : (way : Loading) (input : List ℕ) (i : ℕ) {l : CallLine} → getD (lines way input) i noLine ≡ called l → CalledLine way input i l
+called-line way input i {l} h = go (shape way input)
   where
-    go : Shape input → CalledLine input i l
-    go (whole f w) = in-whole input f w i l (ap (λ ls. getD ls i noLine) (sym (w .all)) ∙ h)
-    go (refused-book n e) = absurd (lone-line (book _) l not-book i (ap (λ ls. getD ls i noLine) (sym e) ∙ h))
+    go : Shape way input → CalledLine way input i l
+    go (whole f w) = in-whole way input f w i l (ap (λ ls. getD ls i noLine) (sym (w .all)) ∙ h)
+    go (refused-book n e) = absurd (lone-line (book _ _) l not-book i (ap (λ ls. getD ls i noLine) (sym e) ∙ h))
     go (too-long n e) = absurd (lone-line (last _) l not-last i (ap (λ ls. getD ls i noLine) (sym e) ∙ h))

@@ -11,9 +11,11 @@ use Rattle.text.specs.Words.{space, lineFeed, digit0, digit, allDigits, said}
 use Rattle.text.specs.Decimals.{digitsBefore, decimal}
 use Rattle.lists.proofs.Tests.{and-left, and-right}
 use Rattle.text.proofs.Back.{decimal-digits, decimal-says}
+use Rattle.book.specs.declared.strict.Excess.{Excess}
+use Rattle.book.specs.declared.strict.Excess.the-variants.{Within, Over}
 use Rattle.report.specs.Lines.{PropertyWord, Rest, nothing, told, CallLine, end, stop, Line, book, called, last}
-use Rattle.report.specs.Report.{bookLine, stopLine, endLine, lastLine, propertyWord, propertyWords, restWords, callLine, line, written}
-use Rattle.slip.specs.Back.{before, pieces, wordIn, wordThen, restIn, lineIn, linesIn}
+use Rattle.report.specs.Report.{excessWords, bookLine, stopLine, endLine, lastLine, propertyWord, propertyWords, restWords, callLine, line, written}
+use Rattle.slip.specs.Back.{before, pieces, wordIn, wordThen, restIn, excessSaid, lineIn, linesIn}
 
 -- ---- bytes without the one that parts them
 abbrev Clear : ℕ → List ℕ → Type 0
@@ -127,6 +129,29 @@ unfolding restWords
 clear-rest nothing = tt
 clear-rest (told ws count) = clear-append lineFeed (propertyWords ws) (space ∷ decimal count) (clear-words ws) ((λ e. omega arith), clear-decimal lineFeed (omega arith) count)
 
+-- ---- what strict loading refuses
+excess-pieces : Excess → List (List ℕ)
+excess-pieces Within = []
+excess-pieces (Over r n) = decimal r ∷ decimal n ∷ []
+
+excess-parted : (w : List ℕ) (e : Excess) → 0 < length w → Clear space w → pieces space (w ++ excessWords e) ≡ w ∷ excess-pieces e
+unfolding excessWords excess-pieces
+excess-parted w Within h c = rw append-nil (one-piece space w h c)
+excess-parted w (Over r n) h c =
+    first-piece space w (decimal r ++ space ∷ decimal n) c
+    ∙ ap (λ ps. w ∷ ps) (first-piece space (decimal r) (decimal n) (clear-decimal space (omega arith) r) ∙ ap (λ ps. decimal r ∷ ps) (number-piece n))
+
+excess-back : (e : Excess) → excessSaid (excess-pieces e) ≡ e
+unfolding excess-pieces excessSaid
+excess-back Within = refl
+excess-back (Over r n) = ap₂ Over (decimal-says r) (decimal-says n)
+
+clear-excess : (e : Excess) → Clear lineFeed (excessWords e)
+unfolding excessWords
+clear-excess Within = tt
+clear-excess (Over r n) =
+    ((λ h. omega arith), clear-append lineFeed (decimal r) (space ∷ decimal n) (clear-decimal lineFeed (omega arith) r) ((λ h. omega arith), clear-decimal lineFeed (omega arith) n))
+
 -- ---- a line without its line feed
 abbrev numbered : List ℕ → ℕ → List ℕ
 numbered w n = w ++ space ∷ decimal n
@@ -135,21 +160,36 @@ abbrev called-body : CallLine → List ℕ
 called-body l = decimal (l .number) ++ space ∷ (decimal (l .refusal) ++ restWords (l .rest))
 
 body : Line → List ℕ
-body (book n) = numbered (98 ∷ 111 ∷ 111 ∷ 107 ∷ []) n
+body (book n e) = numbered (98 ∷ 111 ∷ 111 ∷ 107 ∷ []) n ++ excessWords e
 body (called l) = called-body l
 body (last end) = 101 ∷ 110 ∷ 100 ∷ []
 body (last (stop n)) = numbered (115 ∷ 116 ∷ 111 ∷ 112 ∷ []) n
 
 line-body : (l : Line) (rest : List ℕ) → line l ++ rest ≡ body l ++ lineFeed ∷ rest
 unfolding line body bookLine stopLine endLine lastLine callLine
-line-body (book n) rest = simp append-assoc
+line-body (book n e) rest = simp append-assoc
 line-body (called l) rest = simp append-assoc
 line-body (last end) rest = refl
 line-body (last (stop n)) rest = simp append-assoc
 
 clear-body : (l : Line) → Clear lineFeed (body l)
 unfolding body
-clear-body (book n) = ((λ e. omega arith), ((λ e. omega arith), ((λ e. omega arith), ((λ e. omega arith), ((λ e. omega arith), clear-decimal lineFeed (omega arith) n)))))
+clear-body (book n e) = (
+  (λ h. omega arith),
+  (
+    (λ h. omega arith),
+    (
+      (λ h. omega arith),
+      (
+        (λ h. omega arith),
+        (
+          (λ h. omega arith),
+          clear-append lineFeed (decimal n) (excessWords e) (clear-decimal lineFeed (omega arith) n) (clear-excess e),
+        ),
+      ),
+    ),
+  ),
+)
 clear-body (called l) =
     clear-append lineFeed (decimal (l .number)) (space ∷ (decimal (l .refusal) ++ restWords (l .rest))) (clear-decimal lineFeed (omega arith) (l .number))
     ((λ e. omega arith), clear-append lineFeed (decimal (l .refusal)) (restWords (l .rest)) (clear-decimal lineFeed (omega arith) (l .refusal)) (clear-rest (l .rest)))
@@ -158,8 +198,13 @@ clear-body (last (stop n)) = ((λ e. omega arith), ((λ e. omega arith), ((λ e.
 
 body-back : (l : Line) → lineIn (pieces space (body l)) ≡ l
 unfolding body lineIn
-body-back (book n) =
-    rw (first-piece space (98 ∷ 111 ∷ 111 ∷ 107 ∷ []) (decimal n) ((λ e. omega arith), ((λ e. omega arith), ((λ e. omega arith), ((λ e. omega arith), tt)))), number-piece n, decimal-says n)
+body-back (book n e) =
+    rw (
+      first-piece space (98 ∷ 111 ∷ 111 ∷ 107 ∷ []) (decimal n ++ excessWords e) ((λ h. omega arith), ((λ h. omega arith), ((λ h. omega arith), ((λ h. omega arith), tt)))),
+      excess-parted (decimal n) e (some-digit n) (clear-decimal space (omega arith) n),
+      decimal-says n,
+      excess-back e,
+    )
 body-back (called l) =
     let d = first-digit (decimal (l .number)) (some-digit (l .number)) (decimal-digits (l .number)) in
     rw (

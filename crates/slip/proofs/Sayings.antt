@@ -14,6 +14,10 @@ use Rattle.pmtl.specs.Book.{Book, Ordered, properties}
 use Rattle.pmtl.specs.Monitor.{fullest}
 use Rattle.pmtl.specs.Calls.{Call, Outcome, call, after}
 use Rattle.book.specs.Reading.{Read, got, refused, Sections}
+use Rattle.book.specs.declared.strict.Loading.{Loading}
+use Rattle.book.specs.declared.strict.Excess.{Excess}
+use Rattle.book.specs.declared.strict.Excess.the-variants.{Within, Over}
+use Rattle.book.specs.Strict.{excessBy, unless}
 use Rattle.book.specs.Judging.{Loaded, judged, bookIn, refusedWith, loadedFrom}
 use Rattle.book.proofs.Ordered.{book-ordered}
 use Rattle.property_answers.specs.Verdict.{verdictIn}
@@ -31,10 +35,14 @@ loaded-ordered s = go (eqb (judged s) ACCEPTED) refl
     go true e = book-ordered s (eqb-true (judged s) ACCEPTED e)
     go false e = λ r. tt
 
-pub ordered : (r : Read Sections) → Ordered (loadedOf r .book .rows)
+unless-ordered : (e : Excess) (l : Loaded) → Ordered (l .book .rows) → Ordered (unless e l .book .rows)
+unless-ordered Within l w = w
+unless-ordered (Over r n) l w = λ q. tt
+
+pub ordered : (way : Loading) (r : Read Sections) → Ordered (loadedOf way r .book .rows)
 unfolding loadedOf
-ordered (got s ws) = loaded-ordered s
-ordered (refused n) = λ r. tt
+ordered way (got s ws) = unless-ordered (excessBy way (loadedFrom s .book .rows)) (loadedFrom s) (loaded-ordered s)
+ordered way (refused n) = λ r. tt
 
 -- ---- the words of an accepted call's line
 words-at : (b : Book) (i : ℕ) (o : Outcome) → lineOf b i o .refusal ≡ ACCEPTED → length (wordsIn (lineOf b i o .rest)) ≡ length (properties b)
@@ -56,44 +64,50 @@ unfolding lineOf
 none-at b i o n = rw (ne-eqb (o .number) ACCEPTED n)
 
 -- the answers of property p after the first i calls of a text
-abbrev pub answered : List ℕ → ℕ → ℕ → PropertyWord
-answered input i p = wordOf (verdictIn (bookSaid input) (after (bookSaid input .rows) (firstCalls input i)) p)
+abbrev pub answered : Loading → List ℕ → ℕ → ℕ → PropertyWord
+answered way input i p = wordOf (verdictIn (bookSaid way input) (after (bookSaid way input .rows) (firstCalls input i)) p)
 
-module _ (input : List ℕ) {i : ℕ} {l : CallLine} (c : CalledLine input i l) (z : l .refusal ≡ ACCEPTED) where
+module _ (way : Loading) (input : List ℕ) {i : ℕ} {l : CallLine} (c : CalledLine way input i l) (z : l .refusal ≡ ACCEPTED) where
   abbrev outcome : Outcome
-  outcome = call (bookSaid input .rows) (after (bookSaid input .rows) (firstCalls input (c .others))) (getD (callsSaid input) (c .others) missingCall)
+  outcome = call (bookSaid way input .rows) (after (bookSaid way input .rows) (firstCalls input (c .others))) (getD (callsSaid input) (c .others) missingCall)
 
-  accepted : lineOf (bookSaid input) (suc (c .others)) outcome .refusal ≡ ACCEPTED
+  accepted : lineOf (bookSaid way input) (suc (c .others)) outcome .refusal ≡ ACCEPTED
   accepted = ap (λ (x : CallLine). x .refusal) (c .is) ∙ z
 
   -- it has a word for each property
-  pub word-each : length (wordsIn (l .rest)) ≡ length (properties (bookSaid input))
-  word-each = ap (λ (x : CallLine). length (wordsIn (x .rest))) (sym (c .is)) ∙ words-at (bookSaid input) (suc (c .others)) outcome accepted
+  pub word-each : length (wordsIn (l .rest)) ≡ length (properties (bookSaid way input))
+  word-each = ap (λ (x : CallLine). length (wordsIn (x .rest))) (sym (c .is)) ∙ words-at (bookSaid way input) (suc (c .others)) outcome accepted
 
   -- the digits of the answers after the calls up to that line
-  word-here : (p : ℕ) → p < length (wordsIn (l .rest)) → getD (wordsIn (l .rest)) p noWord ≡ answered input i p
+  word-here : (p : ℕ) → p < length (wordsIn (l .rest)) → getD (wordsIn (l .rest)) p noWord ≡ answered way input i p
   unfolding after
   word-here p h =
       ap (λ (x : CallLine). getD (wordsIn (x .rest)) p noWord) (sym (c .is))
-      ∙ word-at (bookSaid input) (suc (c .others)) outcome p accepted (subst (λ (x : CallLine). p < length (wordsIn (x .rest))) (sym (c .is)) h)
-      ∙ ap (λ ks. wordOf (verdictIn (bookSaid input) (after (bookSaid input .rows) ks) p)) (sym (one-more (callsSaid input) [] (c .others) (c .said)))
-      ∙ ap (λ n. answered input n p) (sym (c .place))
+      ∙ word-at (bookSaid way input) (suc (c .others)) outcome p accepted (subst (λ (x : CallLine). p < length (wordsIn (x .rest))) (sym (c .is)) h)
+      ∙ ap (λ ks. wordOf (verdictIn (bookSaid way input) (after (bookSaid way input .rows) ks) p)) (sym (one-more (callsSaid input) [] (c .others) (c .said)))
+      ∙ ap (λ n. answered way input n p) (sym (c .place))
 
   -- how many runs the fullest set has after the calls up to that line
-  pub count-here : countIn (l .rest) ≡ fullest (after (bookSaid input .rows) (firstCalls input i))
+  pub count-here : countIn (l .rest) ≡ fullest (after (bookSaid way input .rows) (firstCalls input i))
   unfolding after
   count-here =
       ap (λ (x : CallLine). countIn (x .rest)) (sym (c .is))
-      ∙ count-at (bookSaid input) (suc (c .others)) outcome accepted
-      ∙ ap (λ ks. fullest (after (bookSaid input .rows) ks)) (sym (one-more (callsSaid input) [] (c .others) (c .said)))
-      ∙ ap (λ n. fullest (after (bookSaid input .rows) (firstCalls input n))) (sym (c .place))
+      ∙ count-at (bookSaid way input) (suc (c .others)) outcome accepted
+      ∙ ap (λ ks. fullest (after (bookSaid way input .rows) ks)) (sym (one-more (callsSaid input) [] (c .others) (c .said)))
+      ∙ ap (λ n. fullest (after (bookSaid way input .rows) (firstCalls input n))) (sym (c .place))
+
+-- the number on a call's line is what the call hands back after those before it
+pub refusal-here : (way : Loading) (input : List ℕ) {i : ℕ} {l : CallLine} (c : CalledLine way input i l)
+    → l .refusal ≡ call (bookSaid way input .rows) (after (bookSaid way input .rows) (firstCalls input (c .others))) (getD (callsSaid input) (c .others) missingCall) .number
+unfolding lineOf
+refusal-here way input c = ap (λ (x : CallLine). x .refusal) (sym (c .is))
 
 -- a refused call's line has nothing after its refusal
-pub nothing-here : (input : List ℕ) {i : ℕ} {l : CallLine} → CalledLine input i l → ¬ (l .refusal ≡ ACCEPTED) → l .rest ≡ nothing
-nothing-here input c n = ap (λ (x : CallLine). x .rest) (sym (c .is)) ∙ none-at (bookSaid input) (suc (c .others)) _ (λ z. n (ap (λ (x : CallLine). x .refusal) (sym (c .is)) ∙ z))
+pub nothing-here : (way : Loading) (input : List ℕ) {i : ℕ} {l : CallLine} → CalledLine way input i l → ¬ (l .refusal ≡ ACCEPTED) → l .rest ≡ nothing
+nothing-here way input c n = ap (λ (x : CallLine). x .rest) (sym (c .is)) ∙ none-at (bookSaid way input) (suc (c .others)) _ (λ z. n (ap (λ (x : CallLine). x .refusal) (sym (c .is)) ∙ z))
 
-pub word-is : (input : List ℕ) {i p : ℕ} {w : PropertyWord} → Says (lines input) i p w → w ≡ answered input i p
-word-is input {i} {p} s = sym (s .word) ∙ word-here input (called-line input i (s .stands)) (s .accepted) p (s .there)
+pub word-is : (way : Loading) (input : List ℕ) {i p : ℕ} {w : PropertyWord} → Says (lines way input) i p w → w ≡ answered way input i p
+word-is way input {i} {p} s = sym (s .word) ∙ word-here way input (called-line way input i (s .stands)) (s .accepted) p (s .there)
 
 -- ---- more calls come before those that were there
 pub calls-go-on : (input : List ℕ) (i j : ℕ) → i ≤ j → (more : List Call) × (firstCalls input j ≡ more ++ firstCalls input i)

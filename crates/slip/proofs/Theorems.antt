@@ -1,12 +1,15 @@
--- What a report says, for every input: the demands of the printed lines. Line 0 is the book's, line i that of call i. Nothing is assumed.
+-- What a report says, for every input, in either way of loading its book: the demands of the printed lines. Line 0 is the book's, line i that of call i. Nothing is assumed.
 use Prim.Native.Nat.{ℕ, _≤_}
 use native.Mathlib.Omega.{arith}
 use mathlib.Core.Path.{_≡_, refl, sym, ap, _∙_}
-use mathlib.Core.Bool.{Bool, true, false}
-use mathlib.Core.List.{List}
+use mathlib.Core.Bool.{Bool, true, false, cond}
+use mathlib.Core.List.{List, [], _∷_}
 use lib.ListN.{length, getD}
-use Rattle.numbers.specs.Limits.{MOST-RUNS, LONGEST-REPORT}
-use Rattle.numbers.specs.Refusals.{ACCEPTED}
+use lib.Dec.{ltb, eqb}
+use borrow.Author.Tests.{le-ltb}
+use Rattle.numbers.specs.Limits.{MOST-RUNS, LONGEST-INPUT, LONGEST-REPORT}
+use Rattle.numbers.specs.Refusals.{ACCEPTED, PAST-LIMIT, NO-ROOM, COULD-RUN-OUT}
+use Rattle.text.specs.Words.{supply}
 use Rattle.pmtl.specs.Book.{properties}
 use Rattle.pmtl.specs.declared.Answer.{Answer}
 use Rattle.pmtl.specs.declared.Answer.the-variants.{False, True, Open}
@@ -15,25 +18,35 @@ use Rattle.pmtl.specs.Monitor.{fullest, value}
 use Rattle.pmtl.specs.Settled.{settled}
 use Rattle.pmtl.specs.Calls.{after, accepted}
 use Rattle.pmtl.specs.Meaning.{meaning}
+use Rattle.pmtl.specs.Strict.{neededBy, Strict as IsStrict}
+use Rattle.pmtl.proofs.Strict.{never-eleven as strict-never}
 use Rattle.pmtl.proofs.Theorems.{demand-2, demand-3}
 use Rattle.pmtl.proofs.Fullest.{fullest-few}
+use Rattle.book.specs.declared.strict.Loading.{Loading}
+use Rattle.book.specs.declared.strict.Loading.the-variants.{Ordinary, Strict}
+use Rattle.book.specs.declared.strict.Excess.{Excess}
+use Rattle.book.specs.declared.strict.Excess.the-variants.{Within, Over}
+use Rattle.book.specs.Reading.{Read, got, refused, Sections}
+use Rattle.book.specs.Judging.{Loaded, loadedFrom}
+use Rattle.book.specs.Strict.{excessIn, unless}
+use Rattle.book.proofs.Excess.{admitted-strict}
 use Rattle.property_answers.specs.Verdict.{propertyAt, verdictIn}
-use Rattle.report.specs.Lines.{PropertyWord, nothing, wordsIn, countIn, CallLine, Line, called, wordOf, lines}
+use Rattle.report.specs.Lines.{PropertyWord, nothing, wordsIn, countIn, CallLine, stop, Line, book, called, last, wordOf, callLines, bookThen, bookLines, lines}
 use Rattle.report.specs.Report.{written, report}
 use Rattle.slip.specs.Back.{linesIn}
-use Rattle.slip.specs.Says.{sectionsSaid, bookSaid, firstCalls, noLine, Says, Shape}
+use Rattle.slip.specs.Says.{sectionsSaid, loadedOf, bookSaid, excessOf, callsSaid, firstCalls, noLine, missingCall, Says, Shape}
 use Rattle.slip.specs.TakenOut.{CallAt, TakenOut, without}
 use Rattle.slip.specs.Longest.{longest}
 use Rattle.slip.proofs.Reading.{lines-back}
 use Rattle.slip.proofs.Places.{shape, called-line}
-use Rattle.slip.proofs.Sayings.{ordered, word-each, count-here, nothing-here, word-is, calls-go-on}
+use Rattle.slip.proofs.Sayings.{ordered, word-each, count-here, refusal-here, nothing-here, word-is, calls-go-on}
 use Rattle.slip.proofs.Traces.{no-trace, call-at}
 use Rattle.slip.proofs.Lengths.{at-most-longest, room-enough}
 
 -- ---- READING BACK: the bytes of a report say its lines
-pub read-back : (input : List ℕ) → linesIn (report input) ≡ lines input
+pub read-back : (way : Loading) (input : List ℕ) → linesIn (report way input) ≡ lines way input
 unfolding report
-read-back input = lines-back (lines input)
+read-back way input = lines-back (lines way input)
 
 -- and no two lists of lines are written alike
 pub written-once : (ls ls′ : List Line) → written ls ≡ written ls′ → ls ≡ ls′
@@ -41,33 +54,33 @@ written-once ls ls′ e = sym (lines-back ls) ∙ ap linesIn e ∙ lines-back ls
 
 -- ---- what a word says
 -- the three digits on an accepted line are those of the answers after the calls that the text says up to that line
-pub word-says : (input : List ℕ) {i p : ℕ} {w : PropertyWord} → Says (lines input) i p w
-    → w ≡ wordOf (verdictIn (bookSaid input) (after (bookSaid input .rows) (firstCalls input i)) p)
-word-says input s = word-is input s
+pub word-says : (way : Loading) (input : List ℕ) {i p : ℕ} {w : PropertyWord} → Says (lines way input) i p w
+    → w ≡ wordOf (verdictIn (bookSaid way input) (after (bookSaid way input .rows) (firstCalls input i)) p)
+word-says way input s = word-is way input s
 
 -- and an accepted line has such a word for each property
-pub word-for-each : (input : List ℕ) (i : ℕ) {l : CallLine} → getD (lines input) i noLine ≡ called l → l .refusal ≡ ACCEPTED → length (wordsIn (l .rest)) ≡ length (properties (bookSaid input))
-word-for-each input i h z = word-each input (called-line input i h) z
+pub word-for-each : (way : Loading) (input : List ℕ) (i : ℕ) {l : CallLine} → getD (lines way input) i noLine ≡ called l → l .refusal ≡ ACCEPTED → length (wordsIn (l .rest)) ≡ length (properties (bookSaid way input))
+word-for-each way input i h z = word-each way input (called-line way input i h) z
 
 -- ---- THE COUNT, the last word of an accepted line: how many runs the fullest set has after the calls that the text says up to that line
-pub count-says : (input : List ℕ) (i : ℕ) {l : CallLine} → getD (lines input) i noLine ≡ called l → l .refusal ≡ ACCEPTED → countIn (l .rest) ≡ fullest (after (bookSaid input .rows) (firstCalls input i))
-count-says input i h z = count-here input (called-line input i h) z
+pub count-says : (way : Loading) (input : List ℕ) (i : ℕ) {l : CallLine} → getD (lines way input) i noLine ≡ called l → l .refusal ≡ ACCEPTED → countIn (l .rest) ≡ fullest (after (bookSaid way input .rows) (firstCalls input i))
+count-says way input i h z = count-here way input (called-line way input i h) z
 
 -- it never passes the limit
-pub count-few : (input : List ℕ) (i : ℕ) {l : CallLine} → getD (lines input) i noLine ≡ called l → l .refusal ≡ ACCEPTED → countIn (l .rest) ≤ MOST-RUNS
-count-few input i h z = rw (count-says input i h z) (fullest-few (bookSaid input .rows) (firstCalls input i))
+pub count-few : (way : Loading) (input : List ℕ) (i : ℕ) {l : CallLine} → getD (lines way input) i noLine ≡ called l → l .refusal ≡ ACCEPTED → countIn (l .rest) ≤ MOST-RUNS
+count-few way input i h z = rw (count-says way input i h z) (fullest-few (bookSaid way input .rows) (firstCalls input i))
 
 -- a refused line has neither words nor count
-pub refused-says-nothing : (input : List ℕ) (i : ℕ) {l : CallLine} → getD (lines input) i noLine ≡ called l → ¬ (l .refusal ≡ ACCEPTED) → l .rest ≡ nothing
-refused-says-nothing input i h n = nothing-here input (called-line input i h) n
+pub refused-says-nothing : (way : Loading) (input : List ℕ) (i : ℕ) {l : CallLine} → getD (lines way input) i noLine ≡ called l → ¬ (l .refusal ≡ ACCEPTED) → l .rest ≡ nothing
+refused-says-nothing way input i h n = nothing-here way input (called-line way input i h) n
 
 -- DEMAND 2 of the slip: the value digit is what the property's row means on those of the calls up to that line that were accepted
-pub value-means : (input : List ℕ) {i p : ℕ} {w : PropertyWord} → Says (lines input) i p w
-    → w .value ≡ bitOf (meaning (bookSaid input .rows) (propertyAt (bookSaid input) p) (accepted (bookSaid input .rows) (firstCalls input i)))
+pub value-means : (way : Loading) (input : List ℕ) {i p : ℕ} {w : PropertyWord} → Says (lines way input) i p w
+    → w .value ≡ bitOf (meaning (bookSaid way input .rows) (propertyAt (bookSaid way input) p) (accepted (bookSaid way input .rows) (firstCalls input i)))
 unfolding verdictIn
-value-means input {i} {p} s =
-    ap (λ (x : PropertyWord). x .value) (word-is input s)
-    ∙ ap bitOf (demand-2 (bookSaid input .rows) (ordered (sectionsSaid input)) (firstCalls input i) (propertyAt (bookSaid input) p))
+value-means way input {i} {p} s =
+    ap (λ (x : PropertyWord). x .value) (word-is way input s)
+    ∙ ap bitOf (demand-2 (bookSaid way input .rows) (ordered way (sectionsSaid input)) (firstCalls input i) (propertyAt (bookSaid way input) p))
 
 -- DEMAND 3 of the slip, never taken back: where the settled digit is 0 or 1, the value digit of that line is the same, and so are the value and the
 -- settled digit of that property on every later accepted line
@@ -81,47 +94,88 @@ digit-of-known true = refl
 digit-of-known false = refl
 
 -- what the settled answer after the calls up to line i makes of the word on line j
-settled-on : (input : List ℕ) (i j p : ℕ) (x : Bool) {w : PropertyWord} → i ≤ j → settled (bookSaid input .rows) (after (bookSaid input .rows) (firstCalls input i)) (propertyAt (bookSaid input) p) ≡ known x
-    → Says (lines input) j p w → (w .value ≡ bitOf x) × (w .settled ≡ bitOf x)
+settled-on : (way : Loading) (input : List ℕ) (i j p : ℕ) (x : Bool) {w : PropertyWord} → i ≤ j → settled (bookSaid way input .rows) (after (bookSaid way input .rows) (firstCalls input i)) (propertyAt (bookSaid way input) p) ≡ known x
+    → Says (lines way input) j p w → (w .value ≡ bitOf x) × (w .settled ≡ bitOf x)
 unfolding verdictIn
-settled-on input i j p x h e s =
-    let b = bookSaid input .rows in
-    let r = propertyAt (bookSaid input) p in
+settled-on way input i j p x h e s =
+    let b = bookSaid way input .rows in
+    let r = propertyAt (bookSaid way input) p in
     let m = calls-go-on input i j h in
-    let d = rw (sym (m .1)) at (demand-3 b (ordered (sectionsSaid input)) (firstCalls input i) r (m .0) x e) in (
-      ap (λ (v : PropertyWord). v .value) (word-is input s) ∙ ap bitOf (d .0),
-      ap (λ (v : PropertyWord). v .settled) (word-is input s) ∙ ap digitOf (d .1) ∙ digit-of-known x,
+    let d = rw (sym (m .1)) at (demand-3 b (ordered way (sectionsSaid input)) (firstCalls input i) r (m .0) x e) in (
+      ap (λ (v : PropertyWord). v .value) (word-is way input s) ∙ ap bitOf (d .0),
+      ap (λ (v : PropertyWord). v .settled) (word-is way input s) ∙ ap digitOf (d .1) ∙ digit-of-known x,
     )
 
-pub never-taken-back : (input : List ℕ) {i j p : ℕ} {w w′ : PropertyWord} → Says (lines input) i p w → Says (lines input) j p w′ → i ≤ j → w .settled ≤ 1
+pub never-taken-back : (way : Loading) (input : List ℕ) {i j p : ℕ} {w w′ : PropertyWord} → Says (lines way input) i p w → Says (lines way input) j p w′ → i ≤ j → w .settled ≤ 1
     → (w .value ≡ w .settled) × (w′ .value ≡ w .settled) × (w′ .settled ≡ w .settled)
 unfolding verdictIn
-never-taken-back input {i} {j} {p} {w} s s′ h small =
-    let a = settled (bookSaid input .rows) (after (bookSaid input .rows) (firstCalls input i)) (propertyAt (bookSaid input) p) in
-    let is : w .settled ≡ digitOf a = ap (λ (v : PropertyWord). v .settled) (word-is input s) in
+never-taken-back way input {i} {j} {p} {w} s s′ h small =
+    let a = settled (bookSaid way input .rows) (after (bookSaid way input .rows) (firstCalls input i)) (propertyAt (bookSaid way input) p) in
+    let is : w .settled ≡ digitOf a = ap (λ (v : PropertyWord). v .settled) (word-is way input s) in
     let k = known-digit a (omega arith) in
-    let here = settled-on input i i p (k .0) (omega arith) (k .1) s in
-    let later = settled-on input i j p (k .0) h (k .1) s′ in
+    let here = settled-on way input i i p (k .0) (omega arith) (k .1) s in
+    let later = settled-on way input i j p (k .0) h (k .1) s′ in
     (here .0 ∙ sym (here .1), later .0 ∙ sym (here .1), later .1 ∙ sym (here .1))
+
+-- ---- STRICT LOADING: no line of a call ever says 11
+strict-book : (r : Read Sections) → IsStrict (loadedOf Strict r .book .rows)
+unfolding loadedOf neededBy
+strict-book (got s ws) = admitted-strict (loadedFrom s)
+strict-book (refused n) = λ r. omega arith
+
+pub never-eleven : (input : List ℕ) (i : ℕ) {l : CallLine} → getD (lines Strict input) i noLine ≡ called l → ¬ (l .refusal ≡ NO-ROOM)
+never-eleven input i h e =
+    let c = called-line Strict input i h in
+    strict-never (bookSaid Strict input .rows) (ordered Strict (sectionsSaid input)) (strict-book (sectionsSaid input)) (firstCalls input (c .others))
+    (getD (callsSaid input) (c .others) missingCall) (sym (refusal-here Strict input c) ∙ e)
+
+-- where no row is refused, the report is the ordinary one, byte for byte
+pub strict-as-ordinary : (input : List ℕ) → excessOf Strict (sectionsSaid input) ≡ Within → report Strict input ≡ report Ordinary input
+unfolding report lines bookLines bookThen excessOf
+strict-as-ordinary input h =
+    ap (λ ls. written (cond (ltb LONGEST-INPUT (length input)) (last (stop PAST-LIMIT) ∷ []) ls)) (same-lines (sectionsSaid input) h)
+  where
+    same-book : (e : Excess) (l : Loaded) (ending : ℕ) (ws : List ℕ) → e ≡ Within
+        → _≡_ {A = List Line} (book (unless e l .number) e ∷ cond (eqb (unless e l .number) ACCEPTED) (callLines (unless e l .book) ending ws) [])
+        (book (l .number) Within ∷ cond (eqb (l .number) ACCEPTED) (callLines (l .book) ending ws) [])
+    same-book e l ending ws z = rw z
+
+    same-lines : (r : Read Sections) → excessOf Strict r ≡ Within → bookLines Strict r (supply input .ending) ≡ bookLines Ordinary r (supply input .ending)
+    same-lines (got s ws) z = same-book (excessIn (loadedFrom s .book .rows)) (loadedFrom s) (supply input .ending) ws z
+    same-lines (refused n) z = refl
+
+-- where one is, the report is one line: 15, the first row that can need more runs than a set may have, and how many it can need
+pub strict-refuses : (input : List ℕ) {row count : ℕ} → length input ≤ LONGEST-INPUT → excessOf Strict (sectionsSaid input) ≡ Over row count
+    → lines Strict input ≡ book COULD-RUN-OUT (Over row count) ∷ []
+unfolding lines bookLines bookThen excessOf
+strict-refuses input {row} {count} f h = rw (le-ltb LONGEST-INPUT (length input) f) (go (sectionsSaid input) h)
+  where
+    one-line : (e : Excess) (l : Loaded) (ending : ℕ) (ws : List ℕ) → e ≡ Over row count
+        → _≡_ {A = List Line} (book (unless e l .number) e ∷ cond (eqb (unless e l .number) ACCEPTED) (callLines (unless e l .book) ending ws) []) (book COULD-RUN-OUT (Over row count) ∷ [])
+    one-line e l ending ws z = rw z
+
+    go : (r : Read Sections) → excessOf Strict r ≡ Over row count → bookLines Strict r (supply input .ending) ≡ book COULD-RUN-OUT (Over row count) ∷ []
+    go (got s ws) z = one-line (excessIn (loadedFrom s .book .rows)) (loadedFrom s) (supply input .ending) ws z
+    go (refused n) z = absurd (let y : _≡_ {A = ℕ} 0 1 = cc in omega arith)
 
 -- ---- REFUSED LINES LEAVE NO TRACE
 -- whatever call has a line, its words stand in the text
-pub call-said : (input : List ℕ) (i : ℕ) {l : CallLine} → getD (lines input) i noLine ≡ called l → CallAt input i
-call-said = call-at
+pub call-said : (way : Loading) (input : List ℕ) (i : ℕ) {l : CallLine} → getD (lines way input) i noLine ≡ called l → CallAt input i
+call-said way input = call-at input way
 
 -- a text without the words of a refused call, its count one less, has the same lines but for that one and the numbering
-pub refused-leaves-no-trace : {input : List ℕ} {i : ℕ} (c : CallAt input i) {l : CallLine} → getD (lines input) i noLine ≡ called l → ¬ (l .refusal ≡ ACCEPTED)
-    → {other : List ℕ} → TakenOut c other → lines other ≡ without i (lines input)
-refused-leaves-no-trace c h n t = no-trace c h n t
+pub refused-leaves-no-trace : (way : Loading) {input : List ℕ} {i : ℕ} (c : CallAt input i) {l : CallLine} → getD (lines way input) i noLine ≡ called l → ¬ (l .refusal ≡ ACCEPTED)
+    → {other : List ℕ} → TakenOut c other → lines way other ≡ without i (lines way input)
+refused-leaves-no-trace way c h n t = no-trace way c h n t
 
 -- ---- ONE LINE FOR EACH CALL read, in order, numbered from 1, and one last line; nothing after a refused book
-pub one-line-each : (input : List ℕ) → Shape input
+pub one-line-each : (way : Loading) (input : List ℕ) → Shape way input
 one-line-each = shape
 
 -- ---- HOW LONG a report gets
-pub no-longer : (input : List ℕ) → length (report input) ≤ longest (length input)
+pub no-longer : (way : Loading) (input : List ℕ) → length (report way input) ≤ longest (length input)
 no-longer = at-most-longest
 
 -- so there is room for every report
-pub always-room : (input : List ℕ) → length (report input) ≤ LONGEST-REPORT
+pub always-room : (way : Loading) (input : List ℕ) → length (report way input) ≤ LONGEST-REPORT
 always-room = room-enough

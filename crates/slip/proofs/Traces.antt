@@ -13,6 +13,9 @@ use Rattle.pmtl.specs.Monitor.{State, initial}
 use Rattle.pmtl.specs.Calls.{Call, Outcome, call, after}
 use Rattle.pmtl.proofs.Theorems.{refused-changes-nothing}
 use Rattle.book.specs.Reading.{Read, got, refused, Sections}
+use Rattle.book.specs.declared.strict.Loading.{Loading}
+use Rattle.book.specs.declared.strict.Excess.the-variants.{Within}
+use Rattle.book.specs.Strict.{admitted}
 use Rattle.book.specs.Judging.{Loaded, loadedFrom}
 use Rattle.report.specs.Lines.{Rest, CallLine, Ending, Line, book, called, last, CallsRead, callThen, callsFrom, callsAfter, lineOf, linesOf, linesFrom, lines}
 use Rattle.slip.specs.Says.{sectionsSaid, wordsAfter, noLine, missingCall}
@@ -46,7 +49,7 @@ module _ (b : Book) (e : Ending) where
   cut done past (x ∷ before) k later n = ap (λ ls. called (lineOf b (suc done) (call (b .rows) (after (b .rows) past) x)) ∷ ls) (cut (suc done) (x ∷ past) before k later n)
 
 -- ---- the calls of the text, and of the text without one
-module _ {input : List ℕ} {i : ℕ} (c : CallAt input i) where
+module _ (way : Loading) {input : List ℕ} {i : ℕ} (c : CallAt input i) where
   abbrev onward : ℕ → CallsRead
   onward ending = callsFrom ending (c .fewer - length (c .before)) (c .rest)
 
@@ -66,9 +69,9 @@ module _ {input : List ℕ} {i : ℕ} (c : CallAt input i) where
       let e : c .fewer ≡ length (c .before) + n = omega (arith, c .counted) in
       ap (λ m. callsFrom ending m (allWords (c .before) ++ c .rest)) e ∙ first-calls ending (c .before) (c .fits-before) n (c .rest)
 
-  module _ (fits : length input ≤ LONGEST-INPUT) (z : loadedFrom (c .book) .number ≡ ACCEPTED) where
+  module _ (fits : length input ≤ LONGEST-INPUT) (z : admitted way (loadedFrom (c .book)) .number ≡ ACCEPTED) where
     abbrev loaded : Book
-    loaded = loadedFrom (c .book) .book
+    loaded = admitted way (loadedFrom (c .book)) .book
 
     abbrev later : CallsRead
     later = onward (supply input .ending)
@@ -76,19 +79,19 @@ module _ {input : List ℕ} {i : ℕ} (c : CallAt input i) where
     abbrev outcome : Outcome
     outcome = call (loaded .rows) (after (loaded .rows) (reverse (c .before))) (c .itself)
 
-    lines-are : lines input ≡ book ACCEPTED ∷ ends loaded (later .ends) (linesOf loaded 0 (initial (loaded .rows)) (c .before ++ c .itself ∷ later .calls))
+    lines-are : lines way input ≡ book ACCEPTED Within ∷ ends loaded (later .ends) (linesOf loaded 0 (initial (loaded .rows)) (c .before ++ c .itself ∷ later .calls))
     unfolding linesFrom ends
-    lines-are = lines-loaded input fits (c .words) z ∙ ap (λ r. book ACCEPTED ∷ linesFrom loaded 0 (initial (loaded .rows)) r) (with-it (supply input .ending))
+    lines-are = lines-loaded way input fits (c .words) z ∙ ap (λ r. book ACCEPTED Within ∷ linesFrom loaded 0 (initial (loaded .rows)) r) (with-it (supply input .ending))
 
-    others-are : {other : List ℕ} → TakenOut c other → lines other ≡ book ACCEPTED ∷ ends loaded (later .ends) (linesOf loaded 0 (initial (loaded .rows)) (c .before ++ later .calls))
+    others-are : {other : List ℕ} → TakenOut c other → lines way other ≡ book ACCEPTED Within ∷ ends loaded (later .ends) (linesOf loaded 0 (initial (loaded .rows)) (c .before ++ later .calls))
     unfolding linesFrom ends
     others-are {other} t =
-        lines-loaded other (t .short) (t .words) z
-        ∙ ap (λ r. book ACCEPTED ∷ linesFrom loaded 0 (initial (loaded .rows)) r)
+        lines-loaded way other (t .short) (t .words) z
+        ∙ ap (λ r. book ACCEPTED Within ∷ linesFrom loaded 0 (initial (loaded .rows)) r)
         (ap (λ e. callsAfter e (c .fewer ∷ (allWords (c .before) ++ c .rest))) (t .ending) ∙ without-it (supply input .ending))
 
     -- the line says what came of the call
-    its-line : {l : CallLine} → getD (lines input) i noLine ≡ called l → l .refusal ≡ outcome .number
+    its-line : {l : CallLine} → getD (lines way input) i noLine ≡ called l → l .refusal ≡ outcome .number
     unfolding ends after lineOf
     its-line {l} h =
         let ks = c .before ++ c .itself ∷ later .calls in
@@ -97,17 +100,17 @@ module _ {input : List ℕ} {i : ℕ} (c : CallAt input i) where
         ap (λ (x : CallLine). x .refusal) (sym (q .1) ∙ a)
         ∙ ap₂ (λ xs k. call (loaded .rows) (after (loaded .rows) (reverse xs)) k .number) (take-append-seam (c .before) (c .itself ∷ later .calls)) (getD-append-seam (c .before) (c .itself) (later .calls) missingCall)
 
-    lines-cut : {other : List ℕ} → ¬ (outcome .number ≡ ACCEPTED) → TakenOut c other → lines other ≡ without i (lines input)
+    lines-cut : {other : List ℕ} → ¬ (outcome .number ≡ ACCEPTED) → TakenOut c other → lines way other ≡ without i (lines way input)
     unfolding without after
     lines-cut n t =
         others-are t
-        ∙ ap (λ ls. book ACCEPTED ∷ ls) (sym (cut loaded (later .ends) 0 [] (c .before) (c .itself) (later .calls) n))
+        ∙ ap (λ ls. book ACCEPTED Within ∷ ls) (sym (cut loaded (later .ends) 0 [] (c .before) (c .itself) (later .calls) n))
         ∙ ap₂ without (sym (c .place)) (sym lines-are)
 
-  pub no-trace : {l : CallLine} → getD (lines input) i noLine ≡ called l → ¬ (l .refusal ≡ ACCEPTED) → {other : List ℕ} → TakenOut c other → lines other ≡ without i (lines input)
+  pub no-trace : {l : CallLine} → getD (lines way input) i noLine ≡ called l → ¬ (l .refusal ≡ ACCEPTED) → {other : List ℕ} → TakenOut c other → lines way other ≡ without i (lines way input)
   no-trace h n t =
-      let k = called-line input i h in
-      let z : loadedFrom (c .book) .number ≡ ACCEPTED = ap (λ (x : Loaded). x .number) (sym (loads-as input (c .words))) ∙ k .loads in
+      let k = called-line way input i h in
+      let z : admitted way (loadedFrom (c .book)) .number ≡ ACCEPTED = ap (λ (x : Loaded). x .number) (sym (loads-as way input (c .words))) ∙ k .loads in
       lines-cut (k .fits) z (λ y. n (its-line (k .fits) z h ∙ y)) t
 
 -- ---- every line of a call has its words in the text
@@ -155,5 +158,5 @@ module _ (input : List ℕ) where
   said-at (got s (count ∷ ws)) e j h = heard-at e (callsFrom (supply input .ending) count ws) (calls-read (supply input .ending) (small-ending input) count ws) j h
   said-at (refused n) e j h = absurd (omega arith)
 
-  pub call-at : (i : ℕ) {l : CallLine} → getD (lines input) i noLine ≡ called l → CallAt input i
-  call-at i h = let k = called-line input i h in subst (CallAt input) (sym (k .place)) (said-at (sectionsSaid input) refl (k .others) (k .said))
+  pub call-at : (way : Loading) (i : ℕ) {l : CallLine} → getD (lines way input) i noLine ≡ called l → CallAt input i
+  call-at way i h = let k = called-line way input i h in subst (CallAt input) (sym (k .place)) (said-at (sectionsSaid input) refl (k .others) (k .said))

@@ -17,24 +17,20 @@ use Rattle.report.specs.Lines.{timeFrom, stateFrom, stampedFrom, callFrom}
 use Rattle.slip.specs.TakenOut.{callWords, Fits}
 
 -- ---- sections
--- what is read of words takes so many of them at least
-unfoldable Sized : {A : Type 0} → (A → Type 0) → ℕ → List ℕ → Read A → Type 0
-Sized P taken ws (got x rest) = P x × (taken + length rest ≤ length ws)
-Sized P taken ws (refused n) = Small n
+-- what is so of what is read of words, and of how many are left
+unfoldable Sized : {A : Type 0} → (A → ℕ → Type 0) → Read A → Type 0
+Sized P (got x rest) = P x (length rest)
+Sized P (refused n) = Small n
 
-then-sized : {A B : Type 0} (P : A → Type 0) (Q : B → Type 0) (taken more : ℕ) (ws : List ℕ) (r : Read A) (f : A → List ℕ → Read B) → Sized P taken ws r
-    → ((x : A) (rest : List ℕ) → P x → Sized Q more rest (f x rest)) → Sized Q (taken + more) ws (next r f)
+then-sized : {A B : Type 0} (P : A → ℕ → Type 0) (Q : B → ℕ → Type 0) (r : Read A) (f : A → List ℕ → Read B) → Sized P r
+    → ((x : A) (rest : List ℕ) → P x (length rest) → Sized Q (f x rest)) → Sized Q (next r f)
 unfolding next Sized
-then-sized {B = B} P Q taken more ws (refused n) f s g = s
-then-sized {B = B} P Q taken more ws (got x rest) f s g = go (f x rest) (g x rest (s .0))
-  where
-    go : (r : Read B) → Sized Q more rest r → Sized Q (taken + more) ws r
-    go (got y left) h = (h .0, omega (arith, s .1, h .1))
-    go (refused n) h = h
+then-sized P Q (refused n) f s g = s
+then-sized P Q (got x rest) f s g = g x rest s
 
--- at most so many items
-abbrev Items : ℕ → ℕ → List ℕ → Type 0
-Items limit size items = length items ≤ size * limit
+-- at most so many items, which are of the words, as their count is
+abbrev Items : ℕ → ℕ → ℕ → List ℕ → ℕ → Type 0
+Items all limit size items left = (length items ≤ size * limit) × (1 + length items + left ≤ all)
 
 -- the properties of a book are not too many
 abbrev pub Few : Sections → Type 0
@@ -46,31 +42,32 @@ ReadCall ws (got k rest) = (ws ≡ callWords k ++ rest) × Fits k
 ReadCall ws (refused n) = Small n
 
 module _ (ending : ℕ) (small : Small ending) where
-  section-sized : (limit size : ℕ) (ws : List ℕ) → Sized (Items limit size) 1 ws (section ending limit size ws)
+  section-sized : (limit size : ℕ) (ws : List ℕ) → Sized (Items (length ws) limit size) (section ending limit size ws)
   unfolding section Sized
   section-sized limit size [] = small
   section-sized limit size (n ∷ ws) = go (ltb limit n) refl (ltb (length ws) (size * n)) refl
     where
       go : (y : Bool) → ltb limit n ≡ y → (z : Bool) → ltb (length ws) (size * n) ≡ z
-          → Sized (Items limit size) 1 (n ∷ ws) (cond y (refused 2) (cond z (refused ending) (got (take (size * n) ws) (drop (size * n) ws))))
+          → Sized (Items (length (n ∷ ws)) limit size) (cond y (refused 2) (cond z (refused ending) (got (take (size * n) ws) (drop (size * n) ws))))
       go true e z f = (omega arith, omega arith)
       go false e true f = small
       go false e false f =
           let h = ltb-false (length ws) (size * n) f in
           let k = ltb-false limit n e in
-          (rw (length-take-le (size * n) ws h) (mul-le-mul-left size k), omega (arith, length-drop (size * n) ws))
+          (rw (length-take-le (size * n) ws h) (mul-le-mul-left size k), omega (arith, length-take-le (size * n) ws h, length-drop (size * n) ws))
 
   -- the properties of a book that is read are not too many
-  sections-sized : (ws : List ℕ) → Sized Few 4 ws (sections ending ws)
+  sections-sized : (ws : List ℕ) → Sized (λ s left. Few s × (4 + length (s .rows) + left ≤ length ws)) (sections ending ws)
   unfolding sections Sized
   sections-sized ws =
-      then-sized (Items 128 4) Few 1 3 ws (section ending 128 4 ws) _ (section-sized 128 4 ws) λ rows ws₁ r.
-      then-sized (Items 128 1) Few 1 2 ws₁ (section ending 128 1 ws₁) _ (section-sized 128 1 ws₁) λ operands ws₂ o.
-      then-sized (Items 16 1) Few 1 1 ws₂ (section ending 16 1 ws₂) _ (section-sized 16 1 ws₂) λ assumes ws₃ a.
-      then-sized (Items 16 1) Few 1 0 ws₃ (section ending 16 1 ws₃) _ (section-sized 16 1 ws₃) λ guarantees ws₄ g.
+      let Read-so : Sections → ℕ → Type 0 = λ s left. Few s × (4 + length (s .rows) + left ≤ length ws) in
+      then-sized (Items (length ws) 128 4) Read-so (section ending 128 4 ws) _ (section-sized 128 4 ws) λ rows ws₁ r.
+      then-sized (Items (length ws₁) 128 1) Read-so (section ending 128 1 ws₁) _ (section-sized 128 1 ws₁) λ operands ws₂ o.
+      then-sized (Items (length ws₂) 16 1) Read-so (section ending 16 1 ws₂) _ (section-sized 16 1 ws₂) λ assumes ws₃ a.
+      then-sized (Items (length ws₃) 16 1) Read-so (section ending 16 1 ws₃) _ (section-sized 16 1 ws₃) λ guarantees ws₄ g.
       ((omega arith, omega arith), omega arith)
 
-  pub sections-got : (ws : List ℕ) {s : Sections} {rest : List ℕ} → sections ending ws ≡ got s rest → Few s × (4 + length rest ≤ length ws)
+  pub sections-got : (ws : List ℕ) {s : Sections} {rest : List ℕ} → sections ending ws ≡ got s rest → Few s × (4 + length (s .rows) + length rest ≤ length ws)
   unfolding Sized
   sections-got ws e = rw e at (sections-sized ws)
 

@@ -5,6 +5,8 @@ use mathlib.Core.List.{List, [], _∷_, map}
 use lib.ListN.{getD}
 use lib.Dec.{eqb}
 use Rattle.text.specs.Words.{space, lineFeed, digit0, said}
+use Rattle.book.specs.declared.strict.Excess.{Excess}
+use Rattle.book.specs.declared.strict.Excess.the-variants.{Within, Over}
 use Rattle.report.specs.Lines.{PropertyWord, Rest, nothing, told, end, stop, Line, book, called, last}
 use Rattle.report.specs.Report.{bookWord, stopWord}
 
@@ -36,12 +38,18 @@ restIn [] = nothing
 restIn (w ∷ []) = told [] (said 0 w)
 restIn (w ∷ v ∷ ws) = wordThen (wordIn w) (restIn (v ∷ ws))
 
+-- what strict loading refuses, of the words after a book's number: there is none, or a row and how many runs it can need
+unfoldable pub excessSaid : List (List ℕ) → Excess
+excessSaid [] = Within
+excessSaid (r ∷ []) = Within
+excessSaid (r ∷ n ∷ ws) = Over (said 0 r) (said 0 n)
+
 -- a line, of its words: one alone is `end`, and of the others the first letter tells a book's line and `stop`
 unfoldable pub lineIn : List (List ℕ) → Line
 lineIn [] = last end
 lineIn (w ∷ []) = last end
 lineIn (w ∷ n ∷ ws) =
-    cond (eqb (first w) (first bookWord)) (book (said 0 n))
+    cond (eqb (first w) (first bookWord)) (book (said 0 n) (excessSaid ws))
     (cond (eqb (first w) (first stopWord)) (last (stop (said 0 n))) (called (record { number = said 0 w; refusal = said 0 n; rest = restIn ws })))
 
 -- lines end in a line feed, words are parted by one space

@@ -10,6 +10,10 @@ use Rattle.pmtl.specs.Book.{Book}
 use Rattle.pmtl.specs.Calls.{Call, call, after}
 use Rattle.pmtl.specs.Calls.Call.{time}
 use Rattle.book.specs.Reading.{Read, got, refused, Sections, sections}
+use Rattle.book.specs.declared.strict.Loading.{Loading}
+use Rattle.book.specs.declared.strict.Excess.{Excess}
+use Rattle.book.specs.declared.strict.Excess.the-variants.{Within}
+use Rattle.book.specs.Strict.{excessBy, admitted}
 use Rattle.book.specs.Judging.{Loaded, refusedWith, loadedFrom}
 use Rattle.report.specs.Lines.{PropertyWord, nothing, wordsIn, CallLine, Ending, end, stop, Line, book, called, last, CallsRead, callsAfter, lineOf, lines}
 
@@ -18,13 +22,18 @@ use Rattle.report.specs.Lines.{PropertyWord, nothing, wordsIn, CallLine, Ending
 abbrev pub sectionsSaid : List ℕ → Read Sections
 sectionsSaid input = sections (supply input .ending) (supply input .words)
 
--- what loading them comes to; an empty book where they are refused
-unfoldable pub loadedOf : Read Sections → Loaded
-loadedOf (got s ws) = loadedFrom s
-loadedOf (refused n) = refusedWith n
+-- what loading them in a way comes to; an empty book where they are refused
+unfoldable pub loadedOf : Loading → Read Sections → Loaded
+loadedOf way (got s ws) = admitted way (loadedFrom s)
+loadedOf way (refused n) = refusedWith n
 
-abbrev pub bookSaid : List ℕ → Book
-bookSaid input = loadedOf (sectionsSaid input) .book
+abbrev pub bookSaid : Loading → List ℕ → Book
+bookSaid way input = loadedOf way (sectionsSaid input) .book
+
+-- what this way of loading refuses in a book that is in order
+unfoldable pub excessOf : Loading → Read Sections → Excess
+excessOf way (got s ws) = excessBy way (loadedFrom s .book .rows)
+excessOf way (refused n) = Within
 
 -- the words after the book; none where it could not be read
 unfoldable pub wordsAfter : Read Sections → List ℕ
@@ -68,17 +77,17 @@ pub record Says (ls : List Line) (i p : ℕ) (w : PropertyWord) : Type 0 where
   pub word : getD (wordsIn (line .rest)) p noWord ≡ w
 
 -- after a loaded book: a line for each call that the text says, in order, numbered from 1, and one last line
-pub record Whole (input : List ℕ) : Type 0 where
+pub record Whole (way : Loading) (input : List ℕ) : Type 0 where
   pub calls : List CallLine
-  pub loads : loadedOf (sectionsSaid input) .number ≡ ACCEPTED
-  pub all : lines input ≡ book ACCEPTED ∷ map called calls ++ last (endSaid input) ∷ []
+  pub loads : loadedOf way (sectionsSaid input) .number ≡ ACCEPTED
+  pub all : lines way input ≡ book ACCEPTED Within ∷ map called calls ++ last (endSaid input) ∷ []
   pub each : length calls ≡ length (callsSaid input)
   pub numbered : (i : ℕ) → i < length calls → getD calls i noCallLine .number ≡ suc i
   pub in-order : (i : ℕ) → i < length calls → getD calls i noCallLine
-      ≡ lineOf (bookSaid input) (suc i) (call (bookSaid input .rows) (after (bookSaid input .rows) (firstCalls input i)) (getD (callsSaid input) i missingCall))
+      ≡ lineOf (bookSaid way input) (suc i) (call (bookSaid way input .rows) (after (bookSaid way input .rows) (firstCalls input i)) (getD (callsSaid input) i missingCall))
 
 -- the lines of a report: those; nothing after a refused book; or the one line of an input that is too long
-pub data Shape (input : List ℕ) : Type 0 where
-  whole : length input ≤ LONGEST-INPUT → Whole input → Shape input
-  refused-book : ¬ (loadedOf (sectionsSaid input) .number ≡ ACCEPTED) → lines input ≡ book (loadedOf (sectionsSaid input) .number) ∷ [] → Shape input
-  too-long : LONGEST-INPUT < length input → lines input ≡ last (stop PAST-LIMIT) ∷ [] → Shape input
+pub data Shape (way : Loading) (input : List ℕ) : Type 0 where
+  whole : length input ≤ LONGEST-INPUT → Whole way input → Shape way input
+  refused-book : ¬ (loadedOf way (sectionsSaid input) .number ≡ ACCEPTED) → lines way input ≡ book (loadedOf way (sectionsSaid input) .number) (excessOf way (sectionsSaid input)) ∷ [] → Shape way input
+  too-long : LONGEST-INPUT < length input → lines way input ≡ last (stop PAST-LIMIT) ∷ [] → Shape way input

@@ -51,7 +51,7 @@ pub record TakenOut {input : List ℕ} {i : ℕ} (c : CallAt input i) (other : L
 
 -- a line that is numbered one lower
 abbrev pub lowered : Line → Line
-lowered (book n) = book n
+lowered (book n e) = book n e
 lowered (called l) = called (record { number = l .number - 1; refusal = l .refusal; rest = l .rest })
 lowered (last e) = last e
 

@@ -3,36 +3,34 @@
 use Prim.Native.Nat.{ℕ, _+_, _≤_, _<_}
 use mathlib.Core.Path.{_≡_, refl, sym, ap, _∙_}
 use mathlib.Core.Bool.{Bool, true, false, _||_}
-use mathlib.Core.List.{List, [], _∷_, _++_, map, map-append}
+use mathlib.Core.List.{List, _++_, map, map-append}
 use native.Mathlib.Omega.{arith}
 use lib.ListN.{length, length-map}
-use lib.Dec.{eqb, ltb}
-use borrow.Author.Tests.{eqb-true, eqb-false, ltb-false}
+use lib.Dec.{ltb}
+use borrow.Author.Tests.{ltb-false}
 use Rattle.numbers.specs.Limits.{MOST-ROWS, MOST-OPERANDS}
 use Rattle.numbers.specs.Refusals.{ACCEPTED}
-use Rattle.pmtl.specs.Book.{Row, Rows, rowAt, Book, properties, AllBelow, Ordered}
+use Rattle.pmtl.specs.Book.{Rows, rowAt, Book, properties, AllBelow, Ordered}
 use Rattle.book.specs.Reading.{Sections}
 use Rattle.book.specs.Private.{Few}
 use Rattle.book.specs.Judging.{judged, bookIn, loaded}
 use Rattle.book.proofs.Accepted.{assume-below, guarantee-below, temporals-fit}
-use Rattle.trees.specs.Forest.{Head, headOf, Forest, none, one, _then_, count, size, roots, entries, Good}
+use Rattle.trees.specs.Forest.{Forest, none, _then_, count, size, roots, entries, Good}
 use Rattle.trees.specs.Numbered.{rowsFrom, bookOf, folded}
 use Rattle.trees.specs.Building.{allOperands, wordsOf}
-use Rattle.trees.specs.Books.{headIn, partsIn, joined, treeRule, treeAt, treesOf}
-use Rattle.trees.specs.declared.Word.the-variants.{Or, Not, Once}
+use Rattle.trees.specs.Books.{headIn, joined, treeRule, treeAt, treesOf}
 use Rattle.trees.proofs.Numbered.{roots-then, roots-length, good-then}
-use Rattle.trees.proofs.Sections.{rows-there, parts-are, book-ordered}
-use Rattle.trees.proofs.Sums.{sumOver, weight, weight-then, weight-one, weight-joined, below-append, properties-weigh, trees-weigh}
+use Rattle.trees.proofs.Sections.{rows-there, book-ordered}
+use Rattle.trees.proofs.Sums.{weight, weight-then, below-append, trees-weigh}
 use Rattle.trees.proofs.Judged.{HeadGood, temporalHead, words-accepted}
 use Rattle.trees.proofs.Renumbered.{head-good, below, temporals-same}
 use Rattle.trees.proofs.Words.{loaded-words}
 use Rattle.trees.proofs.Loaded.{Accepted, accepted-words}
 use Rattle.trees.proofs.Back.{again-all, trees-again}
-use Rattle.tidying.specs.declared.Form.{Form}
 use Rattle.tidying.specs.declared.Step.{Step}
-use Rattle.tidying.specs.Steps.{partsAt, fits, notOf, steppedAt, steppedOf, pastLimit}
-use Rattle.tidying.proofs.Fits.{In, Fitting, not-not, and-one, or-one, implication, history, fitting}
-use Rattle.tidying.proofs.Remade.{joined-append, AllSane, all-sane, list-fine, all-fine, step-plain, step-nots, step-and, step-or, step-implies, step-history}
+use Rattle.tidying.specs.Steps.{partsAt, fits, steppedAt, steppedOf, pastLimit}
+use Rattle.tidying.proofs.Remade.{joined-append, AllSane, all-sane, list-fine}
+use Rattle.tidying.proofs.Weighed.{Unmoved, weigh-same}
 use Rattle.tidying.proofs.Saying.{Pairs, Says, says-all}
 
 -- what a test of two parts says where it fails
@@ -70,66 +68,11 @@ module _ (a : Sections) (few : Few a) (ok : judged a ≡ 0) (s : Step) (fit : fi
   gs = steppedOf b s (a .guarantees)
 
   -- ---- as many temporal rows
-  abbrev t : Forest → ℕ
-  t = weight temporalHead
+  temporals-unmoved : Unmoved temporalHead
+  temporals-unmoved = record { nots = refl; ands = refl; ors = refl; implications = refl; histories = λ l u. refl }
 
-  abbrev own : ℕ → ℕ
-  own r = temporalHead (headIn (rowAt b r))
-
-  abbrev whole : ℕ → ℕ
-  whole r = t (st r)
-
-  parts-weigh : (os : List ℕ) → t (joined (map st os)) ≡ sumOver whole os
-  parts-weigh os = weight-joined temporalHead st os
-
-  weigh-one : (h : Head) (fs : List Forest) → t (one h (joined fs)) ≡ temporalHead h + t (joined fs)
-  weigh-one h fs = weight-one temporalHead h (joined fs)
-
-  sum-one : (o : ℕ) → sumOver whole (o ∷ []) ≡ whole o
-  unfolding sumOver
-  sum-one o = omega arith
-
-  sum-two : (x y : ℕ) → sumOver whole (x ∷ y ∷ []) ≡ whole x + whole y
-  unfolding sumOver
-  sum-two x y = omega arith
-
-  both-weigh : (f g : Forest) → t (joined (f ∷ g ∷ [])) ≡ t f + t g
-  unfolding joined weight
-  both-weigh f g = weight-then temporalHead f (g then none) ∙ omega (arith, weight-then temporalHead g none)
-
-  not-weighs : (f : Forest) → t (notOf f) ≡ t f
-  not-weighs f = weight-one temporalHead (headOf Not 0 0 0) f ∙ omega arith
-
-  module _ (r : ℕ) (h : r < length b) where
-    row-weight : {row : Row ℕ} → In b r row → (n : ℕ) → temporalHead (headIn row) + sumOver whole (partsIn row) ≡ n → whole r ≡ n → whole r ≡ own r + sumOver whole (partsAt b r)
-    row-weight i n e q = q ∙ sym (ap (λ (row : Row ℕ). temporalHead (headIn row) + sumOver whole (partsIn row)) (i .is) ∙ e)
-
-    named-weighs : r ≡ s .row → (f : Form) → s .form ≡ f → Fitting b r f → whole r ≡ own r + sumOver whole (partsAt b r)
-    named-weighs k f g (not-not {o} {p} i j) =
-        let l : o < r = rw (i .is) at (w r) in
-        let e : whole o ≡ whole p = ap t (step-plain b w s o (j .there) (λ z. omega arith) ∙ ap (λ (row : Row ℕ). one (headIn row) (joined (map st (partsIn row)))) (j .is)) ∙ not-weighs (joined (st p ∷ [])) ∙ parts-weigh (p ∷ []) ∙ sum-one p in
-        row-weight i (whole p) (omega (arith, sum-one o, e)) (ap t (step-nots b w s r k g i j))
-    named-weighs k f g (and-one {o} i) = row-weight i (whole o) (omega (arith, sum-one o)) (ap t (step-and b w s r k g i))
-    named-weighs k f g (or-one {o} i) = row-weight i (whole o) (omega (arith, sum-one o)) (ap t (step-or b w s r k g i))
-    named-weighs k f g (implication {x} {y} i) =
-        let m = rw (i .is) at (w r) in
-        let sx = all-fine b w s fit good-row x (omega (arith, m .0, h)) in
-        row-weight i (whole x + whole y) (omega (arith, sum-two x y))
-        (ap t (step-implies b w s r k g i (sx .single)) ∙ omega (arith, weigh-one (headOf Or 0 0 0) (notOf (st x) ∷ st y ∷ []), both-weigh (notOf (st x)) (st y), not-weighs (st x)))
-    named-weighs k f g (history {g = c} {x} i) =
-        row-weight i (1 + whole x) (omega (arith, sum-one x))
-        (ap t (step-history b w s r k g i) ∙ not-weighs _ ∙ weight-one temporalHead (headOf Once 0 (c .lower) (c .upper)) (notOf (st x)) ∙ ap (λ (n : ℕ). 1 + n) (not-weighs (st x)))
-
-    row-weighs : (z : Bool) → eqb r (s .row) ≡ z → whole r ≡ own r + sumOver whole (partsAt b r)
-    row-weighs true z = let k = eqb-true r (s .row) z in named-weighs k (s .form) refl (rw k (fitting b w s fit))
-    row-weighs false z = ap t (step-plain b w s r h (eqb-false r (s .row) z)) ∙ weigh-one (headIn (rowAt b r)) (map st (partsAt b r)) ∙ ap (λ (n : ℕ). own r + n) (parts-weigh (partsAt b r))
-
-  temporals-after : t (fs then gs) ≤ 32
-  unfolding steppedOf
-  temporals-after =
-      let each = properties-weigh a ok own whole λ r h.
-      row-weighs r (omega (arith, rows-there a ok)) (eqb r (s .row)) refl ∙ ap (λ (z : List ℕ). own r + sumOver whole z) (parts-are a ok r h) in
-      omega (arith, each, parts-weigh (a .assumes), parts-weigh (a .guarantees), weight-then temporalHead fs gs, weight-then temporalHead (treesOf b (a .assumes)) (treesOf b (a .guarantees)), trees-weigh a ok temporalHead, temporals-same a ok, temporals-fit a ok)
+  temporals-after : weight temporalHead (fs then gs) ≤ 32
+  temporals-after = omega (arith, weigh-same a ok s fit good-row temporalHead temporals-unmoved, weight-then temporalHead (treesOf b (a .assumes)) (treesOf b (a .guarantees)), trees-weigh a ok temporalHead, temporals-same a ok, temporals-fit a ok)
 
   -- ---- as many properties
   good-a : Good fs
@@ -174,12 +117,12 @@ module _ (a : Sections) (few : Few a) (ok : judged a ≡ 0) (s : Step) (fit : fi
     book′ : bookIn a′ ≡ bookOf fs gs
     book′ = sym (after-step .book-is) ∙ loaded-words fs gs good-a good-g step-accepted
 
-    all-trees : fs then gs ≡ joined (map st (a .assumes ++ a .guarantees))
+    pub all-trees : fs then gs ≡ joined (map st (a .assumes ++ a .guarantees))
     unfolding steppedOf
     all-trees = sym (ap joined (map-append st (a .assumes) (a .guarantees)) ∙ joined-append (map st (a .assumes)) (map st (a .guarantees)))
 
     -- the properties of the new book have the trees that the step made
-    trees-made : map (treeAt b′) (a′ .assumes ++ a′ .guarantees) ≡ map st (a .assumes ++ a .guarantees)
+    pub trees-made : map (treeAt b′) (a′ .assumes ++ a′ .guarantees) ≡ map st (a .assumes ++ a .guarantees)
     unfolding bookOf bookIn
     trees-made =
         let z : 0 + size fs ≡ size fs = omega arith in

@@ -5,6 +5,8 @@ pub mod Values
 pub mod Answers
 pub mod Totals
 pub mod Calls
+pub mod Weighed
 pub mod Accepted
+pub mod Strictly
 pub mod Theorems
 pub mod Examples

@@ -1,5 +1,5 @@
--- REFERENCE 12.3: a book tidied by an accepted list of steps is accepted, and on every list of calls it gives the same refusals, counts,
--- values and settled answers; and the same early answers where no step goes from Implies to Or. Nothing is assumed.
+-- REFERENCE 12.3: a book tidied by an accepted list of steps is accepted, strictly where the old one is, and on every list of calls it gives
+-- the same refusals, counts, values and settled answers; and the same early answers where no step goes from Implies to Or. Nothing is assumed.
 use Prim.Native.Nat.{ℕ, suc, _+_, _≤_, _<_}
 use mathlib.Core.Path.{_≡_, refl, sym, ap, _∙_}
 use mathlib.Core.Logic.{_⊎_, inl, inr}
@@ -11,9 +11,13 @@ use lib.Dec.{eqb}
 use borrow.Author.Tests.{eqb-true, eqb-false, eq-eqb, ne-eqb}
 use Rattle.numbers.specs.Refusals.{ACCEPTED, PAST-LIMIT, DOES-NOT-FIT}
 use Rattle.pmtl.specs.Book.{Book}
+use Rattle.pmtl.specs.Strict.{Strict}
 use Rattle.book.specs.Reading.{Sections}
 use Rattle.book.specs.Private.{Few}
-use Rattle.book.specs.Judging.{judged, bookIn, loaded}
+use Rattle.book.specs.Judging.{judged, bookIn, Loaded, loaded}
+use Rattle.book.specs.declared.strict.Loading.the-variants as loading
+use Rattle.book.specs.Strict.{loadedBy}
+use Rattle.book.proofs.Excess.{accepted-by, admitted-strict, strict-admitted}
 use Rattle.trees.proofs.Loaded.{accepted-words}
 use Rattle.tidying.specs.declared.Form.{Form}
 use Rattle.tidying.specs.declared.Form.the-variants as form
@@ -21,12 +25,14 @@ use Rattle.tidying.specs.declared.Step.{Step}
 use Rattle.tidying.specs.Steps.{fits, allAfter, wordsAfter, pastLimit}
 use Rattle.tidying.specs.Tidied.{stepNumber, Tidying, done, refused, tidiedFrom, tidied, Same, SameEarly, keepsEarly, NoImplication}
 use Rattle.tidying.proofs.Accepted.{good-row, step-accepted, after-step, properties-say, assumes-many}
+use Rattle.tidying.proofs.Strictly.{strict-stays}
 use Rattle.tidying.proofs.Calls.{number-same, count-same, value-same, settled-answers, early-answers}
 
 -- ---- a step that is accepted
 pub record Kept (b b′ : Book) (early : Type 0) : Type 0 where
   pub same : Same b b′
   pub same-early : early → SameEarly b b′
+  pub same-strict : Strict (b .rows) → Strict (b′ .rows)
 
 -- nothing is wrong with a step: it fits, and the book stays within its limits
 record Right (b : Book) (s : Step) : Type 0 where
@@ -70,6 +76,7 @@ module _ (a : Sections) (few : Few a) (ok : judged a ≡ 0) (s : Step) (q : Righ
             assumed = assumes-many a few ok s fit (q .short);
           };
           same-early = λ k calls. early-answers a a′ ok (x .ok) s fit good pairs calls (early-form (s .form) k);
+          same-strict = strict-stays a few ok s fit (q .short);
         });
       }
 
@@ -82,7 +89,7 @@ step-gives ws ok s e = step-keeps ws ok s e .accepted
 
 -- ---- one after another
 kept-none : (b : Book) → Kept b b (Unit {0})
-kept-none b = record { same = record { refusals = λ ks k. refl; counts = λ ks. refl; values = λ ks. refl; settleds = λ ks. refl; assumed = refl }; same-early = λ u ks. refl }
+kept-none b = record { same = record { refusals = λ ks k. refl; counts = λ ks. refl; values = λ ks. refl; settleds = λ ks. refl; assumed = refl }; same-early = λ u ks. refl; same-strict = λ h. h }
 
 kept-then : {b b₁ b₂ : Book} {p q : Type 0} → Kept b b₁ p → Kept b₁ b₂ q → Kept b b₂ (p × q)
 kept-then x y = record {
@@ -94,6 +101,7 @@ kept-then x y = record {
     assumed = x .same .assumed ∙ y .same .assumed;
   };
   same-early = λ e ks. x .same-early (e .0) ks ∙ y .same-early (e .1) ks;
+  same-strict = λ h. y .same-strict (x .same-strict h);
 }
 
 -- what is so of the outcome of steps
@@ -165,6 +173,12 @@ module _ (ws : List ℕ) (ss : List Step) where
     -- and the same early answer, where no step goes from Implies to Or
     pub tidied-early : NoImplication ss → SameEarly (loaded ws .book) (loaded ws′ .book)
     tidied-early = made .1 .same-early
+
+    -- and it is accepted in strict loading, too, where the old book is
+    pub tidied-strictly : loadedBy loading.Strict ws .number ≡ ACCEPTED → loadedBy loading.Strict ws′ .number ≡ ACCEPTED
+    tidied-strictly h =
+        let strict : Strict (loaded ws .book .rows) = rw (accepted-by loading.Strict ws h) at (admitted-strict (loaded ws)) in
+        ap (λ (l : Loaded). l .number) (strict-admitted (loaded ws′) (made .1 .same-strict strict)) ∙ tidied-accepted
 
   -- of an accepted book a list is refused with 21 or 2 at one of its steps, counted from 1
   pub refused-with : loaded ws .number ≡ ACCEPTED → (n at : ℕ) → tidied ws ss ≡ refused n at → ((n ≡ DOES-NOT-FIT) ⊎ (n ≡ PAST-LIMIT)) × (1 ≤ at) × (at ≤ length ss)

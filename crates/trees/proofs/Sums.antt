@@ -53,7 +53,7 @@ unfolding sumTo
 sum-ones zero = refl
 sum-ones (suc n) = omega (arith, sum-ones n)
 
-sum-none : (n : ℕ) → sumTo (λ r. 0) n ≡ 0
+pub sum-none : (n : ℕ) → sumTo (λ r. 0) n ≡ 0
 unfolding sumTo
 sum-none zero = refl
 sum-none (suc n) = omega (arith, sum-none n)
@@ -70,6 +70,16 @@ many-one v = omega arith
 -- ---- where one number is met
 strict : (a b : ℕ) → a ≤ b → (a ≡ b → ⊥) → a < b
 strict a b l n = omega arith
+
+-- where a sum is 0, so is each part of it
+pub sum-no-part : (f : ℕ → ℕ) (n : ℕ) → sumTo f n ≡ 0 → (r : ℕ) → r < n → f r ≡ 0
+unfolding sumTo
+sum-no-part f zero e r h = absurd (omega arith)
+sum-no-part f (suc n) e r h = by-test (eqb r n) refl (sum-no-part f n (omega (arith, e)) r)
+  where
+    by-test : (t : Bool) → eqb r n ≡ t → (r < n → f r ≡ 0) → f r ≡ 0
+    by-test true g c = ap f (eqb-true r n g) ∙ omega (arith, e)
+    by-test false g c = c (strict r n (omega arith) (eqb-false r n g))
 
 module _ (f : ℕ → ℕ) (x : ℕ) where
   abbrev hit : ℕ → ℕ

@@ -5,8 +5,8 @@ use borrow.Author.Needs.{needs}
 use Rattle.loader.proofs.store_judged.Statement.{statement}
 use Rattle.loader.proofs.store_judged.Tie as tie
 
-place-requires : tie.Need-place-requires
-place-requires c κs = search needs
+place-by-requires : tie.Need-place-by-requires
+place-by-requires c κs = search needs
 
 clear-requires : tie.Need-clear-requires
 clear-requires c κs = search needs
@@ -17,14 +17,14 @@ same-length c = search needs
 returns : tie.Need-returns
 returns c =
     let s = c .before .before .before .before .before .before .before .before in
-    stored-refused (s .args .words .now) _ _ _ _ _ (c .before .before .before .before .before .place .ensures) _ (c .before .before .before .before .if1 .taken) (length (s .args .monitor .now)) (s .pre) (c .before .before .clear .ensures)
+    stored-refused _ (s .args .words .now) _ _ _ _ _ (c .before .before .before .before .before .place-by .ensures) _ (c .before .before .before .before .if1 .taken) (length (s .args .monitor .now)) (s .pre) (c .before .before .clear .ensures)
 
 store-parts-requires : tie.Need-store-parts-requires
 store-parts-requires c κs =
     let s = c .before .before .before .before .before in
-    let p = c .before .before .place .ensures in
+    let p = c .before .before .place-by .ensures in
     let e = c .before .if1 .left in
-    (p .counted e, (placed-accepted (s .args .words .now) _ _ _ _ _ p e, s .pre))
+    (p .counted e, (placed-accepted _ (s .args .words .now) _ _ _ _ _ p e, s .pre))
 
 same-length-2 : tie.Need-same-length-2
 same-length-2 c = search needs
@@ -32,13 +32,13 @@ same-length-2 c = search needs
 returns-2 : tie.Need-returns-2
 returns-2 c =
     let s = c .before .before .before .before .before .before .before .before in
-    stored-accepted (s .args .words .now) _ _ _ _ _ (c .before .before .before .before .before .place .ensures) _ (c .before .before .before .before .if1 .left) (c .before .before .store-parts .ensures)
+    stored-accepted _ (s .args .words .now) _ _ _ _ _ (c .before .before .before .before .before .place-by .ensures) _ (c .before .before .before .before .if1 .left) (c .before .before .store-parts .ensures)
 
 pub store-judged-spec : {M : Type 1} → statement M
 store-judged-spec =
     tie.close
     (tie.spec
-    place-requires
+    place-by-requires
     clear-requires
     same-length
     returns

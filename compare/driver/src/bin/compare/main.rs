@@ -7,7 +7,7 @@ mod ours;
 use compare::inputs::input;
 use compare::shrink::shrink;
 use judge::monitor::{Monitor, ACCEPTED};
-use judge::report::{report, Call, Watch};
+use judge::report::{report, strictly, Call, Watch};
 use ours::Ours;
 use std::collections::BTreeMap;
 use std::path::PathBuf;
@@ -67,6 +67,8 @@ struct Tally {
     /// Those of the calls that were stamped.
     stamped: BTreeMap<u64, u64>,
     stops: BTreeMap<u64, u64>,
+    /// Books that are refused in strict loading alone.
+    over: u64,
 }
 
 impl Watch for Tally {
@@ -105,6 +107,7 @@ impl Tally {
             let each: Vec<String> = counts.iter().map(|(number, count)| format!("{number}: {count}")).collect();
             println!("{what} by number: {}", each.join(", "));
         }
+        println!("books that strict loading refuses with 15: {}", self.over);
     }
 }
 
@@ -115,7 +118,11 @@ fn difference(ours: &Ours, input: &[u8], tally: &mut Tally) -> Option<String> {
     match expected {
         Err(_) => Some("the original panics".to_string()),
         Ok(Err(difference)) => Some(difference),
-        Ok(Ok(expected)) => ours.held_to(&expected, input).err(),
+        Ok(Ok(expected)) => {
+            let strict = strictly(input, &expected);
+            tally.over += u64::from(strict != expected);
+            ours.held_to(&expected, input).and_then(|()| ours.held_strictly_to(&strict, input)).err()
+        }
     }
 }
 

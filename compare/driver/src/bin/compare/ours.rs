@@ -18,9 +18,14 @@ const MARK: u8 = 0xa5;
 #[cfg(archive)]
 const BEYOND: usize = 32;
 
+/// A report's function in the archive.
+#[cfg(archive)]
+type Function = unsafe extern "C" fn(input: *const u8, input_len: u64, report: *mut u8, report_len: u64) -> u64;
+
 #[cfg(archive)]
 extern "C" {
     fn binefdar_report(input: *const u8, input_len: u64, report: *mut u8, report_len: u64) -> u64;
+    fn binefdar_report_strict(input: *const u8, input_len: u64, report: *mut u8, report_len: u64) -> u64;
 }
 
 impl Ours {
@@ -28,9 +33,23 @@ impl Ours {
     pub fn held_to(&self, expected: &[u8], input: &[u8]) -> Result<(), String> {
         match self {
             #[cfg(archive)]
-            Ours::Archive => archive_held_to(expected, input),
+            Ours::Archive => archive_held_to(binefdar_report, expected, input),
             Ours::Program(path) => same(expected, &program_report(path, input)?),
         }
+    }
+
+    /// The same where the book is loaded strictly. A program loads in one way, and is not asked.
+    #[cfg(archive)]
+    pub fn held_strictly_to(&self, expected: &[u8], input: &[u8]) -> Result<(), String> {
+        match self {
+            Ours::Archive => archive_held_to(binefdar_report_strict, expected, input).map_err(|what| format!("loaded strictly: {what}")),
+            Ours::Program(_) => Ok(()),
+        }
+    }
+
+    #[cfg(not(archive))]
+    pub fn held_strictly_to(&self, _: &[u8], _: &[u8]) -> Result<(), String> {
+        Ok(())
     }
 }
 
@@ -48,9 +67,9 @@ fn same(expected: &[u8], ours: &[u8]) -> Result<(), String> {
 
 /// The report in a buffer with room to spare, and in one that just fits or is too short.
 #[cfg(archive)]
-fn archive_held_to(expected: &[u8], input: &[u8]) -> Result<(), String> {
+fn archive_held_to(function: Function, expected: &[u8], input: &[u8]) -> Result<(), String> {
     let room = expected.len() + BEYOND;
-    let (length, bytes) = archive_report(input, room);
+    let (length, bytes) = archive_report(function, input, room);
     if length == u64::MAX {
         return Err(format!("14 in a buffer of {room} bytes for a report of {}", expected.len()));
     }
@@ -58,15 +77,15 @@ fn archive_held_to(expected: &[u8], input: &[u8]) -> Result<(), String> {
     if bytes[expected.len()..].iter().any(|&b| b != MARK) {
         return Err("bytes after the report are changed".to_string());
     }
-    narrow_room(expected, input)
+    narrow_room(function, expected, input)
 }
 
 /// A report as long as the buffer fits; in a shorter one the length is MAX and the buffer all zeros.
 #[cfg(archive)]
-fn narrow_room(expected: &[u8], input: &[u8]) -> Result<(), String> {
+fn narrow_room(function: Function, expected: &[u8], input: &[u8]) -> Result<(), String> {
     let sum = input.iter().fold(0usize, |sum, &b| sum.wrapping_mul(31).wrapping_add(usize::from(b)));
     let room = [expected.len(), expected.len() - 1, 0, sum % expected.len()][sum % 4];
-    let (length, bytes) = archive_report(input, room);
+    let (length, bytes) = archive_report(function, input, room);
     if bytes[room..].iter().any(|&b| b != MARK) {
         return Err(format!("bytes after a buffer of {room} bytes are changed"));
     }
@@ -84,10 +103,10 @@ fn narrow_room(expected: &[u8], input: &[u8]) -> Result<(), String> {
 
 /// What the archive's function hands back, and the buffer with the bytes beyond it.
 #[cfg(archive)]
-fn archive_report(input: &[u8], room: usize) -> (u64, Vec<u8>) {
+fn archive_report(function: Function, input: &[u8], room: usize) -> (u64, Vec<u8>) {
     let mut bytes = vec![MARK; room + BEYOND];
     // SAFETY: the pointers and lengths are those of a slice and of the first `room` bytes of a vector.
-    let length = unsafe { binefdar_report(input.as_ptr(), input.len() as u64, bytes.as_mut_ptr(), room as u64) };
+    let length = unsafe { function(input.as_ptr(), input.len() as u64, bytes.as_mut_ptr(), room as u64) };
     (length, bytes)
 }
 

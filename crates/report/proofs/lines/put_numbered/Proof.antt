@@ -10,25 +10,11 @@ put-bytes-requires c κs = search needs
 put-number-requires : tie.Need-put-number-requires
 put-number-requires c κs = search needs
 
-slice-aggregate-put-bytes : tie.Need-slice-aggregate-put-bytes
-slice-aggregate-put-bytes c = search needs
-
-put-bytes-requires-2 : tie.Need-put-bytes-requires-2
-put-bytes-requires-2 c κs = search needs
-
 same-length : tie.Need-same-length
 same-length c = search needs
 
 returns : tie.Need-returns
-returns c = and-then (and-then (c .before .before .before .before .before .before .before .before .before .before .before .put-bytes .ensures) (c .before .before .before .before .before .before .before .put-number .ensures)) (c .before .before .put-bytes2 .ensures)
+returns c = and-then (c .before .before .before .before .before .before .put-bytes .ensures) (c .before .before .put-number .ensures)
 
 pub put-numbered-spec : {M : Type 1} → statement M
-put-numbered-spec =
-    tie.close
-    (tie.spec
-    put-bytes-requires
-    put-number-requires
-    slice-aggregate-put-bytes
-    put-bytes-requires-2
-    same-length
-    returns)
+put-numbered-spec = tie.close (tie.spec put-bytes-requires put-number-requires same-length returns)

@@ -1,4 +1,5 @@
 -- `report::lines::put_stop` meets its contract. Assumes nothing.
+use Rattle.buffer_writer.proofs.Writes.{and-then}
 use Rattle.report.specs.Report.{stopLine}
 use borrow.Author.Needs.{needs}
 use Rattle.report.proofs.lines.put_stop.Statement.{statement}
@@ -10,13 +11,26 @@ slice-aggregate-put-numbered c = search needs
 put-numbered-requires : tie.Need-put-numbered-requires
 put-numbered-requires c κs = search needs
 
+slice-aggregate-put-bytes : tie.Need-slice-aggregate-put-bytes
+slice-aggregate-put-bytes c = search needs
+
+put-bytes-requires : tie.Need-put-bytes-requires
+put-bytes-requires c κs = search needs
+
 same-length : tie.Need-same-length
 same-length c = search needs
 
 returns : tie.Need-returns
 unfolding stopLine
-returns c = c .before .before .put-numbered .ensures
+returns c = and-then (c .before .before .before .before .before .before .before .put-numbered .ensures) (c .before .before .put-bytes .ensures)
 
 pub put-stop-spec : {M : Type 1} → statement M
 put-stop-spec =
-    tie.close (tie.spec slice-aggregate-put-numbered put-numbered-requires same-length returns)
+    tie.close
+    (tie.spec
+    slice-aggregate-put-numbered
+    put-numbered-requires
+    slice-aggregate-put-bytes
+    put-bytes-requires
+    same-length
+    returns)
