@@ -21,9 +21,10 @@ use Rattle.pmtl.specs.declared.Answer.{Answer}
 use Rattle.pmtl.specs.declared.Answer.the-variants.{Open}
 use Rattle.pmtl.specs.Answer.{bitOf, digitOf}
 use Rattle.pmtl.specs.Book.{Range, Rows, start, stop}
+use Rattle.pmtl.specs.Sets.{Way, ordinary}
 use Rattle.pmtl.specs.Monitor.{Snap, State, setAt, step, value}
 use Rattle.pmtl.specs.Calls.{crowded, Outcome, play}
-use Rattle.pmtl.proofs.Answers.{step-sets, step-now, step-begun}
+use Rattle.pmtl.proofs.Answers.{step-sets, step-now, step-begun, step-way, step-ordinary}
 use Rattle.memory.specs.Layout.{ROWS, ROW, ATOMS, OWNERS, SET, VALUES, TOLD, EARLY, SETTLED, MOVES}
 use Rattle.memory.specs.Memory.{begunWord, clockOf, widthWord, temporals, rowCount, kindAt, slotAt, ownerAt, setStart, slotWords, propertyRow, valueAt, toldAt, rowsOf, setOf, stateOf, isOne, rangeAt}
 use Rattle.memory.specs.Tables.{valueOf, propertyCount, Valued, Told, Answered, Moving, Unused, Tables}
@@ -55,8 +56,14 @@ stop-fits g c h b =
     (either (eqb (g .upper) MAX))
 
 -- a state is its parts
-state-is : (st : State) {begun : Bool} {now : Snap} {sets : List Runs} → st .begun ≡ begun → st .now ≡ now → st .sets ≡ sets → record { begun = begun; now = now; sets = sets } ≡ st
-state-is st e f g = λ i. record { begun = sym e i; now = sym f i; sets = sym g i }
+state-is : (st : State) {way : Way} {begun : Bool} {now : Snap} {sets : List Runs} → st .way ≡ way → st .begun ≡ begun → st .now ≡ now → st .sets ≡ sets
+    → record { way = way; begun = begun; now = now; sets = sets } ≡ st
+state-is st d e f g = λ i. record { way = sym d i; begun = sym e i; now = sym f i; sets = sym g i }
+
+-- a memory's monitor is in the ordinary way
+pub ordinary-way : (m : List ℕ) → stateOf m .way ≡ ordinary
+unfolding stateOf
+ordinary-way m = refl
 
 -- a plan, where it is known whether there is room
 pub planned-as : {m : List ℕ} {st : State} {c : ℕ} {atoms m′ modes : List ℕ} {room room′ : Bool} → room ≡ room′ → Planned m st c atoms m′ room modes → Planned m st c atoms m′ room′ modes
@@ -194,20 +201,22 @@ module _ {m : List ℕ} {st : State} {c : ℕ} {atoms m₁ modes : List ℕ} (so
 abbrev pub Leads : List ℕ → List Snap → State → ℕ → List ℕ → Type 0
 Leads m ns st c atoms = play (rowsOf m) (stateOf m) (stateOf m) ns ≡ play (rowsOf m) (stateOf m) st (snapOf c atoms ∷ [])
 
-one-played : (m : List ℕ) (st : State) (c : ℕ) (atoms : List ℕ) → crowded (stepOf m st c atoms) ≡ false
+one-played : (m : List ℕ) (st : State) (c : ℕ) (atoms : List ℕ) → st .way ≡ stateOf m .way → crowded (stepOf m st c atoms) ≡ false
     → play (rowsOf m) (stateOf m) st (snapOf c atoms ∷ []) ≡ record { number = 0; state = stepOf m st c atoms }
 unfolding play
-one-played m st c atoms e = rw (e, play)
+one-played m st c atoms own e =
+    let same = step-ordinary (rowsOf m) st (snapOf c atoms) (own ∙ ordinary-way m) in
+    rw (same, e, play) (ap (λ (q : State). record { number = 0; state = q }) same)
 
-none-played : (m : List ℕ) (st : State) (c : ℕ) (atoms : List ℕ) → crowded (stepOf m st c atoms) ≡ true
+none-played : (m : List ℕ) (st : State) (c : ℕ) (atoms : List ℕ) → st .way ≡ stateOf m .way → crowded (stepOf m st c atoms) ≡ true
     → play (rowsOf m) (stateOf m) st (snapOf c atoms ∷ []) ≡ record { number = 11; state = stateOf m }
 unfolding play
-none-played m st c atoms e = rw (e, play)
+none-played m st c atoms own e = rw (step-ordinary (rowsOf m) st (snapOf c atoms) (own ∙ ordinary-way m), e, play)
 
 -- ---- once the atoms are set, too
 module _
     {m : List ℕ} {st : State} {c : ℕ} {atoms m₁ m₂ : List ℕ} (kept : Kept m) (small : c ≤ LAST-TIME) (bytes : Bytes atoms (widthWord m)) (roomy : crowded (stepOf m st c atoms) ≡ false) (v : Moved m st c atoms m₁)
-    (a : Atoms m₁ atoms (length atoms) m₂)
+    (a : Atoms m₁ atoms (length atoms) m₂) (own : st .way ≡ stateOf m .way)
   where
     begun-now : begunWord m₂ ≡ 1
     begun-now = a .below 1 (omega arith) ∙ v .begun
@@ -274,13 +283,14 @@ module _
     unfolding stateOf
     state-after =
         state-is (stepOf m st c atoms)
+        (step-way (rowsOf m) st (snapOf c atoms) ∙ own ∙ ordinary-way m)
         (step-begun (rowsOf m) st (snapOf c atoms) ∙ sym (ap isOne begun-now))
         (step-now (rowsOf m) st (snapOf c atoms) ∙ sym (ap₂ (λ (t : ℕ) (bs : List Bool). record { clock = t; atoms = bs }) clock-now atoms-are))
         (sym sets-are)
 
     pub played : {ns : List Snap} → Leads m ns st c atoms → Advanced m ns m₂ 0
     played leads =
-        let e = leads ∙ one-played m st c atoms roomy in
+        let e = leads ∙ one-played m st c atoms own roomy in
         record {
           number = sym (ap (λ (o : Outcome). o .number) e);
           state = state-after ∙ sym (ap (λ (o : Outcome). o .state) e);
@@ -357,9 +367,9 @@ module _
     pub due : {first : Bool} → first ≡ eqb (begunWord m) 0 → Due m₂ first
     due ef = record { sound = sound-now; valued = valued-now; moving = moving-now; unused = unused-now; asked = asked-now ef }
 
-unmoved : {m : List ℕ} (st : State) (c : ℕ) (atoms : List ℕ) {ns : List Snap} → Leads m ns st c atoms → crowded (stepOf m st c atoms) ≡ true → Advanced m ns m 11
-unmoved {m} st c atoms leads e =
-    let q = leads ∙ none-played m st c atoms e in
+unmoved : {m : List ℕ} (st : State) (c : ℕ) (atoms : List ℕ) {ns : List Snap} → st .way ≡ stateOf m .way → Leads m ns st c atoms → crowded (stepOf m st c atoms) ≡ true → Advanced m ns m 11
+unmoved {m} st c atoms own leads e =
+    let q = leads ∙ none-played m st c atoms own e in
     record { number = sym (ap (λ (o : Outcome). o .number) q); state = sym (ap (λ (o : Outcome). o .state) q); book = refl; refused = λ ne. refl }
 
 -- ---- a call that was tried
@@ -370,10 +380,10 @@ module _ {m : List ℕ} {st : State} {c : ℕ} {atoms m₁ : List ℕ} {r : ℕ}
   pub tried-moved : r ≡ 0 → Moved m st c atoms m₁
   tried-moved z = tried .room (has-room z) .1
 
-  pub tried-refused : {ns : List Snap} → Leads m ns st c atoms → (r ≡ 0 → ⊥) → Advanced m ns m₁ r × (m₁ ≡ m)
-  tried-refused leads ne =
+  pub tried-refused : {ns : List Snap} → st .way ≡ stateOf m .way → Leads m ns st c atoms → (r ≡ 0 → ⊥) → Advanced m ns m₁ r × (m₁ ≡ m)
+  tried-refused own leads ne =
       ⊎-elim
-      (λ (f : crowded (stepOf m st c atoms) ≡ true). let q = tried .full f in (rw (q .0, q .1) (unmoved st c atoms leads f), q .1))
+      (λ (f : crowded (stepOf m st c atoms) ≡ true). let q = tried .full f in (rw (q .0, q .1) (unmoved st c atoms own leads f), q .1))
       (λ (f : crowded (stepOf m st c atoms) ≡ false). absurd (ne (tried .room f .0)))
       (either (crowded (stepOf m st c atoms)))
 
@@ -475,6 +485,7 @@ module _ {m : List ℕ} {c : ℕ} {old m₁ modes₁ : List ℕ} (kept : Kept m)
   -- the plan of the second, from the state that the first leaves
   pub second-from : {new m₂ modes₂ : List ℕ} {room : Bool} → Planned m₁ (ahead m₁ c modes₁) c new m₂ room modes₂ → Planned m₁ (stepOf m (stateOf m) c old) c new m₂ room modes₂
   second-from {new} p = planned-from (ahead-one first-sound small modes₁ (stepOf m (stateOf m) c old)
+      (step-way (rowsOf m) (stateOf m) (snapOf c old) ∙ ordinary-way m ∙ sym (ordinary-way m₁))
       (λ j h.
       let l : j < temporals m = rw (← slots-as (kept .sound) first-alike) h in
       set-planned (kept .sound) small first j l ∙ ap (setAt (stepOf m (stateOf m) c old)) (sym (owner-as (kept .sound) first-alike j l))) new) p

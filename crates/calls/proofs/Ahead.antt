@@ -57,10 +57,11 @@ module _ {m : List ℕ} (sound : Sound m) {c : ℕ} (small : c ≤ LAST-TIME) wh
         ∙ after-both (getD modes (slotAt m r) 0) (modeIn (mapRow f (rowOf m r)))
 
   -- a state whose sets a step changes as it does those that the modes leave: the step is the same
-  ahead-step : (modes : List ℕ) (st : State) (atoms : List ℕ)
+  ahead-step : (modes : List ℕ) (st : State) (atoms : List ℕ) → st .way ≡ stateOf m .way
       → ((r : ℕ) → r < rowCount m → 7 ≤ kindAt m r → (f : ℕ → Bool) → setRule c (setAt st r) (mapRow f (rowOf m r)) ≡ setRule c (setAhead m c modes r) (mapRow f (rowOf m r)))
       → stepOf m (ahead m c modes) c atoms ≡ stepOf m st c atoms
-  ahead-step modes st atoms same = step-same (rowsOf m) (ahead m c modes) st (snapOf c atoms) (λ r l f.
+  unfolding ahead
+  ahead-step modes st atoms own same = step-same (rowsOf m) (ahead m c modes) st (snapOf c atoms) (sym own) (λ r l f.
       let h : r < rowCount m = rw (← rows-length m) l in
       rw (row-at m r h)
       (⊎-elim
@@ -70,7 +71,7 @@ module _ {m : List ℕ} (sound : Sound m) {c : ℕ} (small : c ≤ LAST-TIME) wh
 
   -- with no step planned yet, the state that the memory holds
   pub ahead-none : (modes : List ℕ) → ((j : ℕ) → j < temporals m → getD modes j 0 ≡ 0) → (atoms : List ℕ) → stepOf m (ahead m c modes) c atoms ≡ stepOf m (stateOf m) c atoms
-  ahead-none modes none atoms = ahead-step modes (stateOf m) atoms (λ r h k f.
+  ahead-none modes none atoms = ahead-step modes (stateOf m) atoms refl (λ r h k f.
       let mode : ℕ = modeIn (mapRow f (rowOf m r)) in
       ap (λ (s : Runs). setRule c s (mapRow f (rowOf m r))) (set-at m r h)
       ∙ changed-set c (setOf m r) f m r k (sound .book .rows r h .kind)
@@ -81,9 +82,9 @@ module _ {m : List ℕ} (sound : Sound m) {c : ℕ} (small : c ≤ LAST-TIME) wh
       ∙ sym (rule-both h k modes f))
 
   -- with one planned, the state after it
-  pub ahead-one : (modes : List ℕ) (st : State) → ((j : ℕ) → j < temporals m → setAfter m c (getD modes j 0) j ≡ setAt st (ownerAt m j))
+  pub ahead-one : (modes : List ℕ) (st : State) → st .way ≡ stateOf m .way → ((j : ℕ) → j < temporals m → setAfter m c (getD modes j 0) j ≡ setAt st (ownerAt m j))
       → (atoms : List ℕ) → stepOf m (ahead m c modes) c atoms ≡ stepOf m st c atoms
-  ahead-one modes st sets atoms = ahead-step modes st atoms (λ r h k f.
+  ahead-one modes st own sets atoms = ahead-step modes st atoms own (λ r h k f.
       let row = sound .book .rows r h in
       ap (λ (s : Runs). setRule c s (mapRow f (rowOf m r)))
       (ap (setAt st) (sym (row .owner k)) ∙ sym (sets (slotAt m r) (row .slot k)) ∙ sym (ahead-slot m c modes r k)))

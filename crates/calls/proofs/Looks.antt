@@ -11,13 +11,13 @@ use Rattle.lists.proofs.Tests.{lt-or-ge}
 use Rattle.lists.proofs.Filled.{filledFrom-before, filledFrom-after, filledFrom-more}
 use Rattle.numset.specs.Runs.{has}
 use Rattle.pmtl.specs.Answer.{bitOf}
-use Rattle.pmtl.specs.Book.{Row, mapRow}
-use Rattle.pmtl.specs.Monitor.{Snap, valueRule, value}
+use Rattle.pmtl.specs.Book.{Row, mapRow, moveRule, moves}
+use Rattle.pmtl.specs.Monitor.{Snap, valueRule}
 use Rattle.pmtl.proofs.Table.{answer-in}
 use Rattle.pmtl.proofs.Answers.{step-now}
+use Rattle.pmtl.proofs.Still.{still}
 use Rattle.memory.specs.Layout.{ROWS, ROW, VALUES, MOVES}
 use Rattle.memory.specs.Memory.{rowCount, widthWord, temporals, kindAt, argAt, ownerAt, atomsOf, valueAt, movesAt, rowOf, rowsOf, stateOf, isOne}
-use Rattle.memory.specs.Tables.{moveRule, moves}
 use Rattle.memory.specs.Kept.{Sound, Kept}
 use Rattle.memory.proofs.Rows.{rows-length, row-at, kept-ordered}
 use Rattle.book.specs.Rows.{rowFrom}
@@ -25,7 +25,6 @@ use Rattle.memory.proofs.Bits.{bit-back}
 use Rattle.calls.specs.Private.{atomsFor, snapOf, stepOf, ahead, heldIn, setNext, valueNext, Named, valueAfter}
 use Rattle.calls.proofs.Plans.{Going}
 use Rattle.calls.proofs.Heads.{old-atoms}
-use Rattle.calls.proofs.Still.{still}
 
 -- ---- a row by its kind
 not-atom-from : (x y : List Bool) (here : Bool) (f : ℕ → Bool) (kind arg lower upper : ℕ) (os : List ℕ) → (kind ≡ 2 → ⊥)

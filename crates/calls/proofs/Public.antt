@@ -11,9 +11,10 @@ use borrow.Author.Tests.{lt-ltb, le-ltb, ltb-false, ne-eqb, eq-eqb}
 use Rattle.numbers.specs.Limits.{LAST-TIME, MOST-ATOMS}
 use Rattle.lists.proofs.Tests.{either, fails-by}
 use Rattle.pmtl.specs.Book.{widthOf, some}
-use Rattle.pmtl.specs.Monitor.{Snap, State}
+use Rattle.pmtl.specs.Monitor.{Snap, State, stepIn}
 use Rattle.pmtl.specs.Calls.{Call, turns, timeRefusal, stateRefusal, firstOf, refusal, crowded, play, call}
 use Rattle.pmtl.specs.Calls.Call.{time, state, stamped}
+use Rattle.pmtl.proofs.Answers.{step-way, step-ordinary}
 use Rattle.pmtl.proofs.Calls.{timely, well-stated}
 use Rattle.memory.specs.Layout.{SIZE}
 use Rattle.memory.specs.Memory.{begunWord, clockOf, widthWord, rowsOf, bookOf, stateOf, atomsOf}
@@ -25,7 +26,7 @@ use Rattle.calls.specs.Private.{Bytes, snapOf, stepOf, Atoms, Moved, Tri
 use Rattle.calls.specs.Called.{Called}
 use Rattle.calls.proofs.Plans.{some-hit}
 use Rattle.calls.proofs.Heads.{old-same, old-bytes, old-atoms}
-use Rattle.calls.proofs.Advances.{Leads, played, due, has-room, tried-moved, tried-refused, tried-stands}
+use Rattle.calls.proofs.Advances.{ordinary-way, Leads, played, due, has-room, tried-moved, tried-refused, tried-stands}
 
 -- ---- a call that is refused for itself, and one that is not
 called-refused : {m : List ℕ} {k : Call} {n : ℕ} → Kept m → refusal (rowsOf m) (stateOf m .now) k ≡ n → (n ≡ 0 → ⊥) → Called k m m n
@@ -127,18 +128,18 @@ module _ {m : List ℕ} (kept : Kept m) (t : ℕ) {late : ℕ} (el : late ≡ ti
 
     module _ {m₁ : List ℕ} {r : ℕ} (tried : Tried m (stateOf m) t (atomsOf m) m₁ r) where
       pub time-full : (r ≡ 0 → ⊥) → Called (time t) m m₁ r
-      time-full ne = let q = tried-refused tried refl ne in time-played (q .0) (rw (q .1) kept)
+      time-full ne = let q = tried-refused tried refl refl ne in time-played (q .0) (rw (q .1) kept)
 
       -- its atoms stand there already
       stands : r ≡ 0 → Atoms m₁ (atomsOf m) (length (atomsOf m)) m₁
       stands = tried-stands tried (kept .sound) (old-bytes (kept .sound)) (old-same (kept .sound))
 
       pub time-due : r ≡ 0 → {first : Bool} → first ≡ eqb (begunWord m) 0 → Due m₁ first
-      time-due z ef = due kept in-range (old-bytes (kept .sound)) (has-room tried z) (tried-moved tried z) (stands z) ef
+      time-due z ef = due kept in-range (old-bytes (kept .sound)) (has-room tried z) (tried-moved tried z) (stands z) refl ef
 
       pub time-done : {m₂ : List ℕ} → r ≡ 0 → Alike m₁ m₂ × Tables m₂ → Called (time t) m m₂ 0
       time-done z renewed =
-          let a = played kept in-range (old-bytes (kept .sound)) (has-room tried z) (tried-moved tried z) (stands z) refl in
+          let a = played kept in-range (old-bytes (kept .sound)) (has-room tried z) (tried-moved tried z) (stands z) refl refl in
           let q = advanced-renewed a (time-due z refl .sound) renewed in
           time-played (q .0) (q .1)
 
@@ -163,18 +164,18 @@ module _ {m : List ℕ} (kept : Kept m) (s : List ℕ) {wrong : ℕ} (ew : wrong
 
       module _ {m₁ : List ℕ} {r : ℕ} (tried : Tried m (stateOf m) clock s m₁ r) where
         pub state-full : (r ≡ 0 → ⊥) → Called (state s) m m₁ r
-        state-full ne = let q = tried-refused tried refl ne in state-played (q .0) (rw (q .1) kept)
+        state-full ne = let q = tried-refused tried refl refl ne in state-played (q .0) (rw (q .1) kept)
 
         pub state-roomy : r ≡ 0 → (length m₁ ≡ SIZE) × (length s ≤ MOST-ATOMS)
         state-roomy z = roomy-for kept new-bytes (tried-moved tried z)
 
         module _ {m₂ : List ℕ} (z : r ≡ 0) (a : Atoms m₁ s (length s) m₂) where
           pub state-due : {first : Bool} → first ≡ eqb (begunWord m) 0 → Due m₂ first
-          state-due ef = due kept (state-timely .0 .1) new-bytes (has-room tried z) (tried-moved tried z) a ef
+          state-due ef = due kept (state-timely .0 .1) new-bytes (has-room tried z) (tried-moved tried z) a refl ef
 
           pub state-done : {m₃ : List ℕ} → Alike m₂ m₃ × Tables m₃ → Called (state s) m m₃ 0
           state-done renewed =
-              let p = played kept (state-timely .0 .1) new-bytes (has-room tried z) (tried-moved tried z) a refl in
+              let p = played kept (state-timely .0 .1) new-bytes (has-room tried z) (tried-moved tried z) a refl refl in
               let q = advanced-renewed p (state-due refl .sound) renewed in
               state-played (q .0) (q .1)
 
@@ -217,20 +218,26 @@ module _ {m : List ℕ} (kept : Kept m) (t : ℕ) (s : List ℕ) {late : ℕ} (e
       abbrev between : State
       between = stepOf m (stateOf m) t (atomsOf m)
 
+      own : between .way ≡ stateOf m .way
+      own = step-way (rowsOf m) (stateOf m) (snapOf t (atomsOf m))
+
+      is-between : stepIn (rowsOf m) (stateOf m) (snapOf t (atomsOf m)) ≡ between
+      is-between = step-ordinary (rowsOf m) (stateOf m) (snapOf t (atomsOf m)) (ordinary-way m)
+
       leads : crowded between ≡ false → Leads m snaps between t s
       unfolding play
-      leads e = rw (e, play)
+      leads e = rw (is-between, e, play) (ap (λ (q : State). play (rowsOf m) (stateOf m) q (snapOf t s ∷ [])) is-between)
 
       none-between : crowded between ≡ true → Advanced m snaps m 11
       unfolding play
-      none-between e = record { number = sym (rw (e, play)); state = sym (rw (e, play)); book = refl; refused = λ ne. refl }
+      none-between e = record { number = sym (rw (is-between, e, play)); state = sym (rw (is-between, e, play)); book = refl; refused = λ ne. refl }
 
       module _ {m₁ : List ℕ} {r : ℕ} (tried : TriedBoth m t (atomsOf m) s m₁ r) where
         pub stamped-full : (r ≡ 0 → ⊥) → Called (stamped t s) m m₁ r
         stamped-full ne =
             ⊎-elim
             (λ (f : crowded between ≡ true). let q = tried .between f in stamped-played (rw (q .0, q .1) (none-between f)) (rw (q .1) kept))
-            (λ (f : crowded between ≡ false). let q = tried-refused (tried .last f) (leads f) ne in stamped-played (q .0) (rw (q .1) kept))
+            (λ (f : crowded between ≡ false). let q = tried-refused (tried .last f) own (leads f) ne in stamped-played (q .0) (rw (q .1) kept))
             (either (crowded between))
 
         module _ (z : r ≡ 0) where
@@ -245,10 +252,10 @@ module _ {m : List ℕ} (kept : Kept m) (t : ℕ) (s : List ℕ) {late : ℕ} (e
 
           module _ {m₂ : List ℕ} (a : Atoms m₁ s (length s) m₂) where
             pub stamped-due : {first : Bool} → first ≡ eqb (begunWord m) 0 → Due m₂ first
-            stamped-due ef = due kept small bytes (has-room last z) (tried-moved last z) a ef
+            stamped-due ef = due kept small bytes (has-room last z) (tried-moved last z) a own ef
 
             pub stamped-done : {m₃ : List ℕ} → Alike m₂ m₃ × Tables m₃ → Called (stamped t s) m m₃ 0
             stamped-done renewed =
-                let p = played kept small bytes (has-room last z) (tried-moved last z) a (leads roomy) in
+                let p = played kept small bytes (has-room last z) (tried-moved last z) a own (leads roomy) in
                 let q = advanced-renewed p (stamped-due refl .sound) renewed in
                 stamped-played (q .0) (q .1)

@@ -49,7 +49,7 @@ setAhead m c modes r = cond (temporal (kindAt m r)) (setAfter m c (getD modes (s
 
 -- and the state with those sets: what the steps planned so far leave
 unfoldable pub ahead : List ℕ → ℕ → List ℕ → State
-ahead m c modes = record { begun = stateOf m .begun; now = stateOf m .now; sets = listed (setAhead m c modes) (rowCount m) }
+ahead m c modes = record { way = stateOf m .way; begun = stateOf m .begun; now = stateOf m .now; sets = listed (setAhead m c modes) (rowCount m) }
 
 -- ---- a row by the table: where the values of the rows below it are new, what becomes of its set, and its own new value
 abbrev pub heldIn : List ℕ → ℕ → Bool

@@ -6,7 +6,7 @@ use native.Mathlib.Omega.{arith}
 use lib.ListN.{length, getD, replicate}
 use Rattle.numset.proofs.Packs.{good-zeros}
 use Rattle.pmtl.specs.Book.{emptyBook, widthOf}
-use Rattle.pmtl.specs.Monitor.{initial}
+use Rattle.pmtl.specs.Monitor.{initialIn, initial}
 use Rattle.memory.specs.Layout.{SET, SIZE}
 use Rattle.memory.specs.Memory.{setStart, slotWords, rowsOf, bookOf, stateOf}
 use Rattle.lists.specs.Lists.{listed}
@@ -76,5 +76,5 @@ module _ (m : List ℕ) (long : length m ≡ SIZE) (zeros : (i : ℕ) → getD m
   empty-book = rw (zeros 0, zeros 5, zeros 6, listed)
 
   pub empty-state : stateOf m ≡ initial []
-  unfolding stateOf initial listed widthOf
+  unfolding stateOf initialIn listed widthOf
   empty-state = rw (zeros 0, zeros 1, zeros 2, zeros 3, listed)

@@ -13,7 +13,7 @@ use Rattle.numset.specs.Runs.{runs, runsTo}
 use Rattle.lists.proofs.Tests.{lt-or-ge}
 use Rattle.numset.proofs.Packs.{good-zeros}
 use Rattle.pmtl.specs.Book.{widthOf}
-use Rattle.pmtl.specs.Monitor.{initial}
+use Rattle.pmtl.specs.Monitor.{initialIn, initial}
 use Rattle.memory.specs.Layout.{ROWS, ROW, OPERANDS, PROPERTIES, ATOMS, OWNERS, SET, SIZE, VALUES, TOLD, EARLY, SETTLED, MOVES}
 use Rattle.lists.specs.Lists.{part, listed, put}
 use Rattle.memory.specs.Memory.{assumeCount, guaranteeCount, kindAt, argAt, lowerAt, upperAt, startAt, slotAt, operandsOf, ownerAt, setStart, slotWords, rowOf, rowsOf, bookOf, isOne, setOf, stateOf}
@@ -179,7 +179,7 @@ module _ (s : Sections) (m : List ℕ) (ok : Accepted s) (st : Stands s m) where
       (lt-or-ge (kindIn (s .rows) r) 7))
 
   holds-state : stateOf m ≡ initial (bookIn s .rows)
-  unfolding stateOf initial bookIn
+  unfolding stateOf initialIn bookIn
   holds-state =
       let n = narrow in
       let atoms-are =

@@ -12,6 +12,7 @@ use Rattle.lists.proofs.Tests.{lt-or-ge}
 use Rattle.lists.proofs.Listed.{listed-agree}
 use Rattle.lists.proofs.Parts.{part-same}
 use Rattle.lists.proofs.Filled.{filledFrom-length, filledFrom-before}
+use Rattle.pmtl.specs.Sets.{ordinary}
 use Rattle.memory.specs.Layout.{ATOMS, OWNERS, SET, VALUES}
 use Rattle.memory.specs.Memory.{rowCount, widthWord, kindAt, slotAt, atomAt, setStart, slotWords, rowsOf, bookOf, isOne, setOf, stateOf}
 use Rattle.memory.specs.Kept.{Sound}
@@ -82,6 +83,7 @@ module _ {m m′ : List ℕ} (sound : Sound m) (alike : Alike m m′) where
       let narrow = sound .book .narrow in
       rw (alike .below 0 (omega arith), alike .below 1 (omega arith), alike .below 2 (omega arith), alike .below 3 (omega arith))
       (λ i. record {
+        way = ordinary;
         begun = isOne (getD m 1 0);
         now = record {
           clock = getD m 2 0;

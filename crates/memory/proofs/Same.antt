@@ -12,14 +12,14 @@ use Rattle.numset.specs.Runs.{Runs, runs, pack}
 use Rattle.lists.proofs.Tests.{either, lt-or-ge}
 use Rattle.numset.proofs.Packs.{packed}
 use Rattle.pmtl.specs.Answer.{bitOf, digitOf}
-use Rattle.pmtl.specs.Book.{Row, Rows, Book, widthOf}
+use Rattle.pmtl.specs.Book.{Row, Rows, Book, widthOf, moves}
 use Rattle.pmtl.specs.Monitor.{State, fullest, value}
 use Rattle.pmtl.specs.Early.{early}
 use Rattle.pmtl.specs.Settled.{settled}
 use Rattle.memory.specs.Layout.{ROWS, ROW, OPERANDS, PROPERTIES, ATOMS, OWNERS, SETS, SET, VALUES, TOLD, EARLY, SETTLED, MOVES, FULLEST, SIZE}
 use Rattle.lists.specs.Lists.{part, listed}
 use Rattle.memory.specs.Memory.{rowCount, begunWord, clockOf, widthWord, temporals, assumeCount, guaranteeCount, kindAt, argAt, lowerAt, upperAt, startAt, slotAt, operandsOf, ownerAt, setStart, slotWords, propertyRow, valueAt, toldAt, earlyAt, settledAt, movesAt, fullestWord, rowOf, rowsOf, bookOf, isOne, setOf, stateOf}
-use Rattle.memory.specs.Tables.{standing, propertyCount, moves}
+use Rattle.memory.specs.Tables.{standing, propertyCount}
 use Rattle.book.specs.Rows.{countOf}
 use Rattle.lists.proofs.Listed.{listed-at}
 use Rattle.memory.proofs.Rows.{rows-length, row-at}

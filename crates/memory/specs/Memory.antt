@@ -8,6 +8,7 @@ use Rattle.numbers.specs.Limits.{MOST-OPERANDS}
 use Rattle.lists.specs.Lists.{listed, part}
 use Rattle.numset.specs.Runs.{Runs, runs}
 use Rattle.pmtl.specs.Book.{Range, Row, Rows, Book}
+use Rattle.pmtl.specs.Sets.{ordinary}
 use Rattle.pmtl.specs.Monitor.{State}
 use Rattle.book.specs.Rows.{rowFrom, temporal}
 use Rattle.memory.specs.declared.RowWords.{RowWords}
@@ -126,7 +127,7 @@ bookOf m = record {
   guarantees = part (PROPERTIES + assumeCount m) (guaranteeCount m) m;
 }
 
--- and its state: a temporal row's set is that of its slot
+-- and its state, in the ordinary way: a temporal row's set is that of its slot
 abbrev pub isOne : ℕ → Bool
 isOne x = eqb x 1
 
@@ -135,6 +136,7 @@ setOf m r = cond (temporal (kindAt m r)) (runs (slotWords m (slotAt m r))) []
 
 unfoldable pub stateOf : List ℕ → State
 stateOf m = record {
+  way = ordinary;
   begun = isOne (begunWord m);
   now = record { clock = clockOf m; atoms = listed (λ i. isOne (atomAt m i)) (widthWord m) };
   sets = listed (setOf m) (rowCount m);

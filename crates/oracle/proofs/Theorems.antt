@@ -11,7 +11,7 @@ use Rattle.pmtl.specs.Book.Row.{historically, once, since}
 use Rattle.pmtl.specs.Monitor.{State, fullest, value}
 use Rattle.pmtl.specs.Early.{early}
 use Rattle.pmtl.specs.Settled.{settled}
-use Rattle.pmtl.specs.Calls.{Call, call, after, accepted}
+use Rattle.pmtl.specs.Calls.{Call, call, afterIn, after, accepted}
 use Rattle.pmtl.specs.Meaning.{meaning}
 use Rattle.pmtl.specs.Past.{held, SomeCall, SinceCall}
 use Rattle.pmtl.proofs.Strict.{never-eleven as strict-never}
@@ -42,7 +42,7 @@ made-book (calls k made c) = c .book ∙ made-book made
 
 -- and the definitions' state after those calls
 pub made-state : {way : Loading} {words : List ℕ} {ks : List Call} {m : List ℕ} → Made way words ks m → stateOf m ≡ after (bookSaid way words .rows) ks
-unfolding after
+unfolding afterIn
 made-state (loads l) = l .state
 made-state (calls k made c) =
     c .state ∙ ap₂ (λ (b : Book) (st : State). call (b .rows) st k .state) (made-book made) (made-state made)

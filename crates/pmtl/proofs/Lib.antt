@@ -1,5 +1,6 @@
 pub mod Table
 pub mod Answers
+pub mod Still
 pub mod Seams
 pub mod Renewed
 pub mod History

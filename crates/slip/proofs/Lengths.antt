@@ -16,7 +16,8 @@ use Rattle.text.specs.Words.{supply}
 use Rattle.text.specs.Decimals.{decimal}
 use Rattle.text.proofs.Digits.{at-most, at-most-20}
 use Rattle.pmtl.specs.Book.{Rows, Book, properties, widthOf, some}
-use Rattle.pmtl.specs.Monitor.{Snap, State, fullest, initial, step}
+use Rattle.pmtl.specs.Sets.{ordinary}
+use Rattle.pmtl.specs.Monitor.{Snap, State, fullest, initial, stepIn}
 use Rattle.pmtl.specs.Calls.{Call, time, state, stamped, turns, timeRefusal, stateRefusal, firstOf as firstNumber, refusal, crowded, Outcome, play, call}
 use Rattle.pmtl.proofs.Fullest.{fresh-none, call-few}
 use Rattle.book.specs.Rows.{temporal}
@@ -61,10 +62,10 @@ small-refusal b now (stamped t bytes) = either-small (eqb (timeRefusal now t) 0)
 small-play : (b : Rows) (old st : State) (ns : List Snap) → play b old st ns .number < 100
 unfolding play
 small-play b old st [] = omega arith
-small-play b old st (n ∷ ns) = go (crowded (step b st n)) (small-play b old (step b st n) ns)
+small-play b old st (n ∷ ns) = go (crowded (stepIn b st n)) (small-play b old (stepIn b st n) ns)
   where
-    go : (z : Bool) → play b old (step b st n) ns .number < 100
-        → elim z as (λ x. Outcome) [ true ↦ record { number = 11; state = old } | false ↦ play b old (step b st n) ns ] .number < 100
+    go : (z : Bool) → play b old (stepIn b st n) ns .number < 100
+        → elim z as (λ x. Outcome) [ true ↦ record { number = 11; state = old } | false ↦ play b old (stepIn b st n) ns ] .number < 100
     go true h = omega arith
     go false h = h
 
@@ -212,7 +213,7 @@ module _ (way : Loading) (input : List ℕ) where
       let b = admitted way (loadedFrom s) .book in
       let ks = callsAfter ending ws .calls in
       let few : 4 * length ks ≤ length input - 9 = omega (arith, g .1, c .1, few-words input) in
-      let l = lines-length b (callsAfter ending ws .ends) (loads-by way s (g .0) .few) (c .0) ks 0 (initial (b .rows)) (omega (arith, fresh-none (b .rows))) (omega arith) in
+      let l = lines-length b (callsAfter ending ws .ends) (loads-by way s (g .0) .few) (c .0) ks 0 (initial (b .rows)) (omega (arith, fresh-none ordinary (b .rows))) (omega arith) in
       let n = first-length in
       rw (lines-loaded way input f e z) (simp length-append (omega arith))
 

@@ -11,7 +11,7 @@ use Rattle.numbers.specs.Refusals.{ACCEPTED}
 use Rattle.text.specs.Words.{supply}
 use Rattle.pmtl.specs.Book.{Book}
 use Rattle.pmtl.specs.Monitor.{State, initial}
-use Rattle.pmtl.specs.Calls.{Call, Outcome, call, after}
+use Rattle.pmtl.specs.Calls.{Call, Outcome, call, afterIn, after}
 use Rattle.book.specs.Reading.{Read, got, refused, Sections}
 use Rattle.book.specs.declared.strict.Loading.{Loading}
 use Rattle.book.specs.declared.strict.Excess.{Excess}
@@ -51,7 +51,7 @@ lines-length b done st (k ∷ ks) = ap suc (lines-length b (suc done) (call (b .
 
 pub lines-at : (b : Book) (done : ℕ) (past ks : List Call) (i : ℕ) → i < length ks → getD (linesOf b done (after (b .rows) past) ks) i noCallLine
     ≡ lineOf b (suc (done + i)) (call (b .rows) (after (b .rows) (reverseAux (take i ks) past)) (getD ks i missingCall))
-unfolding linesOf after
+unfolding linesOf afterIn
 lines-at b done past [] i h = absurd (omega arith)
 lines-at b done past (k ∷ ks) zero h = let e : done + 0 ≡ done = omega arith in rw e
 lines-at b done past (k ∷ ks) (suc i) h =
@@ -62,7 +62,7 @@ abbrev pub sayings : ℕ → Book → List Call → CallLine
 sayings i b ks = lineOf b (suc i) (call (b .rows) (after (b .rows) (reverse (take i ks))) (getD ks i missingCall))
 
 said-at : (b : Book) (ks : List Call) (i : ℕ) → i < length ks → getD (linesOf b 0 (initial (b .rows)) ks) i noCallLine ≡ sayings i b ks
-unfolding after
+unfolding afterIn
 said-at b ks i h = let e : 0 + i ≡ i = omega arith in rw e at (lines-at b 0 [] ks i h)
 
 number-of : (b : Book) (i : ℕ) (o : Outcome) → lineOf b i o .number ≡ i

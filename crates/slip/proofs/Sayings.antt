@@ -12,7 +12,7 @@ use Rattle.numbers.specs.Refusals.{ACCEPTED}
 use Rattle.lists.proofs.Listed.{listed-length, listed-at}
 use Rattle.pmtl.specs.Book.{Book, Ordered, properties}
 use Rattle.pmtl.specs.Monitor.{fullest}
-use Rattle.pmtl.specs.Calls.{Call, Outcome, call, after}
+use Rattle.pmtl.specs.Calls.{Call, Outcome, call, afterIn, after}
 use Rattle.book.specs.Reading.{Read, got, refused, Sections}
 use Rattle.book.specs.declared.strict.Loading.{Loading}
 use Rattle.book.specs.declared.strict.Excess.{Excess}
@@ -80,7 +80,7 @@ module _ (way : Loading) (input : List ℕ) {i : ℕ} {l : CallLine} (c : Called
 
   -- the digits of the answers after the calls up to that line
   word-here : (p : ℕ) → p < length (wordsIn (l .rest)) → getD (wordsIn (l .rest)) p noWord ≡ answered way input i p
-  unfolding after
+  unfolding afterIn
   word-here p h =
       ap (λ (x : CallLine). getD (wordsIn (x .rest)) p noWord) (sym (c .is))
       ∙ word-at (bookSaid way input) (suc (c .others)) outcome p accepted (subst (λ (x : CallLine). p < length (wordsIn (x .rest))) (sym (c .is)) h)
@@ -89,7 +89,7 @@ module _ (way : Loading) (input : List ℕ) {i : ℕ} {l : CallLine} (c : Called
 
   -- how many runs the fullest set has after the calls up to that line
   pub count-here : countIn (l .rest) ≡ fullest (after (bookSaid way input .rows) (firstCalls input i))
-  unfolding after
+  unfolding afterIn
   count-here =
       ap (λ (x : CallLine). countIn (x .rest)) (sym (c .is))
       ∙ count-at (bookSaid way input) (suc (c .others)) outcome accepted

@@ -14,6 +14,7 @@ use Rattle.pmtl.specs.Book.{properties}
 use Rattle.pmtl.specs.declared.Answer.{Answer}
 use Rattle.pmtl.specs.declared.Answer.the-variants.{False, True, Open}
 use Rattle.pmtl.specs.Answer.{digitOf, bitOf, known}
+use Rattle.pmtl.specs.Sets.{ordinary}
 use Rattle.pmtl.specs.Monitor.{fullest, value}
 use Rattle.pmtl.specs.Settled.{settled}
 use Rattle.pmtl.specs.Calls.{after, accepted}
@@ -68,7 +69,7 @@ count-says way input i h z = count-here way input (called-line way input i h) z
 
 -- it never passes the limit
 pub count-few : (way : Loading) (input : List ℕ) (i : ℕ) {l : CallLine} → getD (lines way input) i noLine ≡ called l → l .refusal ≡ ACCEPTED → countIn (l .rest) ≤ MOST-RUNS
-count-few way input i h z = rw (count-says way input i h z) (fullest-few (bookSaid way input .rows) (firstCalls input i))
+count-few way input i h z = rw (count-says way input i h z) (fullest-few ordinary (bookSaid way input .rows) (firstCalls input i))
 
 -- a refused line has neither words nor count
 pub refused-says-nothing : (way : Loading) (input : List ℕ) (i : ℕ) {l : CallLine} → getD (lines way input) i noLine ≡ called l → ¬ (l .refusal ≡ ACCEPTED) → l .rest ≡ nothing

@@ -10,7 +10,7 @@ use Rattle.numbers.specs.Refusals.{ACCEPTED}
 use Rattle.text.specs.Words.{supply}
 use Rattle.pmtl.specs.Book.{Book}
 use Rattle.pmtl.specs.Monitor.{State, initial}
-use Rattle.pmtl.specs.Calls.{Call, Outcome, call, after}
+use Rattle.pmtl.specs.Calls.{Call, Outcome, call, afterIn, after}
 use Rattle.pmtl.proofs.Theorems.{refused-changes-nothing}
 use Rattle.book.specs.Reading.{Read, got, refused, Sections}
 use Rattle.book.specs.declared.strict.Loading.{Loading}
@@ -44,7 +44,7 @@ module _ (b : Book) (e : Ending) where
   -- ---- without the line of a refused call
   cut : (done : ℕ) (past before : List Call) (k : Call) (later : List Call) → ¬ (call (b .rows) (after (b .rows) (reverseAux before past)) k .number ≡ ACCEPTED)
       → without (length before) (ends (linesOf b done (after (b .rows) past) (before ++ k ∷ later))) ≡ ends (linesOf b done (after (b .rows) past) (before ++ later))
-  unfolding ends linesOf after without
+  unfolding ends linesOf afterIn without
   cut done past [] k later n = rw (refused-changes-nothing (b .rows) (after (b .rows) past) k n) (lower done (after (b .rows) past) later)
   cut done past (x ∷ before) k later n = ap (λ ls. called (lineOf b (suc done) (call (b .rows) (after (b .rows) past) x)) ∷ ls) (cut (suc done) (x ∷ past) before k later n)
 
@@ -92,7 +92,7 @@ module _ (way : Loading) {input : List ℕ} {i : ℕ} (c : CallAt input i) where
 
     -- the line says what came of the call
     its-line : {l : CallLine} → getD (lines way input) i noLine ≡ called l → l .refusal ≡ outcome .number
-    unfolding ends after lineOf
+    unfolding ends afterIn lineOf
     its-line {l} h =
         let ks = c .before ++ c .itself ∷ later .calls in
         let q = at-place (linesOf loaded 0 (initial (loaded .rows)) ks) (later .ends) (length (c .before)) l (ap₂ (λ ls n. getD ls n noLine) (sym lines-are) (sym (c .place)) ∙ h) in
@@ -101,7 +101,7 @@ module _ (way : Loading) {input : List ℕ} {i : ℕ} (c : CallAt input i) where
         ∙ ap₂ (λ xs k. call (loaded .rows) (after (loaded .rows) (reverse xs)) k .number) (take-append-seam (c .before) (c .itself ∷ later .calls)) (getD-append-seam (c .before) (c .itself) (later .calls) missingCall)
 
     lines-cut : {other : List ℕ} → ¬ (outcome .number ≡ ACCEPTED) → TakenOut c other → lines way other ≡ without i (lines way input)
-    unfolding without after
+    unfolding without afterIn
     lines-cut n t =
         others-are t
         ∙ ap (λ ls. book ACCEPTED Within ∷ ls) (sym (cut loaded (later .ends) 0 [] (c .before) (c .itself) (later .calls) n))

@@ -5,11 +5,10 @@ use mathlib.Core.Path.{_≡_, refl, sym, ap, _∙_, subst⁻¹}
 use mathlib.Core.Bool.{Bool, true, false, not, _||_, Bool·beq}
 use mathlib.Core.List.{List, [], _∷_, map}
 use lib.ListN.{length, getD, take, drop, length-drop}
-use Rattle.pmtl.specs.Book.{mapRow, some, itself}
+use Rattle.pmtl.specs.Book.{mapRow, some, itself, moveRule}
 use Rattle.memory.specs.declared.RowWords.{RowWords}
 use Rattle.memory.specs.Layout.{OPERANDS, MOVES}
 use Rattle.memory.specs.Memory.{rowCount, kindAt, argAt, lowerAt, upperAt, startAt, wordsAt, operandAt, operandsOf, operandsFrom, rowOf}
-use Rattle.memory.specs.Tables.{moveRule}
 use Rattle.memory.specs.Kept.{BookKept, Span, Sound}
 use Rattle.memory.proofs.Rows.{Read, span-rest, walk-cons, first-below}
 use Rattle.book.specs.Rows.{rowFrom, countOf}

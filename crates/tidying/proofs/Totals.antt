@@ -16,7 +16,7 @@ use Rattle.pmtl.specs.Answer.{bitOf}
 use Rattle.pmtl.specs.Book.{Range, Row, mapRow, Rows, rowAt, Ordered, atomWidth, widthOf, answer, some}
 use Rattle.pmtl.specs.Book.Row.{never, always, atom, conj, disj, neg, implies, historically, once, since}
 use Rattle.pmtl.specs.Sets.{setRuleBy, setRule}
-use Rattle.pmtl.specs.Monitor.{fullest, initial, value}
+use Rattle.pmtl.specs.Monitor.{fullest, initialIn, value}
 use Rattle.pmtl.specs.Calls.{crowded, History}
 use Rattle.pmtl.specs.Past.{runBy, run}
 use Rattle.pmtl.proofs.Table.{answer-in}
@@ -221,7 +221,7 @@ module _ (a a′ : Sections) (ok : judged a ≡ 0) (ok′ : judged a′ ≡ 0) (
     set-empty x v {r} i e (n ∷ h) = ap length (set-in x v n h i ∙ e (n .clock) (setOf x v h r) (value x (run x (n ∷ h))))
 
     sets-long : (x : Rows) (h : History) → length (run x h .sets) ≡ length x
-    unfolding runBy initial
+    unfolding runBy initialIn
     sets-long x [] = length-replicate (length x) []
     sets-long x (n ∷ h) = step-sets x (run x h) n
 
