@@ -176,7 +176,8 @@ module _ (b : Rows) (w : Ordered b) where
 
   -- ---- a strict book
   module _ (strict : Strict b) where
-    never-full : (h : History) → Legal b h → Full b h → ⊥
+    -- no calls can fill it
+    pub never-full : (h : History) → Legal b h → Full b h → ⊥
     never-full h l f =
         let r = f .0 in
         let m = more-length MOST-RUNS (nowOf b h .clock) _ (setAt (ran b h) r) (run-canonical b h r) (run-none-before b h l r) (sets-mean b w r h l) (f .1) in

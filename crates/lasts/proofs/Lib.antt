@@ -1,0 +1,5 @@
+pub mod Ticks
+pub mod Stretch
+pub mod Follows
+pub mod Theorems
+pub mod Witness
