@@ -20,7 +20,7 @@ use Rattle.memory.specs.Memory.{rowCount, temporals, kindAt, slotAt, ownerAt, s
 use Rattle.memory.specs.Kept.{Sound}
 use Rattle.memory.proofs.Rows.{rows-length, row-at}
 use Rattle.set_change.specs.Change.{changed, bothOf, modeIn}
-use Rattle.set_change.proofs.AsOne.{changed-both, stays-both}
+use Rattle.set_change.proofs.AsOne.{changed-both, stays-both, row-mode-small}
 use Rattle.calls.specs.Private.{snapOf, stepOf, setAfter, setAhead, ahead}
 use Rattle.calls.proofs.Rules.{no-set, changed-set, set-at, set-of-slot}
 
@@ -77,7 +77,7 @@ module _ {m : List ℕ} (sound : Sound m) {c : ℕ} (small : c ≤ LAST-TIME) wh
       ∙ changed-set c (setOf m r) f m r k (sound .book .rows r h .kind)
       ∙ ap (changed mode (start (rangeAt m r) c) (stop (rangeAt m r) c) c) (set-of-slot m r k)
       ∙ sym (own h k mode)
-      ∙ ap (λ (q : ℕ). setAfter m c q (slotAt m r)) (sym (stays-both mode))
+      ∙ ap (λ (q : ℕ). setAfter m c q (slotAt m r)) (sym (stays-both mode (row-mode-small (mapRow f (rowOf m r)))))
       ∙ ap (λ (q : ℕ). setAfter m c (bothOf q mode) (slotAt m r)) (sym (none (slotAt m r) (sound .book .rows r h .slot k)))
       ∙ sym (rule-both h k modes f))
 

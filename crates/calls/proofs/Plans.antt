@@ -27,7 +27,7 @@ use Rattle.memory.specs.Kept.{BookKept, Sound}
 use Rattle.memory.specs.Alike.{Alike}
 use Rattle.memory.proofs.Rows.{rows-length, row-at, kept-ordered}
 use Rattle.memory.proofs.Alike.{alike-filled, alike-sound, alike-rows, alike-set}
-use Rattle.set_change.specs.Change.{changed, bothOf, modeIn}
+use Rattle.set_change.specs.Change.{changed, growing, bothOf, modeIn}
 use Rattle.set_change.proofs.Changes.{room-else, will-0}
 use Rattle.calls.specs.Private.{snapOf, stepOf, ahead, setAhead, heldIn, setNext, valueNext, modeAt, modeNext, setAfter, rowPlan, modePut, RowTried, valueAfter, Planned, Bounded, Slot}
 use Rattle.calls.proofs.Rules.{no-set}
@@ -342,4 +342,4 @@ module _ {m : List ℕ} {c j r : ℕ} (slot : Slot m c j r) where
         {mode : ℕ} {here : Bool} → mode ≡ 0 → here ≡ has (runs p) c → {wanted : ℕ} → mode ≡ wanted → record { mode = mode; here = here; room = true } ≡ rowPlan m c wanted j
     plan-stays {mode} {here} z eh {wanted} em =
         let g = rangeAt m r in
-        plan-made refl refl (room-else mode (start g c) (stop g c) c slot-good slot-long (λ one. omega arith)) (will-0 mode (start g c) (stop g c) c (runs p) eh z) em
+        plan-made refl refl (room-else mode (start g c) (stop g c) c slot-good slot-long (ap (λ (k : ℕ). growing k) z)) (will-0 mode (start g c) (stop g c) c (runs p) eh z) em
