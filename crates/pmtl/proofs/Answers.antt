@@ -90,16 +90,17 @@ module _ (b : Rows) (st : State) (now : Snap) where
   pub step-ordinary : st .way ≡ ordinary → stepIn b st now ≡ step b st now
   step-ordinary e = ap (λ w. stepBy (renewedIn w (st .now .clock)) b st now) e
 
--- a step looks at the sets before it only through what the rule makes of them
-module _ (b : Rows) (st st′ : State) (now : Snap) (one-way : st .way ≡ st′ .way)
-    (same : (r : ℕ) → r < length b → (f : ℕ → Bool) → setRule (now .clock) (setAt st r) (mapRow f (rowAt b r)) ≡ setRule (now .clock) (setAt st′ r) (mapRow f (rowAt b r))) where
-  same-cell : (r : ℕ) → r < length b → (f : ℕ → Cell) → cellRule st now r (mapRow f (rowAt b r)) ≡ cellRule st′ now r (mapRow f (rowAt b r))
+-- a step looks at the sets before it, and at how sets are renewed, only through what the rule makes of them
+module _ (renew renew′ : Renew) (b : Rows) (st st′ : State) (now : Snap) (one-way : st .way ≡ st′ .way)
+    (same : (r : ℕ) → r < length b → (f : ℕ → Bool)
+    → setRuleBy renew (now .clock) (setAt st r) (mapRow f (rowAt b r)) ≡ setRuleBy renew′ (now .clock) (setAt st′ r) (mapRow f (rowAt b r))) where
+  same-cell : (r : ℕ) → r < length b → (f : ℕ → Cell) → cellRuleBy renew st now r (mapRow f (rowAt b r)) ≡ cellRuleBy renew′ st′ now r (mapRow f (rowAt b r))
   same-cell r h f = ap (λ (s : Runs). record { set = s; value = valueRule (now .atoms) (has s (now .clock)) (mapRow valueIn (mapRow f (rowAt b r))) })
       (rw (mapRow-mapRow valueIn f (rowAt b r)) (same r h (λ o. f o .value)))
 
-  pub step-same : step b st now ≡ step b st′ now
+  pub step-same : stepBy renew b st now ≡ stepBy renew′ b st′ now
   unfolding stepBy
-  step-same = ap₂ (λ w t. record { way = w; begun = true; now = now; sets = map setIn t }) one-way (table-local b noCell (cellRule st now) (cellRule st′ now) (length b) same-cell)
+  step-same = ap₂ (λ w t. record { way = w; begun = true; now = now; sets = map setIn t }) one-way (table-local b noCell (cellRuleBy renew st now) (cellRuleBy renew′ st′ now) (length b) same-cell)
 
 module _ (b : Rows) (w : Ordered b) where
   module _ (st : State) where

@@ -76,6 +76,10 @@ unfolding kept AllRuns
 none-before-kept c [] h = refl
 none-before-kept c (run l u ∷ rs) h = kept-in c l u rs (h .0) ∙ ap (λ q. run l u ∷ q) (none-before-kept c rs (h .1))
 
+-- what was dropped once is not there to be dropped again
+pub kept-again : (c : ℕ) (s : Runs) → kept c (kept c s) ≡ kept c s
+kept-again c s = none-before-kept c (kept c s) (kept-none-before c s)
+
 -- what follows of every run is so of those that are kept
 pub kept-all : (P Q : ℕ → ℕ → Type 0) → ((l u : ℕ) → P l u → Q l u) → (c : ℕ) (s : Runs) → AllRuns P s → AllRuns Q (kept c s)
 unfolding kept AllRuns

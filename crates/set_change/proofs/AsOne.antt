@@ -7,15 +7,16 @@ use borrow.Author.Tests.{le-leb, lt-leb}
 use Rattle.lists.proofs.Tests.{clash}
 use native.Mathlib.Omega.{arith}
 use Rattle.numbers.specs.Limits.{MAX}
-use Rattle.numset.specs.Runs.{Runs, Canonical}
+use Rattle.numset.specs.Runs.{Runs, kept, union, Canonical}
 use Rattle.pmtl.specs.Book.{Range, start, stop, Row}
 use Rattle.pmtl.specs.Book.Row.{never, always, atom, conj, disj, neg, implies, historically, once, since}
 use Rattle.pmtl.specs.Sets.{staysIf, addedIf, renewed}
+use Rattle.pmtl.proofs.EachRun.{kept-again}
 use Rattle.pmtl.proofs.Twice.{changed-twice, renewed-twice}
-use Rattle.set_change.specs.Change.{modeOf, changed, growing, spanned, countedFrom, adding, bothOf, modeIn}
+use Rattle.set_change.specs.Change.{modeOf, changed, growing, spanned, spannedIf, countedFrom, adding, bothOf, modeIn}
 
 -- the second change of what the first left is the two of them as one, of the set before both; the first may count from any instant up to the clock
-pub changed-both-from : (g : Range) (from c : ℕ) → from ≤ c → c ≤ MAX → (s : Runs) → Canonical s → (first second : ℕ)
+changed-both-from : (g : Range) (from c : ℕ) → from ≤ c → c ≤ MAX → (s : Runs) → Canonical s → (first second : ℕ)
     → changed second (start g c) (stop g c) c (changed first (start g (countedFrom from c first)) (stop g c) c s)
     ≡ changed (bothOf first second) (start g (countedFrom from c (bothOf first second))) (stop g c) c s
 unfolding changed adding bothOf renewed addedIf staysIf
@@ -37,23 +38,8 @@ changed-both-from g from c b h s ok (suc (suc zero)) (suc (suc (suc (suc j)))) =
 changed-both-from g from c b h s ok (suc (suc (suc zero))) (suc (suc (suc (suc j)))) = renewed-twice g c h s ok false true true true
 changed-both-from g from c b h s ok (suc (suc (suc (suc k)))) (suc (suc (suc (suc j)))) = changed-twice g from c b h s ok true true true true
 
--- where no stretch is counted
-from-clock : (c k : ℕ) → countedFrom c c k ≡ c
-from-clock c zero = refl
-from-clock c (suc zero) = refl
-from-clock c (suc (suc zero)) = refl
-from-clock c (suc (suc (suc zero))) = refl
-from-clock c (suc (suc (suc (suc k)))) = refl
-
-pub changed-both : (g : Range) (c : ℕ) → c ≤ MAX → (s : Runs) → Canonical s → (first second : ℕ)
-    → changed second (start g c) (stop g c) c (changed first (start g c) (stop g c) c s) ≡ changed (bothOf first second) (start g c) (stop g c) c s
-changed-both g c h s ok first second =
-    let e : ℕ → ℕ → Runs → Runs = λ k from x. changed k (start g from) (stop g c) c x in
-    ap (λ from. e second c (e first from s)) (sym (from-clock c first)) ∙ changed-both-from g c c (omega arith) h s ok first second
-    ∙ ap (λ from. e (bothOf first second) from s) (from-clock c (bothOf first second))
-
 -- where the first lets the set stay and adds nothing, they are the second, if that counts from the clock
-pub stays-both : (second : ℕ) → second < 4 → bothOf 0 second ≡ second
+stays-both : (second : ℕ) → second < 4 → bothOf 0 second ≡ second
 unfolding adding bothOf
 stays-both zero h = refl
 stays-both (suc zero) h = refl
@@ -80,6 +66,41 @@ row-mode-small (implies l r) = omega arith
 row-mode-small (historically g v) = mode-small true (not v)
 row-mode-small (once g v) = mode-small true v
 row-mode-small (since g l r) = mode-small l r
+
+-- a change from what was dropped already is one from the set
+changed-kept : (k l u c : ℕ) (s : Runs) → changed k l u c (kept c s) ≡ changed k l u c s
+unfolding changed
+changed-kept zero l u c s = kept-again c s
+changed-kept (suc zero) l u c s = ap (union l u) (kept-again c s)
+changed-kept (suc (suc zero)) l u c s = refl
+changed-kept (suc (suc (suc zero))) l u c s = refl
+changed-kept (suc (suc (suc (suc k)))) l u c s = ap (union l u) (kept-again c s)
+
+-- what counts from the clock
+small-from : (from c k : ℕ) → k < 4 → countedFrom from c k ≡ c
+small-from from c zero h = refl
+small-from from c (suc zero) h = refl
+small-from from c (suc (suc zero)) h = refl
+small-from from c (suc (suc (suc zero))) h = refl
+small-from from c (suc (suc (suc (suc k)))) h = absurd (omega arith)
+
+-- a step that counts a stretch is the first of its call, one that does not may follow another: either way what it makes of the set that the steps
+-- before left is one change of the set before all of them
+pub changed-next : (spans : Bool) (g : Range) (from c : ℕ) → from ≤ c → c ≤ MAX → (s : Runs) → Canonical s → (first second : ℕ) → (spans ≡ true → first ≡ 0) → second < 4
+    → let k = spannedIf spans second in
+    let both = spannedIf spans (bothOf first second) in
+    changed k (start g (countedFrom from c k)) (stop g c) c (changed first (start g (countedFrom from c first)) (stop g c) c s)
+    ≡ changed both (start g (countedFrom from c both)) (stop g c) c s
+unfolding changed
+changed-next true g from c b h s ok first second none small =
+    let k : ℕ = spanned second in
+    let after : ℕ → Runs → Runs = λ j x. changed j (start g (countedFrom from c j)) (stop g c) c x in
+    ap (λ j. after k (after j s)) (none refl)
+    ∙ changed-kept k (start g (countedFrom from c k)) (stop g c) c s
+    ∙ ap (λ j. after (spanned j) s) (sym (stays-both second small) ∙ ap (λ j. bothOf j second) (sym (none refl)))
+changed-next false g from c b h s ok first second none small =
+    let before : Runs = changed first (start g (countedFrom from c first)) (stop g c) c s in
+    ap (λ x. changed second (start g x) (stop g c) c before) (small-from from c second small) ∙ changed-both-from g from c b h s ok first second
 
 -- ---- the code, arm by arm
 pub spans-1 : (k : ℕ) → k ≡ 1 → 4 ≡ spanned k
@@ -142,3 +163,10 @@ module _ (first : ℕ) where
   both-2 (suc (suc zero)) m e f = refl
   both-2 (suc (suc (suc zero))) m e f = refl
   both-2 (suc (suc (suc (suc k)))) m e f = absurd (clash e f)
+
+module _ {spans : Bool} {joined wanted : ℕ} (e : joined ≡ wanted) where
+  pub next-spans : spans ≡ true → {k : ℕ} → k ≡ spanned joined → k ≡ spannedIf spans wanted
+  next-spans t ek = rw t (ek ∙ ap (λ (j : ℕ). spanned j) e)
+
+  pub next-counts : spans ≡ false → joined ≡ spannedIf spans wanted
+  next-counts f = rw f e

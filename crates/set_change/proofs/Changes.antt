@@ -2,7 +2,7 @@
 use Prim.Native.Nat.{ℕ, zero, suc, _+_, _*_, _≤_, _<_, min}
 use mathlib.Core.Path.{_≡_, refl, sym, ap, _∙_}
 use mathlib.Core.Logic.{⊎-elim}
-use mathlib.Core.Bool.{Bool, true, false, not, _||_, or-false, true≢false}
+use mathlib.Core.Bool.{Bool, true, false, cond, not, _||_, or-false, true≢false}
 use mathlib.Core.List.{List, []}
 use native.Mathlib.Omega.{arith}
 use lib.ListN.{length, getD}
@@ -14,21 +14,13 @@ use Rattle.numset.proofs.Words.{length-runs}
 use Rattle.numset.proofs.Packs.{length-pack, runs-pack}
 use Rattle.numset.proofs.Kept.{kept-under, kept-canonical, kept-has, kept-length}
 use Rattle.numset.proofs.Changes.{added-words}
-use Rattle.pmtl.specs.Book.{Range, start, stop}
+use Rattle.pmtl.specs.Book.{Range, start, stop, Row}
 use Rattle.pmtl.specs.Book.Row.{historically, once, since}
-use Rattle.pmtl.specs.Sets.{staysIf, addedIf, renewed, lasted, setRuleBy, setRule}
-use Rattle.set_change.specs.Change.{modeOf, changed, growing, spanned, countedFrom, modeIn}
+use Rattle.pmtl.specs.Sets.{staysIf, addedIf, renewed, lasted, ordinary, lasting, renewedIn, setRuleBy}
+use Rattle.set_change.specs.Change.{modeOf, changed, growing, spanned, spannedIf, countedFrom, modeIn}
 
--- ---- what the definitions say of a set
-pub mode-renewed : (stays adds : Bool) (g : Range) (c : ℕ) (s : Runs) → renewed stays adds g c s ≡ changed (modeOf stays adds) (start g c) (stop g c) c s
-unfolding renewed addedIf staysIf changed
-mode-renewed true true g c s = refl
-mode-renewed true false g c s = refl
-mode-renewed false true g c s = refl
-mode-renewed false false g c s = refl
-
--- and where a state lasts: the clock before it is `before`
-pub mode-lasted : (before : ℕ) (stays adds : Bool) (g : Range) (c : ℕ) (s : Runs)
+-- ---- what the definitions say of a set: in a step that counts the stretch since the clock before, or in one that counts from the clock alone
+mode-lasted : (before : ℕ) (stays adds : Bool) (g : Range) (c : ℕ) (s : Runs)
     → let k = spanned (modeOf stays adds) in lasted before stays adds g c s ≡ changed k (start g (countedFrom (min (before + 1) c) c k)) (stop g c) c s
 unfolding lasted addedIf staysIf changed
 mode-lasted before true true g c s = refl
@@ -36,18 +28,38 @@ mode-lasted before true false g c s = refl
 mode-lasted before false true g c s = refl
 mode-lasted before false false g c s = refl
 
-module _ (c : ℕ) (s : Runs) (g : Range) where
-  pub set-historically : (v : Bool) → setRule c s (historically g v) ≡ changed (modeIn (historically g v)) (start g c) (stop g c) c s
-  unfolding setRuleBy modeIn
-  set-historically v = mode-renewed true (not v) g c s
+mode-renewed : (first : ℕ) (stays adds : Bool) (g : Range) (c : ℕ) (s : Runs)
+    → let k = modeOf stays adds in renewed stays adds g c s ≡ changed k (start g (countedFrom first c k)) (stop g c) c s
+unfolding renewed addedIf staysIf changed
+mode-renewed first true true g c s = refl
+mode-renewed first true false g c s = refl
+mode-renewed first false true g c s = refl
+mode-renewed first false false g c s = refl
 
-  pub set-once : (v : Bool) → setRule c s (once g v) ≡ changed (modeIn (once g v)) (start g c) (stop g c) c s
-  unfolding setRuleBy modeIn
-  set-once v = mode-renewed true v g c s
+mode-in : (spans : Bool) (before : ℕ) (stays adds : Bool) (g : Range) (c : ℕ) (s : Runs)
+    → let k = spannedIf spans (modeOf stays adds) in
+    renewedIn (cond spans lasting ordinary) before stays adds g c s ≡ changed k (start g (countedFrom (min (before + 1) c) c k)) (stop g c) c s
+mode-in true before stays adds g c s = mode-lasted before stays adds g c s
+mode-in false before stays adds g c s = mode-renewed (min (before + 1) c) stays adds g c s
 
-  pub set-since : (l r : Bool) → setRule c s (since g l r) ≡ changed (modeIn (since g l r)) (start g c) (stop g c) c s
+module _ (spans : Bool) (before c : ℕ) (s : Runs) (g : Range) where
+  abbrev in-mode : ℕ → Runs
+  in-mode k = changed k (start g (countedFrom (min (before + 1) c) c k)) (stop g c) c s
+
+  abbrev by-rule : Row Bool → Runs
+  by-rule row = setRuleBy (renewedIn (cond spans lasting ordinary) before) c s row
+
+  pub set-historically : (v : Bool) → by-rule (historically g v) ≡ in-mode (spannedIf spans (modeIn (historically g v)))
   unfolding setRuleBy modeIn
-  set-since l r = mode-renewed l r g c s
+  set-historically v = mode-in spans before true (not v) g c s
+
+  pub set-once : (v : Bool) → by-rule (once g v) ≡ in-mode (spannedIf spans (modeIn (once g v)))
+  unfolding setRuleBy modeIn
+  set-once v = mode-in spans before true v g c s
+
+  pub set-since : (l r : Bool) → by-rule (since g l r) ≡ in-mode (spannedIf spans (modeIn (since g l r)))
+  unfolding setRuleBy modeIn
+  set-since l r = mode-in spans before l r g c s
 
 -- ---- change by change
 module _ (l u c : ℕ) (rs : Runs) where

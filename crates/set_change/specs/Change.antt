@@ -36,6 +36,10 @@ spanned zero = 0
 spanned (suc zero) = 4
 spanned (suc (suc k)) = suc (suc k)
 
+abbrev pub spannedIf : (spans : Bool) → ℕ → ℕ
+spannedIf true k = spanned k
+spannedIf false k = k
+
 -- the first instant that a change at clock c counts from, where the stretch begins at `first`
 abbrev pub countedFrom : (first c : ℕ) → ℕ → ℕ
 countedFrom first c zero = c

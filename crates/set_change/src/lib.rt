@@ -6,7 +6,7 @@ ghost use mathlib.Core.Bool.{true};
 ghost use Prim.Native.Nat.{_<_};
 ghost use lib.ListN.{length};
 ghost use Rattle.numset.specs.Runs.{Good, runs, has, fits, pack, within};
-ghost use Rattle.set_change.specs.Change.{modeOf, changed, growing, spanned, adding, bothOf};
+ghost use Rattle.set_change.specs.Change.{modeOf, changed, growing, spanned, spannedIf, adding, bothOf};
 
 // The changes: the set stays, or is dropped; the range is added, or is not. To a set that stays the ranges of a stretch of instants
 // may be added, as one interval.
@@ -32,7 +32,7 @@ pub fn mode(stays: bool, adds: bool) -> u8
 }
 
 // The same change, where a state lasts: what is added to a set that stays counts from every instant of the stretch.
-pub fn spanning(mode: u8) -> u8
+fn spanning(mode: u8) -> u8
     ensures { λ r. ⌜ r ≡ spanned mode ⌝ }
 {
     if mode == STAYS_AND_ADDS {
@@ -66,7 +66,7 @@ fn with_range(mode: u8) -> u8
 
 // Two changes at one clock, as one: the range is the same, and what the first dropped for its age is gone. So the room after the
 // second step, and what the set will then hold, are asked of the set as it is before both.
-pub fn both(first: u8, second: u8) -> u8
+fn both(first: u8, second: u8) -> u8
     ensures { λ r. ⌜ r ≡ bothOf first second ⌝ }
 {
     if second == STAYS {
@@ -76,6 +76,18 @@ pub fn both(first: u8, second: u8) -> u8
         return with_range(first);
     }
     second
+}
+
+// The change that a step makes of a set which the steps before it in the same call are to change as `before` says. Where it counts a
+// stretch of instants it is the first of its call: no time passes after it.
+pub fn next(before: u8, mode: u8, spans: bool) -> u8
+    ensures { λ r. ⌜ r ≡ spannedIf spans (bothOf before mode) ⌝ }
+{
+    let joined = both(before, mode);
+    if spans {
+        return spanning(joined);
+    }
+    joined
 }
 
 fn inside(lower: u64, upper: u64, t: u64) -> bool
