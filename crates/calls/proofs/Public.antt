@@ -11,10 +11,11 @@ use borrow.Author.Tests.{lt-ltb, le-ltb, ltb-false, ne-eqb, eq-eqb}
 use Rattle.numbers.specs.Limits.{LAST-TIME, MOST-ATOMS}
 use Rattle.lists.proofs.Tests.{either, fails-by}
 use Rattle.pmtl.specs.Book.{widthOf, some}
-use Rattle.pmtl.specs.Monitor.{Snap, State, stepIn}
+use Rattle.pmtl.specs.Sets.{Renew}
+use Rattle.pmtl.specs.Monitor.{Snap, State}
 use Rattle.pmtl.specs.Calls.{Call, turns, timeRefusal, stateRefusal, firstOf, refusal, crowded, play, call}
 use Rattle.pmtl.specs.Calls.Call.{time, state, stamped}
-use Rattle.pmtl.proofs.Answers.{step-way, step-ordinary}
+use Rattle.pmtl.proofs.Answers.{step-way-by}
 use Rattle.pmtl.proofs.Calls.{timely, well-stated}
 use Rattle.memory.specs.Layout.{SIZE}
 use Rattle.memory.specs.Memory.{begunWord, clockOf, widthWord, rowsOf, bookOf, stateOf, atomsOf}
@@ -22,11 +23,11 @@ use Rattle.memory.specs.Tables.{Tables}
 use Rattle.memory.specs.Kept.{BookKept, Sound, Kept}
 use Rattle.memory.specs.Alike.{Alike}
 use Rattle.memory.proofs.Alike.{alike-sound, alike-book, alike-state}
-use Rattle.calls.specs.Private.{Bytes, snapOf, stepOf, Atoms, Moved, Tried, TriedBoth, Due, Advanced}
+use Rattle.calls.specs.Private.{Bytes, snapOf, ownRenew, timeStep, Atoms, Moved, Tried, TriedBoth, Due, Advanced}
 use Rattle.calls.specs.Called.{Called}
 use Rattle.calls.proofs.Plans.{some-hit}
 use Rattle.calls.proofs.Heads.{old-same, old-bytes, old-atoms}
-use Rattle.calls.proofs.Advances.{ordinary-way, Leads, played, due, has-room, tried-moved, tried-refused, tried-stands}
+use Rattle.calls.proofs.Advances.{Leads, played, due, has-room, tried-moved, tried-refused, tried-stands}
 
 -- ---- a call that is refused for itself, and one that is not
 called-refused : {m : List ℕ} {k : Call} {n : ℕ} → Kept m → refusal (rowsOf m) (stateOf m .now) k ≡ n → (n ≡ 0 → ⊥) → Called k m m n
@@ -105,7 +106,7 @@ sound-bytes {m} book s e =
     }
 
 -- there is place for the atoms of a state where the sets were changed
-roomy-for : {m m₁ s : List ℕ} {st : State} {c : ℕ} → Kept m → Bytes s (widthWord m) → Moved m st c s m₁ → (length m₁ ≡ SIZE) × (length s ≤ MOST-ATOMS)
+roomy-for : {m m₁ s : List ℕ} {renew : Renew} {st : State} {c : ℕ} → Kept m → Bytes s (widthWord m) → Moved m renew st c s m₁ → (length m₁ ≡ SIZE) × (length s ≤ MOST-ATOMS)
 roomy-for kept bytes v = (v .long, omega (arith, kept .sound .book .narrow, bytes .long))
 
 -- and a byte for each
@@ -126,9 +127,9 @@ module _ {m : List ℕ} (kept : Kept m) (t : ℕ) {late : ℕ} (el : late ≡ ti
     unfolding refusal stateOf
     time-played a kept′ = called-played (sym el ∙ in-time) (ap (λ (bs : List Bool). record { clock = t; atoms = bs } ∷ []) (old-atoms (kept .sound))) a kept′
 
-    module _ {m₁ : List ℕ} {r : ℕ} (tried : Tried m (stateOf m) t (atomsOf m) m₁ r) where
+    module _ {m₁ : List ℕ} {r : ℕ} (tried : Tried m (ownRenew (stateOf m)) (stateOf m) t (atomsOf m) m₁ r) where
       pub time-full : (r ≡ 0 → ⊥) → Called (time t) m m₁ r
-      time-full ne = let q = tried-refused tried refl refl ne in time-played (q .0) (rw (q .1) kept)
+      time-full ne = let q = tried-refused tried refl ne in time-played (q .0) (rw (q .1) kept)
 
       -- its atoms stand there already
       stands : r ≡ 0 → Atoms m₁ (atomsOf m) (length (atomsOf m)) m₁
@@ -154,17 +155,17 @@ module _ {m : List ℕ} (kept : Kept m) (s : List ℕ) {wrong : ℕ} (ew : wrong
     new-bytes = sound-bytes (kept .sound .book) s (sym ew ∙ right)
 
     module _ {clock : ℕ} (ec : clock ≡ clockOf m) where
-      pub state-timely : (Kept m × (clock ≤ LAST-TIME)) × (true ≡ true → widthWord m ≤ length s)
-      state-timely = ((kept, rw ec (kept .sound .clock)), λ e. enough new-bytes)
+      pub state-timely : (Kept m × (clock ≤ LAST-TIME)) × (true ≡ true → (widthWord m ≤ length s) × (clock ≡ clockOf m))
+      state-timely = ((kept, rw ec (kept .sound .clock)), λ e. (enough new-bytes, ec))
 
       state-played : {m′ : List ℕ} {r : ℕ} → Advanced m (snapOf clock s ∷ []) m′ r → Kept m′ → Called (state s) m m′ r
       unfolding refusal stateOf
       state-played a kept′ =
           called-played (sym ew ∙ right) (ap (λ (c : ℕ). snapOf c s ∷ []) ec) a kept′
 
-      module _ {m₁ : List ℕ} {r : ℕ} (tried : Tried m (stateOf m) clock s m₁ r) where
+      module _ {m₁ : List ℕ} {r : ℕ} (tried : Tried m (ownRenew (stateOf m)) (stateOf m) clock s m₁ r) where
         pub state-full : (r ≡ 0 → ⊥) → Called (state s) m m₁ r
-        state-full ne = let q = tried-refused tried refl refl ne in state-played (q .0) (rw (q .1) kept)
+        state-full ne = let q = tried-refused tried refl ne in state-played (q .0) (rw (q .1) kept)
 
         pub state-roomy : r ≡ 0 → (length m₁ ≡ SIZE) × (length s ≤ MOST-ATOMS)
         state-roomy z = roomy-for kept new-bytes (tried-moved tried z)
@@ -216,35 +217,32 @@ module _ {m : List ℕ} (kept : Kept m) (t : ℕ) (s : List ℕ) {late : ℕ} (e
           (ap (λ (bs : List Bool). record { clock = t; atoms = bs } ∷ snapOf t s ∷ []) (old-atoms (kept .sound))) a kept′
 
       abbrev between : State
-      between = stepOf m (stateOf m) t (atomsOf m)
+      between = timeStep m t (atomsOf m)
 
       own : between .way ≡ stateOf m .way
-      own = step-way (rowsOf m) (stateOf m) (snapOf t (atomsOf m))
-
-      is-between : stepIn (rowsOf m) (stateOf m) (snapOf t (atomsOf m)) ≡ between
-      is-between = step-ordinary (rowsOf m) (stateOf m) (snapOf t (atomsOf m)) (ordinary-way m)
+      own = step-way-by (ownRenew (stateOf m)) (rowsOf m) (stateOf m) (snapOf t (atomsOf m))
 
       leads : crowded between ≡ false → Leads m snaps between t s
       unfolding play
-      leads e = rw (is-between, e, play) (ap (λ (q : State). play (rowsOf m) (stateOf m) q (snapOf t s ∷ [])) is-between)
+      leads e = rw (e, play)
 
       none-between : crowded between ≡ true → Advanced m snaps m 11
       unfolding play
-      none-between e = record { number = sym (rw (is-between, e, play)); state = sym (rw (is-between, e, play)); book = refl; refused = λ ne. refl }
+      none-between e = record { number = sym (rw (e, play)); state = sym (rw (e, play)); book = refl; refused = λ ne. refl }
 
       module _ {m₁ : List ℕ} {r : ℕ} (tried : TriedBoth m t (atomsOf m) s m₁ r) where
         pub stamped-full : (r ≡ 0 → ⊥) → Called (stamped t s) m m₁ r
         stamped-full ne =
             ⊎-elim
             (λ (f : crowded between ≡ true). let q = tried .between f in stamped-played (rw (q .0, q .1) (none-between f)) (rw (q .1) kept))
-            (λ (f : crowded between ≡ false). let q = tried-refused (tried .last f) own (leads f) ne in stamped-played (q .0) (rw (q .1) kept))
+            (λ (f : crowded between ≡ false). let q = tried-refused (tried .last f) (leads f) ne in stamped-played (q .0) (rw (q .1) kept))
             (either (crowded between))
 
         module _ (z : r ≡ 0) where
           roomy : crowded between ≡ false
           roomy = fails-by (crowded between) (λ f. let e = tried .between f .0 in absurd (omega arith))
 
-          last : Tried m between t s m₁ r
+          last : Tried m (ownRenew between) between t s m₁ r
           last = tried .last roomy
 
           pub stamped-roomy : (length m₁ ≡ SIZE) × (length s ≤ MOST-ATOMS)

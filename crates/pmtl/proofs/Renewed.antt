@@ -9,7 +9,7 @@ use Rattle.numset.proofs.Union.{union-has, union-canonical}
 use Rattle.numset.proofs.Kept.{kept-canonical, kept-has}
 use Rattle.pmtl.specs.Book.{Range, start, stop, inRange, Row}
 use Rattle.pmtl.specs.Book.Row.{never, always, atom, conj, disj, neg, implies, historically, once, since}
-use Rattle.pmtl.specs.Sets.{gone, staysIf, addedIf, Renew, renewed, renewedAll, firstly, lasted, setRuleBy}
+use Rattle.pmtl.specs.Sets.{gone, staysIf, addedIf, Renew, renewed, renewedAll, firstly, lasted, Way, ordinary, lasting, renewedIn, setRuleBy}
 use Rattle.pmtl.proofs.Seams.{gone-none, kept-gone}
 
 -- the set stays or is dropped
@@ -69,6 +69,21 @@ pub lasted-now : (before : ℕ) (k x : Bool) (g : Range) (c : ℕ) (s : Runs) �
 unfolding lasted renewed
 lasted-now before true x g c s l = let e : min (before + 1) c ≡ c = omega arith in ap (λ from. addedIf x g from c (staysIf true (kept c s))) e
 lasted-now before false x g c s l = refl
+
+-- by any row's rule
+pub renewed-now : (way : Way) (before c : ℕ) (s : Runs) → c ≤ before → (row : Row Bool) → setRuleBy (renewedIn way before) c s row ≡ setRuleBy renewed c s row
+unfolding setRuleBy
+renewed-now ordinary before c s l row = refl
+renewed-now lasting before c s l never = refl
+renewed-now lasting before c s l always = refl
+renewed-now lasting before c s l (atom a) = refl
+renewed-now lasting before c s l (conj vs) = refl
+renewed-now lasting before c s l (disj vs) = refl
+renewed-now lasting before c s l (neg v) = refl
+renewed-now lasting before c s l (implies u v) = refl
+renewed-now lasting before c s l (historically g v) = lasted-now before true (not v) g c s l
+renewed-now lasting before c s l (once g v) = lasted-now before true v g c s l
+renewed-now lasting before c s l (since g u v) = lasted-now before u v g c s l
 
 -- a set that is gone stays so where nothing is added
 pub renewed-gone : (k x : Bool) (g : Range) (c : ℕ) (s : Runs) → Canonical s → x ≡ false → gone c s ≡ true → gone c (renewed k x g c s) ≡ true

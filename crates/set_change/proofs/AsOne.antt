@@ -39,7 +39,7 @@ changed-both-from g from c b h s ok (suc (suc (suc zero))) (suc (suc (suc (suc j
 changed-both-from g from c b h s ok (suc (suc (suc (suc k)))) (suc (suc (suc (suc j)))) = changed-twice g from c b h s ok true true true true
 
 -- where the first lets the set stay and adds nothing, they are the second, if that counts from the clock
-stays-both : (second : ℕ) → second < 4 → bothOf 0 second ≡ second
+pub stays-both : (second : ℕ) → second < 4 → bothOf 0 second ≡ second
 unfolding adding bothOf
 stays-both zero h = refl
 stays-both (suc zero) h = refl
@@ -76,13 +76,20 @@ changed-kept (suc (suc zero)) l u c s = refl
 changed-kept (suc (suc (suc zero))) l u c s = refl
 changed-kept (suc (suc (suc (suc k)))) l u c s = ap (union l u) (kept-again c s)
 
--- what counts from the clock
-small-from : (from c k : ℕ) → k < 4 → countedFrom from c k ≡ c
+-- what counts from the clock, and what from the first instant of the stretch
+pub small-from : (from c k : ℕ) → k < 4 → countedFrom from c k ≡ c
 small-from from c zero h = refl
 small-from from c (suc zero) h = refl
 small-from from c (suc (suc zero)) h = refl
 small-from from c (suc (suc (suc zero))) h = refl
 small-from from c (suc (suc (suc (suc k)))) h = absurd (omega arith)
+
+pub large-from : (from c k : ℕ) → 4 ≤ k → countedFrom from c k ≡ from
+large-from from c zero h = absurd (omega arith)
+large-from from c (suc zero) h = absurd (omega arith)
+large-from from c (suc (suc zero)) h = absurd (omega arith)
+large-from from c (suc (suc (suc zero))) h = absurd (omega arith)
+large-from from c (suc (suc (suc (suc k)))) h = refl
 
 -- a step that counts a stretch is the first of its call, one that does not may follow another: either way what it makes of the set that the steps
 -- before left is one change of the set before all of them
