@@ -1,16 +1,14 @@
 -- The lasting way follows the history in which a time call stands at every instant between. Assumes nothing.
-use Prim.Native.Nat.{ℕ, zero, suc, _≤_, _<_}
+use Prim.Native.Nat.{ℕ, _≤_, _<_}
 use native.Mathlib.Omega.{arith}
 use mathlib.Core.Path.{_≡_, refl, sym, ap, _∙_}
 use mathlib.Core.Bool.{Bool, true, false, cond}
 use mathlib.Core.List.{List, [], _∷_}
 use lib.Dec.{eqb}
 use borrow.Author.Tests.{eqb-true, eqb-false}
-use Rattle.lists.proofs.Tests.{and-left, and-right}
 use Rattle.numbers.specs.Limits.{MAX}
 use Rattle.numset.specs.Runs.{Runs, has, Canonical}
-use Rattle.pmtl.specs.Book.{Range, Row, mapRow, Rows, rowAt, every, moves}
-use Rattle.pmtl.specs.Book.Row.{never}
+use Rattle.pmtl.specs.Book.{Range, mapRow, Rows, rowAt}
 use Rattle.pmtl.specs.Sets.{Way, lasting, lasted, renewedIn, setRuleBy}
 use Rattle.pmtl.specs.Monitor.{Snap, State, setAt, value, initialIn, stepBy, stepIn}
 use Rattle.pmtl.specs.Calls.{Call, time, state, stamped, timed, stated, turns, timeRefusal, stateRefusal, refusal, Outcome, call, afterIn, History, nowOf}
@@ -24,8 +22,9 @@ use Rattle.pmtl.proofs.EachRun.{lasted-none-before}
 use Rattle.pmtl.proofs.History.{Legal, now-run, small-clock, initial-set, run-canonical}
 use Rattle.pmtl.proofs.Values.{meaning-fix, row-value, instants-none, sets-mean}
 use Rattle.pmtl.proofs.Alike.{Alike}
+use Rattle.pmtl.proofs.Flat.{row-flat}
 use Rattle.pmtl.proofs.Calls.{firsts-zero, timely, refused-stays, steps, call-accepts, accepts-call}
-use Rattle.lasts.specs.Flat.{flatRule, flat, Taken}
+use Rattle.lasts.specs.Flat.{Taken}
 use Rattle.lasts.specs.Lasting.{filled, lastingOnto, lastingAfter, lastingHistory}
 use Rattle.lasts.proofs.Stretch.{Next, next-legal, row-put}
 
@@ -65,17 +64,6 @@ follows-none b = record {
 }
 
 -- ---- one step
--- what is so of every row, and of one that is not there
-every-row : (p : Row ℕ → Bool) → p never ≡ true → (b : Rows) → every p b ≡ true → (r : ℕ) → p (rowAt b r) ≡ true
-unfolding every
-every-row p n [] h r = n
-every-row p n (row ∷ b) h zero = and-left _ _ h
-every-row p n (row ∷ b) h (suc r) = every-row p n b (and-right (p row) _ h) r
-
-row-flat : (b : Rows) → flat b ≡ true → (r : ℕ) → flatRule (mapRow (moves b) (rowAt b r)) ≡ true
-unfolding flat flatRule
-row-flat b h = every-row (λ (row : Row ℕ). flatRule (mapRow (moves b) row)) refl b h
-
 module _ (b : Rows) (taken : Taken b) (st : State) (h : History) (f : Follows b st h) (n : Snap) (nx : Next b h n) where
   abbrev before : ℕ
   before = st .now .clock

@@ -10,6 +10,7 @@ use Rattle.numbers.specs.Limits.{MAX}
 use Rattle.numset.specs.Runs.{Runs, has, within, Canonical}
 use Rattle.pmtl.specs.Book.{Range, start, stop, inRange, Row, mapRow, Rows, Below, Ordered, moves}
 use Rattle.pmtl.specs.Book.Row.{never, always, atom, conj, disj, neg, implies, historically, once, since}
+use Rattle.pmtl.specs.Flat.{flatRule}
 use Rattle.pmtl.specs.Sets.{firstly, lasted, setRuleBy}
 use Rattle.pmtl.specs.Monitor.{Snap}
 use Rattle.pmtl.specs.Calls.{History, nowOf}
@@ -19,7 +20,7 @@ use Rattle.pmtl.proofs.Still.{neither, still}
 use Rattle.pmtl.proofs.Renewed.{lasted-has}
 use Rattle.pmtl.proofs.History.{Legal, now-run, small-clock}
 use Rattle.pmtl.proofs.Values.{values-mean}
-use Rattle.lasts.specs.Flat.{flatRule, Upward}
+use Rattle.lasts.specs.Flat.{Upward}
 use Rattle.lasts.specs.Lasting.{ticks, filled}
 use Rattle.lasts.proofs.Ticks.{ticks-since, ticks-now, ticks-legal}
 

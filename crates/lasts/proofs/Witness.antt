@@ -1,42 +1,22 @@
--- What the theorems ask of a book can be had, and what a flat book is, by examples; and what the definition gives where every call is put in, one by one.
+-- What the theorems ask of a book can be had, by an example; and what the definition gives where every call is put in, one by one.
 use Prim.Native.Nat.{ℕ, zero, suc}
 use native.Mathlib.Omega.{arith}
 use mathlib.Core.Path.{_≡_, refl}
 use mathlib.Core.Bool.{Bool, true, false}
-use mathlib.Core.List.{List, [], _∷_, map}
+use mathlib.Core.List.{List, [], _∷_}
 use Rattle.numset.specs.Runs.{run, has, kept, insert, union}
 use Rattle.pmtl.specs.Book.{Range, stop, Rows, rowAt, Ordered, widthOf, table, answer, every, some, moveRule}
-use Rattle.pmtl.specs.Book.Row.{atom, conj, historically, once, since}
+use Rattle.pmtl.specs.Book.Row.{atom, historically, once, since}
+use Rattle.pmtl.specs.Flat.{flatRule, flat}
 use Rattle.pmtl.specs.Sets.{staysIf, addedIf, renewed, lasted, setRuleBy}
 use Rattle.pmtl.specs.Monitor.{setAt, initialIn, valueRule, value, stepBy}
 use Rattle.pmtl.specs.Calls.{Call, time, state, stamped, firstOf, refusal, crowded, play, call, afterIn}
 use Rattle.pmtl.specs.Past.{runBy, run as runs}
-use Rattle.lasts.specs.Flat.{flatRule, flat, Upward, Taken}
+use Rattle.lasts.specs.Flat.{Upward, Taken}
 use Rattle.lasts.specs.Lasting.{ticks, lastingOnto, lastingHistory}
 
 abbrev range : ℕ → ℕ → Range
 range l u = record { lower = l; upper = u }
-
--- ---- flat books
--- P7, Once[1,1] a; Since(a,b)[0,5]; Once[0,1] a and Historically[0,1] b; P12, Once Historically a; Once And(a, Once b)
-abbrev P7 : Rows
-P7 = atom 0 ∷ once (range 1 1) 0 ∷ []
-
-abbrev since-ab : Rows
-since-ab = atom 0 ∷ atom 1 ∷ since (range 0 5) 0 1 ∷ []
-
-abbrev side-by-side : Rows
-side-by-side = atom 0 ∷ once (range 0 1) 0 ∷ atom 1 ∷ historically (range 0 1) 2 ∷ conj (1 ∷ 3 ∷ []) ∷ []
-
-abbrev P12 : Rows
-P12 = atom 0 ∷ historically (range 0 1) 0 ∷ once (range 0 1) 1 ∷ []
-
-abbrev below-and : Rows
-below-and = atom 0 ∷ atom 1 ∷ once (range 0 1) 1 ∷ conj (0 ∷ 2 ∷ []) ∷ once (range 0 1) 3 ∷ []
-
-pub flat-so : map flat (P7 ∷ since-ab ∷ side-by-side ∷ P12 ∷ below-and ∷ []) ≡ true ∷ true ∷ true ∷ false ∷ false ∷ []
-unfolding flat flatRule answer table every some moveRule
-flat-so = refl
 
 -- ---- a book that the theorems speak of, with every kind of temporal row
 abbrev kinds : Rows
@@ -67,6 +47,10 @@ unfolding flat flatRule answer table every some moveRule
 kinds-taken = record { ordered = kinds-ordered; flat-rows = refl; ranges = kinds-upward }
 
 -- ---- the definition, computed
+-- P7, Once[1,1] a
+abbrev P7 : Rows
+P7 = atom 0 ∷ once (range 1 1) 0 ∷ []
+
 abbrev s1 : Call
 s1 = state (1 ∷ [])
 
