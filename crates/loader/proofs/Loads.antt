@@ -8,12 +8,12 @@ use Rattle.memory.specs.Layout.{SIZE}
 use Rattle.memory.specs.Tables.{Tables}
 use Rattle.memory.specs.Alike.{Alike}
 use Rattle.memory.proofs.Alike.{alike-sound, alike-book, alike-state}
-use Rattle.book.specs.declared.strict.Loading.{Loading}
+use Rattle.book.specs.declared.loading.Loading.{Loading}
 use Rattle.book.specs.Judging.{Loaded, loaded}
 use Rattle.book.specs.Placing.{partsOf, Placed, PlacedBy}
-use Rattle.book.specs.Strict.{loadedBy}
+use Rattle.book.specs.Loading.{loadedBy}
 use Rattle.book.proofs.Placing.{parts-few, accepted, accepted-book}
-use Rattle.book.proofs.Excess.{accepted-by, refused-by}
+use Rattle.book.proofs.Admitted.{accepted-by, refused-by}
 use Rattle.loader.specs.Loading.{Loads}
 use Rattle.loader.specs.Private.{Accepted, Holds, Stored}
 use Rattle.loader.proofs.Empty.{empty-sound, empty-unused, empty-book, empty-state}

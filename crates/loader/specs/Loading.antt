@@ -4,8 +4,8 @@ use mathlib.Core.Path.{_≡_}
 use mathlib.Core.List.{List}
 use Rattle.pmtl.specs.Monitor.{initial}
 use Rattle.memory.specs.Memory.{bookOf, stateOf}
-use Rattle.book.specs.declared.strict.Loading.{Loading}
-use Rattle.book.specs.Strict.{loadedBy}
+use Rattle.book.specs.declared.loading.Loading.{Loading}
+use Rattle.book.specs.Loading.{loadedBy}
 use Rattle.memory.specs.Kept.{Kept}
 
 -- words were loaded in a way: r was handed back, and the memory m holds the book and a fresh monitor; a refused book gives an empty one

@@ -14,8 +14,8 @@ use Rattle.memory.specs.Memory.{bookOf, stateOf}
 use Rattle.numbers.specs.Limits.{ROW-WORDS, MOST-OPERANDS, MOST-ROWS, MOST-TEMPORALS}
 use Rattle.book.specs.Reading.{Sections}
 use Rattle.book.specs.Judging.{kindIn, argIn, lowerIn, upperIn, rowsIn, temporalsIn, startIn, argGood, judged, bookIn}
-use Rattle.book.specs.declared.strict.Loading.{Loading}
-use Rattle.book.specs.Strict.{loadedBy}
+use Rattle.book.specs.declared.loading.Loading.{Loading}
+use Rattle.book.specs.Loading.{loadedBy}
 use Rattle.book.specs.Private.{Few}
 use Rattle.memory.specs.Kept.{Sound}
 use Rattle.memory.specs.Tables.{Unused}

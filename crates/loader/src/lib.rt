@@ -21,7 +21,7 @@ use book::check::operands_part;
 use book::check::rows_part;
 use book::check::taken_by;
 use book::check::upper_in;
-use book::strict::Loading;
+use book::loading::Loading;
 use book::strict::place_by;
 use memory::ARG;
 use memory::ASSUMES;

@@ -1,7 +1,7 @@
 -- What loading, in either way, and the calls promise over any list of calls: the memory holds the definitions' monitor after those calls, so that the
 -- demands hold of the answers that the code hands back. Nothing is assumed.
 use Prim.Native.Nat.{ℕ}
-use mathlib.Core.Path.{_≡_, sym, ap, ap₂, _∙_}
+use mathlib.Core.Path.{_≡_, refl, sym, ap, ap₂, _∙_}
 use mathlib.Core.Logic.{_↔_}
 use mathlib.Core.Bool.{Bool, true, not}
 use mathlib.Core.List.{List, _∷_, _++_}
@@ -23,10 +23,10 @@ use Rattle.memory.proofs.Same.{same-words}
 use Rattle.property_answers.specs.declared.Verdict.{Verdict}
 use Rattle.property_answers.specs.Verdict.{propertyAt, verdictIn, verdictOf}
 use Rattle.calls.specs.Called.{Called}
-use Rattle.book.specs.declared.strict.Loading.{Loading}
-use Rattle.book.specs.declared.strict.Loading.the-variants.{Strict}
+use Rattle.book.specs.declared.loading.Loading.{Loading}
+use Rattle.book.specs.declared.loading.Loading.the-variants.{Strict}
 use Rattle.book.specs.Judging.{loaded}
-use Rattle.book.proofs.Excess.{admitted-strict}
+use Rattle.book.proofs.Admitted.{admitted-strict}
 use Rattle.oracle.specs.Made.{Made, bookSaid}
 use Rattle.oracle.specs.Made.Made.{loads, calls}
 
@@ -102,7 +102,7 @@ demand-3 {way} {words} {ks} made i x e more later =
 -- IT NEVER RUNS OUT: from strict loading on, whatever the words, no call is ever answered 11, refused ones among those before it
 pub never-eleven : {words : List ℕ} {ks : List Call} {m m′ : List ℕ} {k : Call} {r : ℕ} → Made Strict words ks m → Called k m m′ r → ¬ (r ≡ 11)
 never-eleven {words} {ks} {k = k} made c e =
-    strict-never (bookSaid Strict words .rows) (made-ordered made) (admitted-strict (loaded words)) ks k (sym (made-number made c) ∙ e)
+    strict-never (bookSaid Strict words .rows) (made-ordered made) (admitted-strict Strict refl (loaded words)) ks k (sym (made-number made c) ∙ e)
 
 -- ---- demand 2 in words: of a property whose row is temporal, and the clock that the memory has
 module _ {way : Loading} {words : List ℕ} {ks : List Call} {m : List ℕ} (made : Made way words ks m) (i : ℕ) where

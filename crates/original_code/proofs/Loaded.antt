@@ -19,7 +19,7 @@ use Rattle.book.specs.Rows.{rowFrom}
 use Rattle.lists.proofs.Listed.{listed-length, listed-at}
 use Rattle.book.specs.Reading.{Read, got, refused, Sections, sections}
 use Rattle.book.specs.Judging.{rowsIn, rangeGood, judged, rowIn, bookIn, refusedWith, loadedFrom, whole, loaded}
-use Rattle.book.specs.declared.strict.Loading.{Loading}
+use Rattle.book.specs.declared.loading.Loading.{Loading}
 use Rattle.book.specs.declared.strict.Excess.{Excess}
 use Rattle.book.specs.declared.strict.Excess.the-variants.{Within, Over}
 use Rattle.book.specs.Strict.{excessBy, unless}

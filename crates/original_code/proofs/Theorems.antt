@@ -16,7 +16,7 @@ use Rattle.pmtl.specs.Calls.{Call, time, state, call, after, accepted}
 use Rattle.memory.specs.Memory.{stateOf}
 use Rattle.lists.specs.Lists.{listed}
 use Rattle.lists.proofs.Listed.{listed-length, listed-at, listed-agree}
-use Rattle.book.specs.declared.strict.Loading.{Loading}
+use Rattle.book.specs.declared.loading.Loading.{Loading}
 use Rattle.property_answers.specs.declared.Verdict.{Verdict}
 use Rattle.property_answers.specs.Verdict.{propertyAt, verdictIn, verdictOf, propertiesIn, answersNumber, answersList}
 use Rattle.calls.specs.Called.{Called}

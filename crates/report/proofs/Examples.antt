@@ -12,8 +12,8 @@ use Rattle.pmtl.specs.Calls.{refusal, crowded, play, call}
 use Rattle.book.specs.Rows.{rowFrom, countOf}
 use Rattle.lists.specs.Lists.{listed}
 use Rattle.book.specs.Reading.{section, next, sections}
-use Rattle.book.specs.declared.strict.Loading.{Loading}
-use Rattle.book.specs.declared.strict.Loading.the-variants.{Ordinary, Strict}
+use Rattle.book.specs.declared.loading.Loading.{Loading}
+use Rattle.book.specs.declared.loading.Loading.the-variants.{Ordinary, Strict}
 use Rattle.book.specs.Judging.{temporalsIn, startIn, firstTo, allTo, argGood, formGood, rangeGood, rowNumber, operandsGood, linksGood, timesIn, usedOnce, judged, rowIn, bookIn, loadedFrom}
 use Rattle.pmtl.specs.Strict.{needed, neededBy, firstOver}
 use Rattle.book.specs.Strict.{excessIn}

@@ -14,11 +14,12 @@ use Rattle.pmtl.specs.Monitor.{State, initial}
 use Rattle.pmtl.specs.Calls.{Outcome, call}
 use Rattle.memory.specs.Memory.{bookOf, stateOf}
 use Rattle.book.specs.Reading.{got, refused}
-use Rattle.book.specs.declared.strict.Loading.{Loading}
+use Rattle.book.specs.declared.loading.Loading.{Loading}
 use Rattle.book.specs.declared.strict.Excess.{Excess}
 use Rattle.book.specs.declared.strict.Excess.the-variants.{Within}
-use Rattle.book.specs.Strict.{excessBy, admitted}
-use Rattle.book.proofs.Excess.{accepted-within}
+use Rattle.book.specs.Strict.{excessBy}
+use Rattle.book.specs.Loading.{admitted}
+use Rattle.book.proofs.Admitted.{accepted-within}
 use Rattle.book.specs.Judging.{Loaded, whole as wholeBook, loaded}
 use Rattle.memory.specs.Kept.{Kept}
 use Rattle.text_reader.specs.declared.Part as reader

@@ -15,10 +15,11 @@ use Rattle.pmtl.specs.Calls.{Call, Outcome, call}
 use Rattle.pmtl.specs.Calls.Call.{time, state, stamped}
 use Rattle.book.specs.Reading.{Read, section, next, Sections, sections}
 use Rattle.book.specs.Reading.Read.{got, refused}
-use Rattle.book.specs.declared.strict.Loading.{Loading}
+use Rattle.book.specs.declared.loading.Loading.{Loading}
 use Rattle.book.specs.declared.strict.Excess.{Excess}
 use Rattle.book.specs.declared.strict.Excess.the-variants.{Within}
-use Rattle.book.specs.Strict.{excessBy, admitted}
+use Rattle.book.specs.Strict.{excessBy}
+use Rattle.book.specs.Loading.{admitted}
 use Rattle.book.specs.Judging.{Loaded, loadedFrom}
 use Rattle.property_answers.specs.declared.Verdict.{Verdict}
 use Rattle.property_answers.specs.Verdict.{verdictIn}

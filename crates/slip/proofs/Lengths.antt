@@ -22,10 +22,11 @@ use Rattle.pmtl.specs.Calls.{Call, time, state, stamped, turns, timeRefusal, st
 use Rattle.pmtl.proofs.Fullest.{fresh-none, call-few}
 use Rattle.book.specs.Rows.{temporal}
 use Rattle.book.specs.Reading.{Read, got, refused, Sections}
-use Rattle.book.specs.declared.strict.Loading.{Loading}
+use Rattle.book.specs.declared.loading.Loading.{Loading}
 use Rattle.book.specs.declared.strict.Excess.{Excess}
 use Rattle.book.specs.declared.strict.Excess.the-variants.{Within, Over}
-use Rattle.book.specs.Strict.{excessBy, unless, admitted}
+use Rattle.book.specs.Strict.{excessBy, unless}
+use Rattle.book.specs.Loading.{admitted}
 use Rattle.book.proofs.Excess.{excess-small}
 use Rattle.book.specs.Judging.{Loaded, firstOf, firstTo, formGood, rangeGood, kindIn, argIn, lowerIn, upperIn, temporalsIn, rowsIn, rowNumber, linksGood, usedOnce, judged, bookIn, refusedWith, loadedFrom}
 use Rattle.property_answers.specs.Verdict.{verdictIn}

@@ -13,11 +13,12 @@ use Rattle.pmtl.specs.Book.{Book}
 use Rattle.pmtl.specs.Monitor.{State, initial}
 use Rattle.pmtl.specs.Calls.{Call, Outcome, call, afterIn, after}
 use Rattle.book.specs.Reading.{Read, got, refused, Sections}
-use Rattle.book.specs.declared.strict.Loading.{Loading}
+use Rattle.book.specs.declared.loading.Loading.{Loading}
 use Rattle.book.specs.declared.strict.Excess.{Excess}
 use Rattle.book.specs.declared.strict.Excess.the-variants.{Within}
-use Rattle.book.specs.Strict.{excessBy, admitted}
-use Rattle.book.proofs.Excess.{accepted-within}
+use Rattle.book.specs.Strict.{excessBy}
+use Rattle.book.specs.Loading.{admitted}
+use Rattle.book.proofs.Admitted.{accepted-within}
 use Rattle.book.specs.Judging.{Loaded, loadedFrom}
 use Rattle.report.specs.Lines.{CallLine, Ending, Line, book, called, last, CallsRead, callsAfter, lineOf, linesOf, linesFrom, callLines, bookThen, bookLines, lines}
 use Rattle.slip.specs.Says.{sectionsSaid, loadedOf, excessOf, bookSaid, wordsAfter, readSaid, callsSaid, endSaid, noLine, noCallLine, missingCall, Whole, Shape}

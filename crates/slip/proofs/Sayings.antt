@@ -14,7 +14,7 @@ use Rattle.pmtl.specs.Book.{Book, Ordered, properties}
 use Rattle.pmtl.specs.Monitor.{fullest}
 use Rattle.pmtl.specs.Calls.{Call, Outcome, call, afterIn, after}
 use Rattle.book.specs.Reading.{Read, got, refused, Sections}
-use Rattle.book.specs.declared.strict.Loading.{Loading}
+use Rattle.book.specs.declared.loading.Loading.{Loading}
 use Rattle.book.specs.declared.strict.Excess.{Excess}
 use Rattle.book.specs.declared.strict.Excess.the-variants.{Within, Over}
 use Rattle.book.specs.Strict.{excessBy, unless}

@@ -23,14 +23,14 @@ use Rattle.pmtl.specs.Strict.{neededBy, Strict as IsStrict}
 use Rattle.pmtl.proofs.Strict.{never-eleven as strict-never}
 use Rattle.pmtl.proofs.Theorems.{demand-2, demand-3}
 use Rattle.pmtl.proofs.Fullest.{fullest-few}
-use Rattle.book.specs.declared.strict.Loading.{Loading}
-use Rattle.book.specs.declared.strict.Loading.the-variants.{Ordinary, Strict}
+use Rattle.book.specs.declared.loading.Loading.{Loading}
+use Rattle.book.specs.declared.loading.Loading.the-variants.{Ordinary, Strict}
 use Rattle.book.specs.declared.strict.Excess.{Excess}
 use Rattle.book.specs.declared.strict.Excess.the-variants.{Within, Over}
 use Rattle.book.specs.Reading.{Read, got, refused, Sections}
 use Rattle.book.specs.Judging.{Loaded, loadedFrom}
 use Rattle.book.specs.Strict.{excessIn, unless}
-use Rattle.book.proofs.Excess.{admitted-strict}
+use Rattle.book.proofs.Admitted.{admitted-strict}
 use Rattle.property_answers.specs.Verdict.{propertyAt, verdictIn}
 use Rattle.report.specs.Lines.{PropertyWord, nothing, wordsIn, countIn, CallLine, stop, Line, book, called, last, wordOf, callLines, bookThen, bookLines, lines}
 use Rattle.report.specs.Report.{written, report}
@@ -121,7 +121,7 @@ never-taken-back way input {i} {j} {p} {w} s s′ h small =
 -- ---- STRICT LOADING: no line of a call ever says 11
 strict-book : (r : Read Sections) → IsStrict (loadedOf Strict r .book .rows)
 unfolding loadedOf neededBy
-strict-book (got s ws) = admitted-strict (loadedFrom s)
+strict-book (got s ws) = admitted-strict Strict refl (loadedFrom s)
 strict-book (refused n) = λ r. omega arith
 
 pub never-eleven : (input : List ℕ) (i : ℕ) {l : CallLine} → getD (lines Strict input) i noLine ≡ called l → ¬ (l .refusal ≡ NO-ROOM)

@@ -13,9 +13,9 @@ use Rattle.pmtl.specs.Monitor.{State, initial}
 use Rattle.pmtl.specs.Calls.{Call, Outcome, call, afterIn, after}
 use Rattle.pmtl.proofs.Theorems.{refused-changes-nothing}
 use Rattle.book.specs.Reading.{Read, got, refused, Sections}
-use Rattle.book.specs.declared.strict.Loading.{Loading}
+use Rattle.book.specs.declared.loading.Loading.{Loading}
 use Rattle.book.specs.declared.strict.Excess.the-variants.{Within}
-use Rattle.book.specs.Strict.{admitted}
+use Rattle.book.specs.Loading.{admitted}
 use Rattle.book.specs.Judging.{Loaded, loadedFrom}
 use Rattle.report.specs.Lines.{Rest, CallLine, Ending, Line, book, called, last, CallsRead, callThen, callsFrom, callsAfter, lineOf, linesOf, linesFrom, lines}
 use Rattle.slip.specs.Says.{sectionsSaid, wordsAfter, noLine, missingCall}

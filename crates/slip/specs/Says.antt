@@ -10,10 +10,11 @@ use Rattle.pmtl.specs.Book.{Book}
 use Rattle.pmtl.specs.Calls.{Call, call, after}
 use Rattle.pmtl.specs.Calls.Call.{time}
 use Rattle.book.specs.Reading.{Read, got, refused, Sections, sections}
-use Rattle.book.specs.declared.strict.Loading.{Loading}
+use Rattle.book.specs.declared.loading.Loading.{Loading}
 use Rattle.book.specs.declared.strict.Excess.{Excess}
 use Rattle.book.specs.declared.strict.Excess.the-variants.{Within}
-use Rattle.book.specs.Strict.{excessBy, admitted}
+use Rattle.book.specs.Strict.{excessBy}
+use Rattle.book.specs.Loading.{admitted}
 use Rattle.book.specs.Judging.{Loaded, refusedWith, loadedFrom}
 use Rattle.report.specs.Lines.{PropertyWord, nothing, wordsIn, CallLine, Ending, end, stop, Line, book, called, last, CallsRead, callsAfter, lineOf, lines}
 

@@ -15,9 +15,9 @@ use Rattle.pmtl.specs.Strict.{Strict}
 use Rattle.book.specs.Reading.{Sections}
 use Rattle.book.specs.Private.{Few}
 use Rattle.book.specs.Judging.{judged, bookIn, Loaded, loaded}
-use Rattle.book.specs.declared.strict.Loading.the-variants as loading
-use Rattle.book.specs.Strict.{loadedBy}
-use Rattle.book.proofs.Excess.{accepted-by, admitted-strict, strict-admitted}
+use Rattle.book.specs.declared.loading.Loading.the-variants as loading
+use Rattle.book.specs.Loading.{loadedBy}
+use Rattle.book.proofs.Admitted.{accepted-by, admitted-strict, strict-admitted}
 use Rattle.trees.proofs.Loaded.{accepted-words}
 use Rattle.tidying.specs.declared.Form.{Form}
 use Rattle.tidying.specs.declared.Form.the-variants as form
@@ -177,7 +177,7 @@ module _ (ws : List ℕ) (ss : List Step) where
     -- and it is accepted in strict loading, too, where the old book is
     pub tidied-strictly : loadedBy loading.Strict ws .number ≡ ACCEPTED → loadedBy loading.Strict ws′ .number ≡ ACCEPTED
     tidied-strictly h =
-        let strict : Strict (loaded ws .book .rows) = rw (accepted-by loading.Strict ws h) at (admitted-strict (loaded ws)) in
+        let strict : Strict (loaded ws .book .rows) = rw (accepted-by loading.Strict ws h) at (admitted-strict loading.Strict refl (loaded ws)) in
         ap (λ (l : Loaded). l .number) (strict-admitted (loaded ws′) (made .1 .same-strict strict)) ∙ tidied-accepted
 
   -- of an accepted book a list is refused with 21 or 2 at one of its steps, counted from 1

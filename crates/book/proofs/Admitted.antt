@@ -1,0 +1,91 @@
+-- What loading comes to in each way of loading. Assumes nothing.
+use Prim.Native.Nat.{ℕ}
+use mathlib.Core.Path.{_≡_, refl, sym, ap, _∙_}
+use mathlib.Core.Bool.{Bool, true, false, cond}
+use mathlib.Core.Logic.{_⊎_, inl, inr, ⊎-elim}
+use mathlib.Core.List.{List, []}
+use native.Mathlib.Omega.{arith}
+use Rattle.pmtl.specs.Flat.{flat}
+use Rattle.pmtl.specs.Sets.{Way, ordinary, lasting}
+use Rattle.pmtl.specs.Strict.{Strict as IsStrict, firstOver}
+use Rattle.pmtl.proofs.Flat.{none-flat}
+use Rattle.pmtl.proofs.Strict.{none-strict}
+use Rattle.book.specs.declared.loading.Loading.{Loading}
+use Rattle.book.specs.declared.loading.Loading.the-variants.{Strict}
+use Rattle.book.specs.declared.strict.Excess.{Excess}
+use Rattle.book.specs.declared.strict.Excess.the-variants.{Within, Over}
+use Rattle.book.specs.Judging.{Loaded, refusedWith, loaded}
+use Rattle.book.specs.Strict.{strictly, excessBy, unless, roomed}
+use Rattle.book.specs.Loading.{wayIn, flatly, admitted, loadedBy}
+use Rattle.book.proofs.Excess.{accepted-roomed, refused-roomed, roomed-strict, strict-roomed, roomed-within}
+
+-- ---- what the lasting way takes: a flat book as it is, no other, and so a flat one
+pub flat-taken : (w : Way) (l : Loaded) → flat (l .book .rows) ≡ true → flatly w l ≡ l
+flat-taken ordinary l h = refl
+flat-taken lasting l h = rw h
+
+pub nested-refused : (l : Loaded) → flat (l .book .rows) ≡ false → flatly lasting l ≡ refusedWith 17
+nested-refused l h = rw h
+
+flatly-flat : (l : Loaded) → flat (flatly lasting l .book .rows) ≡ true
+flatly-flat l = go (flat (l .book .rows)) refl
+  where
+    go : (z : Bool) → flat (l .book .rows) ≡ z → flat (cond z l (refusedWith 17) .book .rows) ≡ true
+    go true h = h
+    go false h = none-flat
+
+-- what it leaves is what was there, or is refused with 17
+cases : (w : Way) (l : Loaded) → (flatly w l ≡ l) ⊎ (flatly w l ≡ refusedWith 17)
+cases ordinary l = inl refl
+cases lasting l = go (flat (l .book .rows))
+  where
+    go : (z : Bool) → (cond z l (refusedWith 17) ≡ l) ⊎ (cond z l (refusedWith 17) ≡ refusedWith 17)
+    go true = inl refl
+    go false = inr refl
+
+module _ {l l′ : Loaded} (left : (l′ ≡ l) ⊎ (l′ ≡ refusedWith 17)) where
+  accepted-left : l′ .number ≡ 0 → l′ ≡ l
+  accepted-left h = ⊎-elim (λ e. e) (λ e. absurd (let z : _≡_ {A = ℕ} 17 0 = rw e at h in omega arith)) left
+
+  refused-left : ((l .number ≡ 0 → ⊥) → l ≡ refusedWith (l .number)) → (l′ .number ≡ 0 → ⊥) → l′ ≡ refusedWith (l′ .number)
+  refused-left empty h = ⊎-elim (λ e. rw e (empty (rw e at h))) (λ e. rw e) left
+
+  strict-left : IsStrict (l .book .rows) → IsStrict (l′ .book .rows)
+  unfolding firstOver
+  strict-left s = ⊎-elim (λ e. rw e s) (λ e. rw e (none-strict [] refl)) left
+
+-- ---- each way of loading
+module _ (way : Loading) where
+  -- a book that has a row that strict loading refuses is refused with 15, whether it is flat or not
+  pub fifteen-first : (l : Loaded) (r n : ℕ) → excessBy way (l .book .rows) ≡ Over r n → admitted way l ≡ refusedWith 15
+  fifteen-first l r n e = ap (λ (x : Excess). flatly (wayIn way) (unless x l)) e ∙ flat-taken (wayIn way) (refusedWith 15) none-flat
+
+  both : (l : Loaded) → admitted way l .number ≡ 0 → admitted way l ≡ roomed way l
+  both l = accepted-left (cases (wayIn way) (roomed way l))
+
+  roomed-too : (l : Loaded) → admitted way l .number ≡ 0 → roomed way l .number ≡ 0
+  roomed-too l h = sym (ap (λ (x : Loaded). x .number) (both l h)) ∙ h
+
+  -- a book that is accepted is accepted in ordinary loading, as the same book
+  pub accepted-by : (words : List ℕ) → loadedBy way words .number ≡ 0 → loadedBy way words ≡ loaded words
+  accepted-by words h = both (loaded words) h ∙ accepted-roomed way (loaded words) (roomed-too (loaded words) h)
+
+  -- a refused book gives an empty one
+  pub refused-by : (words : List ℕ) → (loadedBy way words .number ≡ 0 → ⊥) → loadedBy way words ≡ refusedWith (loadedBy way words .number)
+  refused-by words = refused-left (cases (wayIn way) (roomed way (loaded words))) (refused-roomed way words)
+
+  -- a book that is accepted has no such row
+  pub accepted-within : (l : Loaded) → admitted way l .number ≡ 0 → excessBy way (l .book .rows) ≡ Within
+  accepted-within l h = roomed-within way l (roomed-too l h)
+
+  -- where loading is strict, a book, accepted or empty, has no row that can need more runs than a set may have
+  pub admitted-strict : strictly way ≡ true → (l : Loaded) → IsStrict (admitted way l .book .rows)
+  admitted-strict w l = strict-left (cases (wayIn way) (roomed way l)) (roomed-strict way w l)
+
+  -- and in the lasting way it is flat
+  pub admitted-flat : wayIn way ≡ lasting → (l : Loaded) → flat (admitted way l .book .rows) ≡ true
+  admitted-flat w l = rw w (flatly-flat (roomed way l))
+
+-- a book that has no such row is admitted strictly as it is
+pub strict-admitted : (l : Loaded) → IsStrict (l .book .rows) → admitted Strict l ≡ l
+strict-admitted = strict-roomed Strict
