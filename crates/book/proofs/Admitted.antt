@@ -3,8 +3,11 @@ use Prim.Native.Nat.{ℕ}
 use mathlib.Core.Path.{_≡_, refl, sym, ap, _∙_}
 use mathlib.Core.Bool.{Bool, true, false, cond}
 use mathlib.Core.Logic.{_⊎_, inl, inr, ⊎-elim}
-use mathlib.Core.List.{List, []}
+use mathlib.Core.List.{List, [], _∷_}
 use native.Mathlib.Omega.{arith}
+use lib.Dec.{eqb}
+use borrow.Author.Tests.{eqb-true}
+use Rattle.pmtl.specs.Book.{Book, emptyBook}
 use Rattle.pmtl.specs.Flat.{flat}
 use Rattle.pmtl.specs.Sets.{Way, ordinary, lasting}
 use Rattle.pmtl.specs.Strict.{Strict as IsStrict, firstOver}
@@ -14,7 +17,8 @@ use Rattle.book.specs.declared.loading.Loading.{Loading}
 use Rattle.book.specs.declared.loading.Loading.the-variants.{Strict}
 use Rattle.book.specs.declared.strict.Excess.{Excess}
 use Rattle.book.specs.declared.strict.Excess.the-variants.{Within, Over}
-use Rattle.book.specs.Judging.{Loaded, refusedWith, loaded}
+use Rattle.book.specs.Reading.{Read, got, refused, Sections, sections}
+use Rattle.book.specs.Judging.{judged, bookIn, Loaded, refusedWith, loadedFrom, whole, loaded}
 use Rattle.book.specs.Strict.{strictly, excessBy, unless, roomed}
 use Rattle.book.specs.Loading.{wayIn, flatly, admitted, loadedBy}
 use Rattle.book.proofs.Excess.{accepted-roomed, refused-roomed, roomed-strict, strict-roomed, roomed-within}
@@ -89,3 +93,30 @@ module _ (way : Loading) where
 -- a book that has no such row is admitted strictly as it is
 pub strict-admitted : (l : Loaded) → IsStrict (l .book .rows) → admitted Strict l ≡ l
 strict-admitted = strict-roomed Strict
+
+-- ---- what is so of the empty book, and of every book whose sections are accepted, is so of the book that is loaded
+module _ (P : Book → Type 0) (none : P emptyBook) where
+  pub admitted-any : (way : Loading) (l : Loaded) → P (l .book) → P (admitted way l .book)
+  admitted-any way l h = ⊎-elim (λ e. rw e (within (excessBy way (l .book .rows)))) (λ e. rw e none) (cases (wayIn way) (roomed way l))
+    where
+      within : (x : Excess) → P (unless x l .book)
+      within Within = h
+      within (Over r n) = none
+
+  module _ (each : (s : Sections) → judged s ≡ 0 → P (bookIn s)) where
+    pub loaded-any : (s : Sections) → P (loadedFrom s .book)
+    unfolding loadedFrom
+    loaded-any s = go (eqb (judged s) 0) refl
+      where
+        go : (z : Bool) → eqb (judged s) 0 ≡ z → P (elim z as (λ x. Loaded) [ true ↦ record { number = 0; book = bookIn s } | false ↦ refusedWith (judged s) ] .book)
+        go true e = each s (eqb-true (judged s) 0 e)
+        go false e = none
+
+    pub words-any : (words : List ℕ) → P (loaded words .book)
+    unfolding loaded whole
+    words-any words = go (sections 1 words)
+      where
+        go : (r : Read Sections) → P (whole r .book)
+        go (got s []) = loaded-any s
+        go (got s (w ∷ ws)) = none
+        go (refused n) = none

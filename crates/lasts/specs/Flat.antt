@@ -5,6 +5,7 @@ use mathlib.Core.Bool.{true}
 use Rattle.pmtl.specs.Book.{Row, Rows, rowAt, Ordered}
 use Rattle.pmtl.specs.Book.Row.{never, always, atom, conj, disj, neg, implies, historically, once, since}
 use Rattle.pmtl.specs.Flat.{flat}
+use Rattle.pmtl.specs.Sets.{Way, lasting}
 
 -- lower is not above upper, where a row has a range
 abbrev pub Upward : {X : Type 0} → Row X → Type 0
@@ -24,3 +25,8 @@ pub record Taken (b : Rows) : Type 0 where
   pub ordered : Ordered b
   pub flat-rows : flat b ≡ true
   pub ranges : (r : ℕ) → Upward (rowAt b r)
+
+-- what those of either way ask
+pub record Fit (way : Way) (b : Rows) : Type 0 where
+  pub ordered : Ordered b
+  pub taken : way ≡ lasting → Taken b

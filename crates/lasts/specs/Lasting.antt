@@ -5,9 +5,9 @@ use mathlib.Core.List.{List, [], _∷_, _++_}
 use lib.Dec.{eqb}
 use Rattle.numbers.specs.Refusals.{ACCEPTED}
 use Rattle.pmtl.specs.Book.{Rows}
-use Rattle.pmtl.specs.Sets.{lasting}
+use Rattle.pmtl.specs.Sets.{Way, ordinary, lasting}
 use Rattle.pmtl.specs.Monitor.{Snap, State}
-use Rattle.pmtl.specs.Calls.{Call, timed, turns, call, afterIn, History, nowOf}
+use Rattle.pmtl.specs.Calls.{Call, timed, turns, call, afterIn, History, nowOf, accepted}
 use Rattle.pmtl.specs.Kept.{FullBy}
 
 -- what time calls leave at the n instants after a snapshot, one at each, the newest first
@@ -35,6 +35,11 @@ lastingHistory b (k ∷ ks) =
     cond (eqb (call b (lastingAfter b ks) k .number) ACCEPTED)
     (lastingOnto b (turns (lastingAfter b ks .now) k) (lastingHistory b ks))
     (lastingHistory b ks)
+
+-- the history that a monitor's answers are about, by its way: of the accepted calls alone, or with those that are put in
+abbrev pub historyIn : Way → Rows → List Call → History
+historyIn ordinary = accepted
+historyIn lasting = lastingHistory
 
 -- after one of the snapshots ns, made in turn, the instants of some row form at or after the clock more runs than a set may have. It is not asked of the
 -- calls that are put in: they are never refused for room
