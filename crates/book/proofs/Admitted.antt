@@ -1,12 +1,13 @@
 -- What loading comes to in each way of loading. Assumes nothing.
 use Prim.Native.Nat.{ℕ}
 use mathlib.Core.Path.{_≡_, refl, sym, ap, _∙_}
-use mathlib.Core.Bool.{Bool, true, false, cond}
+use mathlib.Core.Bool.{Bool, true, false}
 use mathlib.Core.Logic.{_⊎_, inl, inr, ⊎-elim}
 use mathlib.Core.List.{List, [], _∷_}
 use native.Mathlib.Omega.{arith}
 use lib.Dec.{eqb}
 use borrow.Author.Tests.{eqb-true}
+use Rattle.lists.proofs.Tests.{either}
 use Rattle.pmtl.specs.Book.{Book, emptyBook}
 use Rattle.pmtl.specs.Flat.{flat}
 use Rattle.pmtl.specs.Sets.{Way, ordinary, lasting}
@@ -20,32 +21,31 @@ use Rattle.book.specs.declared.strict.Excess.the-variants.{Within, Over}
 use Rattle.book.specs.Reading.{Read, got, refused, Sections, sections}
 use Rattle.book.specs.Judging.{judged, bookIn, Loaded, refusedWith, loadedFrom, whole, loaded}
 use Rattle.book.specs.Strict.{strictly, excessBy, unless, roomed}
-use Rattle.book.specs.Loading.{wayIn, flatly, admitted, loadedBy}
+use Rattle.book.specs.Loading.{wayIn, takes, flatly, admitted, loadedBy}
 use Rattle.book.proofs.Excess.{accepted-roomed, refused-roomed, roomed-strict, strict-roomed, roomed-within}
 
--- ---- what the lasting way takes: a flat book as it is, no other, and so a flat one
-pub flat-taken : (w : Way) (l : Loaded) → flat (l .book .rows) ≡ true → flatly w l ≡ l
-flat-taken ordinary l h = refl
-flat-taken lasting l h = rw h
+-- ---- what a way of monitoring takes is left as it is, and what it does not take is refused with 17
+pub taken-stays : (w : Way) (l : Loaded) → takes w (l .book .rows) ≡ true → flatly w l ≡ l
+taken-stays w l h = rw h
 
-pub nested-refused : (l : Loaded) → flat (l .book .rows) ≡ false → flatly lasting l ≡ refusedWith 17
-nested-refused l h = rw h
+pub nested-refused : (w : Way) (l : Loaded) → takes w (l .book .rows) ≡ false → flatly w l ≡ refusedWith 17
+nested-refused w l h = rw h
 
-flatly-flat : (l : Loaded) → flat (flatly lasting l .book .rows) ≡ true
-flatly-flat l = go (flat (l .book .rows)) refl
-  where
-    go : (z : Bool) → flat (l .book .rows) ≡ z → flat (cond z l (refusedWith 17) .book .rows) ≡ true
-    go true h = h
-    go false h = none-flat
-
--- what it leaves is what was there, or is refused with 17
 cases : (w : Way) (l : Loaded) → (flatly w l ≡ l) ⊎ (flatly w l ≡ refusedWith 17)
-cases ordinary l = inl refl
-cases lasting l = go (flat (l .book .rows))
-  where
-    go : (z : Bool) → (cond z l (refusedWith 17) ≡ l) ⊎ (cond z l (refusedWith 17) ≡ refusedWith 17)
-    go true = inl refl
-    go false = inr refl
+cases w l = ⊎-elim (λ t. inl (taken-stays w l t)) (λ f. inr (nested-refused w l f)) (either (takes w (l .book .rows)))
+
+-- an empty book is taken
+pub none-taken : (w : Way) → takes w [] ≡ true
+none-taken ordinary = refl
+none-taken lasting = none-flat
+
+-- and so is what is left
+flatly-taken : (w : Way) (l : Loaded) → takes w (flatly w l .book .rows) ≡ true
+flatly-taken w l =
+    ⊎-elim
+    (λ t. ap (λ (x : Loaded). takes w (x .book .rows)) (taken-stays w l t) ∙ t)
+    (λ f. ap (λ (x : Loaded). takes w (x .book .rows)) (nested-refused w l f) ∙ none-taken w)
+    (either (takes w (l .book .rows)))
 
 module _ {l l′ : Loaded} (left : (l′ ≡ l) ⊎ (l′ ≡ refusedWith 17)) where
   accepted-left : l′ .number ≡ 0 → l′ ≡ l
@@ -62,7 +62,7 @@ module _ {l l′ : Loaded} (left : (l′ ≡ l) ⊎ (l′ ≡ refusedWith 17)) w
 module _ (way : Loading) where
   -- a book that has a row that strict loading refuses is refused with 15, whether it is flat or not
   pub fifteen-first : (l : Loaded) (r n : ℕ) → excessBy way (l .book .rows) ≡ Over r n → admitted way l ≡ refusedWith 15
-  fifteen-first l r n e = ap (λ (x : Excess). flatly (wayIn way) (unless x l)) e ∙ flat-taken (wayIn way) (refusedWith 15) none-flat
+  fifteen-first l r n e = ap (λ (x : Excess). flatly (wayIn way) (unless x l)) e ∙ taken-stays (wayIn way) (refusedWith 15) (none-taken (wayIn way))
 
   both : (l : Loaded) → admitted way l .number ≡ 0 → admitted way l ≡ roomed way l
   both l = accepted-left (cases (wayIn way) (roomed way l))
@@ -88,7 +88,7 @@ module _ (way : Loading) where
 
   -- and in the lasting way it is flat
   pub admitted-flat : wayIn way ≡ lasting → (l : Loaded) → flat (admitted way l .book .rows) ≡ true
-  admitted-flat w l = rw w (flatly-flat (roomed way l))
+  admitted-flat w l = ap (λ (x : Way). takes x (admitted way l .book .rows)) (sym w) ∙ flatly-taken (wayIn way) (roomed way l)
 
 -- a book that has no such row is admitted strictly as it is
 pub strict-admitted : (l : Loaded) → IsStrict (l .book .rows) → admitted Strict l ≡ l

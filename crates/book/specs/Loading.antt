@@ -1,8 +1,9 @@
 -- REFERENCE 2.6, 2.8 and 3.9: what loading a book comes to in each way of loading. Definitions only.
 use Prim.Native.Nat.{ℕ}
-use mathlib.Core.Bool.{cond}
+use mathlib.Core.Bool.{Bool, true, cond}
 use mathlib.Core.List.{List}
 use Rattle.numbers.specs.Refusals.{NESTED}
+use Rattle.pmtl.specs.Book.{Rows}
 use Rattle.pmtl.specs.Flat.{flat}
 use Rattle.pmtl.specs.Sets.{Way, ordinary, lasting}
 use Rattle.book.specs.declared.loading.Loading.{Loading}
@@ -17,10 +18,14 @@ wayIn Strict = ordinary
 wayIn Lasting = lasting
 wayIn LastingStrict = lasting
 
--- the lasting way takes a flat book alone; one that is refused already stays so: its book is empty, and that is flat
+-- the books that a way of monitoring takes: the lasting one takes flat books alone
+abbrev pub takes : Way → Rows → Bool
+takes ordinary b = true
+takes lasting b = flat b
+
+-- another is refused; one that is refused already stays so: its book is empty, and that is flat
 abbrev pub flatly : Way → Loaded → Loaded
-flatly ordinary l = l
-flatly lasting l = cond (flat (l .book .rows)) l (refusedWith NESTED)
+flatly way l = cond (takes way (l .book .rows)) l (refusedWith NESTED)
 
 -- what loading comes to in each way, after what strict loading refuses
 abbrev pub admitted : Loading → Loaded → Loaded
