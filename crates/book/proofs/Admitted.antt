@@ -94,14 +94,18 @@ module _ (way : Loading) where
 pub strict-admitted : (l : Loaded) → IsStrict (l .book .rows) → admitted Strict l ≡ l
 strict-admitted = strict-roomed Strict
 
--- ---- what is so of the empty book, and of every book whose sections are accepted, is so of the book that is loaded
+-- ---- what is so of a book, and of one that is refused with 15 or 17, is so of what loading comes to
+pub admitted-all : (Q : Loaded → Type 0) → Q (refusedWith 15) → Q (refusedWith 17) → (way : Loading) (l : Loaded) → Q l → Q (admitted way l)
+admitted-all Q over nested way l h = ⊎-elim (λ e. rw e (within (excessBy way (l .book .rows)))) (λ e. rw e nested) (cases (wayIn way) (roomed way l))
+  where
+    within : (x : Excess) → Q (unless x l)
+    within Within = h
+    within (Over r n) = over
+
+-- what is so of the empty book, and of every book whose sections are accepted, is so of the book that is loaded
 module _ (P : Book → Type 0) (none : P emptyBook) where
   pub admitted-any : (way : Loading) (l : Loaded) → P (l .book) → P (admitted way l .book)
-  admitted-any way l h = ⊎-elim (λ e. rw e (within (excessBy way (l .book .rows)))) (λ e. rw e none) (cases (wayIn way) (roomed way l))
-    where
-      within : (x : Excess) → P (unless x l .book)
-      within Within = h
-      within (Over r n) = none
+  admitted-any = admitted-all (λ l. P (l .book)) none none
 
   module _ (each : (s : Sections) → judged s ≡ 0 → P (bookIn s)) where
     pub loaded-any : (s : Sections) → P (loadedFrom s .book)

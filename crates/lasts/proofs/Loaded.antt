@@ -4,11 +4,13 @@ use native.Mathlib.Omega.{arith}
 use native.Mathlib.Decide.{decLt}
 use mathlib.Core.Path.{_≡_}
 use mathlib.Core.Bool.{true}
-use mathlib.Core.List.{List}
+use mathlib.Core.List.{List, []}
 use Rattle.lists.proofs.Listed.{listed-length, listed-at}
 use Rattle.pmtl.specs.Book.{Book, emptyBook, rowAt, Ordered}
 use Rattle.pmtl.specs.Book.Row.{never}
+use Rattle.pmtl.specs.Sets.{Way}
 use Rattle.pmtl.proofs.Table.{row-out}
+use Rattle.pmtl.proofs.Flat.{none-flat}
 use Rattle.book.specs.Rows.{rowFrom}
 use Rattle.book.specs.Reading.{Sections}
 use Rattle.book.specs.Judging.{rowsIn, rangeGood, judged, rowIn, bookIn, Loaded, loadedFrom, loaded}
@@ -62,3 +64,7 @@ words-fit way words = fit-by way (loaded words) (words-any Sane empty-sane accep
 
 pub sections-fit : (way : Loading) (s : Sections) → Fit (wayIn way) (admitted way (loadedFrom s) .book .rows)
 sections-fit way s = fit-by way (loadedFrom s) (loaded-any Sane empty-sane accepted-sane s)
+
+-- so has the empty book alone
+pub empty-fit : (way : Way) → Fit way []
+empty-fit way = record { ordered = λ r. tt; taken = λ e. record { ordered = λ r. tt; flat-rows = none-flat; ranges = λ r. tt } }

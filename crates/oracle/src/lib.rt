@@ -21,6 +21,8 @@ pub use calls::update_state;
 pub use calls::update_time;
 pub use loader::load;
 pub use loader::load_by;
+pub use loader::load_lasting;
+pub use loader::load_lasting_strict;
 pub use loader::load_strict;
 pub use memory::SIZE;
 pub use memory::clock;
