@@ -4,13 +4,14 @@ use native.Mathlib.Omega.{arith}
 use mathlib.Core.Path.{_≡_, refl, sym, ap, _∙_}
 use mathlib.Core.Bool.{Bool, true, false, cond}
 use mathlib.Core.List.{List, [], _∷_}
+use lib.ListN.{length}
 use lib.Dec.{eqb}
 use borrow.Author.Tests.{eqb-true, eqb-false}
 use Rattle.numbers.specs.Limits.{MAX}
 use Rattle.numset.specs.Runs.{Runs, has, Canonical}
 use Rattle.pmtl.specs.Book.{Range, mapRow, Rows, rowAt}
 use Rattle.pmtl.specs.Sets.{Way, lasting, lasted, renewedIn, setRuleBy}
-use Rattle.pmtl.specs.Monitor.{Snap, State, setAt, value, initialIn, stepBy, stepIn}
+use Rattle.pmtl.specs.Monitor.{Snap, State, setAt, fullest, value, initialIn, stepBy, stepIn}
 use Rattle.pmtl.specs.Calls.{Call, time, state, stamped, timed, stated, turns, timeRefusal, stateRefusal, refusal, Outcome, call, afterIn, History, nowOf}
 use Rattle.pmtl.specs.Meaning.{instants, meaning}
 use Rattle.pmtl.specs.Past.{runBy, run}
@@ -21,6 +22,9 @@ use Rattle.pmtl.proofs.Renewed.{lasted-canonical, rule-any}
 use Rattle.pmtl.proofs.EachRun.{lasted-none-before}
 use Rattle.pmtl.proofs.History.{Legal, now-run, small-clock, initial-set, run-canonical}
 use Rattle.pmtl.proofs.Values.{meaning-fix, row-value, instants-none, sets-mean}
+use Rattle.pmtl.proofs.Cut.{same-count}
+use Rattle.pmtl.proofs.Fullest.{most-at, most-least}
+use Rattle.pmtl.proofs.Kept.{run-none-before}
 use Rattle.pmtl.proofs.Alike.{Alike}
 use Rattle.pmtl.proofs.Flat.{row-flat}
 use Rattle.pmtl.proofs.Calls.{firsts-zero, timely, refused-stays, steps, call-accepts, accepts-call}
@@ -49,6 +53,19 @@ follows-alike b taken st h f = record {
   members = λ r t l. let l′ : nowOf b h .clock ≤ t = rw (f .now-is) at l in
       f .members r t l′ ∙ sym (sets-mean b (taken .ordered) r h (f .legal) t l′);
 }
+
+-- its sets have as many runs, row by row, and so has the fullest
+module _ (b : Rows) (taken : Taken b) (st : State) (h : History) (f : Follows b st h) where
+  pub follows-runs : (r : ℕ) → length (setAt st r) ≡ length (setAt (run b h) r)
+  follows-runs r =
+      same-count (nowOf b h .clock) (setAt st r) (setAt (run b h) r) (f .canonical r) (run-canonical b h r) (f .none-before r) (run-none-before b h (f .legal) r)
+      (λ t l. f .members r t l ∙ sym (sets-mean b (taken .ordered) r h (f .legal) t l))
+
+  pub follows-count : fullest st ≡ fullest (run b h)
+  follows-count =
+      let p = most-least (st .sets) (fullest (run b h)) (λ r l. omega (arith, follows-runs r, most-at (run b h .sets) r)) in
+      let q = most-least (run b h .sets) (fullest st) (λ r l. omega (arith, follows-runs r, most-at (st .sets) r)) in
+      omega arith
 
 -- a fresh one follows the empty history
 follows-none : (b : Rows) → Follows b (initialIn lasting b) []

@@ -23,21 +23,18 @@ use Rattle.pmtl.specs.Meaning.{instants, meaning}
 use Rattle.pmtl.specs.Past.{runBy, run, held, SomeCall, SinceCall}
 use Rattle.pmtl.specs.Kept.{NoneBefore, Full}
 use Rattle.pmtl.specs.Strict.{Strict}
-use Rattle.pmtl.proofs.History.{Legal, now-run, run-canonical}
+use Rattle.pmtl.proofs.History.{Legal, now-run}
 use Rattle.pmtl.proofs.Values.{values-mean, sets-mean}
 use Rattle.pmtl.proofs.Ago.{once-held, historically-held, since-held}
 use Rattle.pmtl.proofs.Settled.{settles}
 use Rattle.pmtl.proofs.Calls.{after-refused}
-use Rattle.pmtl.proofs.Cut.{same-count}
-use Rattle.pmtl.proofs.Fullest.{most-at, most-least}
-use Rattle.pmtl.proofs.Kept.{run-none-before}
 use Rattle.pmtl.proofs.Alike.{Alike, value-alike, early-alike, settled-alike}
 use Rattle.pmtl.proofs.Eleven.{crowded-is, Told, eleven-iff}
 use Rattle.pmtl.proofs.Strict.{never-full as strict-never-full}
 use Rattle.lasts.specs.Flat.{Taken}
 use Rattle.lasts.specs.Lasting.{ticks, filled, lastingOnto, lastingAfter, lastingHistory, FullLasting}
 use Rattle.lasts.proofs.Stretch.{next-legal}
-use Rattle.lasts.proofs.Follows.{Follows, follows-alike, step-follows, Going, going-now, follows}
+use Rattle.lasts.proofs.Follows.{Follows, follows-alike, follows-runs, follows-count, step-follows, Going, going-now, follows}
 
 -- each call that is put in is a time call of the ordinary monitor, at the next instant
 pub put-in-is-a-time-call : (b : Rows) (h : History) (i : ℕ)
@@ -76,15 +73,10 @@ module _ (b : Rows) (taken : Taken b) (calls : List Call) where
 
   -- its sets have as many runs, row by row, and so is the count
   pub runs-are : (r : ℕ) → length (setAt (lastingAfter b calls) r) ≡ length (setAt (run b (lastingHistory b calls)) r)
-  runs-are r = let f = follows b taken calls in
-      same-count (nowOf b h .clock) (setAt st r) (setAt (run b h) r) (f .canonical r) (run-canonical b h r) (f .none-before r) (run-none-before b h legal r)
-      (λ t l. f .members r t l ∙ sym (sets-mean b (taken .ordered) r h legal t l))
+  runs-are = follows-runs b taken st h (follows b taken calls)
 
   pub count-is : fullest (lastingAfter b calls) ≡ fullest (run b (lastingHistory b calls))
-  count-is =
-      let p = most-least (st .sets) (fullest (run b h)) (λ r l. omega (arith, runs-are r, most-at (run b h .sets) r)) in
-      let q = most-least (run b h .sets) (fullest st) (λ r l. omega (arith, runs-are r, most-at (st .sets) r)) in
-      omega arith
+  count-is = follows-count b taken st h (follows b taken calls)
 
   -- each set has, from the clock on, the instants that REFERENCE 3.5 defines from that history, and no run that ends before the clock
   pub sets-are-instants : (r t : ℕ) → lastingAfter b calls .now .clock ≤ t

@@ -1,7 +1,7 @@
 -- How full the fullest set of a monitor is: no set has more runs, it is 0 for a fresh monitor, and it never passes the limit. Assumes nothing.
 use Prim.Native.Nat.{ℕ, zero, suc, _≤_, _<_}
 use native.Mathlib.Omega.{arith}
-use mathlib.Core.Path.{_≡_, refl, sym, _∙_}
+use mathlib.Core.Path.{_≡_, refl, sym, ap, _∙_}
 use mathlib.Core.Bool.{Bool, true, false}
 use mathlib.Core.Logic.{⊎-elim}
 use mathlib.Core.List.{List, [], _∷_}
@@ -9,7 +9,7 @@ use lib.ListN.{length, getD, replicate}
 use lib.Dec.{ltb, eqb}
 use borrow.Author.Tests.{lt-ltb, le-ltb}
 use Rattle.numbers.specs.Limits.{MOST-RUNS}
-use Rattle.lists.proofs.Tests.{lt-or-ge, clash, fails-by, or-left, or-right}
+use Rattle.lists.proofs.Tests.{either, lt-or-ge, clash, fails-by, or-left, or-right}
 use Rattle.numset.specs.Runs.{Runs}
 use Rattle.pmtl.specs.Book.{Rows, some}
 use Rattle.pmtl.specs.Sets.{Way}
@@ -69,6 +69,18 @@ same-most ss ts e =
 roomy : (st : State) → crowded st ≡ false → fullest st ≤ MOST-RUNS
 unfolding crowded
 roomy st e = few MOST-RUNS (st .sets) e
+
+-- so a monitor is crowded exactly where its fullest set passes the limit, and one whose fullest has as many runs is, too
+crowded-most : (st : State) → crowded st ≡ ltb MOST-RUNS (fullest st)
+unfolding crowded
+crowded-most st =
+    ⊎-elim
+    (λ l. ⊎-elim (λ t. t) (λ f. absurd (omega (arith, l, few MOST-RUNS (st .sets) f))) (either (some (crowd MOST-RUNS) (st .sets))) ∙ sym (lt-ltb MOST-RUNS (fullest st) l))
+    (λ g. few-back MOST-RUNS (st .sets) g ∙ sym (le-ltb MOST-RUNS (fullest st) g))
+    (lt-or-ge MOST-RUNS (fullest st))
+
+pub same-crowd : (st st′ : State) → fullest st ≡ fullest st′ → crowded st ≡ crowded st′
+same-crowd st st′ e = crowded-most st ∙ ap (ltb MOST-RUNS) e ∙ sym (crowded-most st′)
 
 abbrev Few : Outcome → Type 0
 Few o = fullest (o .state) ≤ MOST-RUNS

@@ -59,7 +59,7 @@ module _ (a a′ : Sections) (ok : judged a ≡ 0) (ok′ : judged a′ ≡ 0) (
   abbrev ps′ : List ℕ
   ps′ = a′ .assumes ++ a′ .guarantees
 
-  width : widthOf b ≡ widthOf b′
+  pub width : widthOf b ≡ widthOf b′
   width = wide a a′ ok ok′ s fit good-row pairs
 
   -- ---- one call, after the same history
@@ -84,7 +84,7 @@ module _ (a a′ : Sections) (ok : judged a ≡ 0) (ok′ : judged a′ ≡ 0) (
   state-same : (bytes : List ℕ) → stateRefusal b bytes ≡ stateRefusal b′ bytes
   state-same bytes = ap (λ (m : ℕ). cond (ltb MOST-ATOMS (length bytes)) PAST-LIMIT (cond (ltb (length bytes) m) TOO-NARROW (cond (ltb m (length bytes)) TOO-WIDE (cond (some (ltb 1) bytes) NOT-A-BIT ACCEPTED)))) width
 
-  refusal-same : (n : Snap) (k : Call) → refusal b n k ≡ refusal b′ n k
+  pub refusal-same : (n : Snap) (k : Call) → refusal b n k ≡ refusal b′ n k
   unfolding refusal
   refusal-same n (time t) = refl
   refusal-same n (state bytes) = state-same bytes
