@@ -15,7 +15,6 @@ use Rattle.pmtl.specs.Strict.{Strict as IsStrict, firstOver}
 use Rattle.pmtl.proofs.Flat.{none-flat}
 use Rattle.pmtl.proofs.Strict.{none-strict}
 use Rattle.book.specs.declared.loading.Loading.{Loading}
-use Rattle.book.specs.declared.loading.Loading.the-variants.{Strict}
 use Rattle.book.specs.declared.strict.Excess.{Excess}
 use Rattle.book.specs.declared.strict.Excess.the-variants.{Within, Over}
 use Rattle.book.specs.Reading.{Read, got, refused, Sections, sections}
@@ -86,13 +85,17 @@ module _ (way : Loading) where
   pub admitted-strict : strictly way ≡ true → (l : Loaded) → IsStrict (admitted way l .book .rows)
   admitted-strict w l = strict-left (cases (wayIn way) (roomed way l)) (roomed-strict way w l)
 
-  -- and in the lasting way it is flat
-  pub admitted-flat : wayIn way ≡ lasting → (l : Loaded) → flat (admitted way l .book .rows) ≡ true
-  admitted-flat w l = ap (λ (x : Way). takes x (admitted way l .book .rows)) (sym w) ∙ flatly-taken (wayIn way) (roomed way l)
+  -- the way of monitoring takes what is admitted for it
+  pub admitted-takes : (l : Loaded) → takes (wayIn way) (admitted way l .book .rows) ≡ true
+  admitted-takes l = flatly-taken (wayIn way) (roomed way l)
 
--- a book that has no such row is admitted strictly as it is
-pub strict-admitted : (l : Loaded) → IsStrict (l .book .rows) → admitted Strict l ≡ l
-strict-admitted = strict-roomed Strict
+  -- so in the lasting way it is flat
+  pub admitted-flat : wayIn way ≡ lasting → (l : Loaded) → flat (admitted way l .book .rows) ≡ true
+  admitted-flat w l = ap (λ (x : Way). takes x (admitted way l .book .rows)) (sym w) ∙ admitted-takes l
+
+  -- a book that it takes, and that has no such row where loading is strict, is admitted as it is
+  pub admitted-as : (l : Loaded) → (strictly way ≡ true → IsStrict (l .book .rows)) → takes (wayIn way) (l .book .rows) ≡ true → admitted way l ≡ l
+  admitted-as l s t = ap (flatly (wayIn way)) (strict-roomed way l s) ∙ taken-stays (wayIn way) l t
 
 -- ---- what is so of a book, and of one that is refused with 15 or 17, is so of what loading comes to
 pub admitted-all : (Q : Loaded → Type 0) → Q (refusedWith 15) → Q (refusedWith 17) → (way : Loading) (l : Loaded) → Q l → Q (admitted way l)

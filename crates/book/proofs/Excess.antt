@@ -170,16 +170,16 @@ strict-unless l Within h = go (anyOver (l .book .rows)) refl h
 pub roomed-strict : (way : Loading) → strictly way ≡ true → (l : Loaded) → IsStrict (roomed way l .book .rows)
 roomed-strict way w l = rw w (none-strict _ (strict-unless l (excessIn (l .book .rows)) refl))
 
--- and a book that has none is left as it is
-pub strict-roomed : (way : Loading) (l : Loaded) → IsStrict (l .book .rows) → roomed way l ≡ l
+-- and a book that has none, where loading is strict, is left as it is
+pub strict-roomed : (way : Loading) (l : Loaded) → (strictly way ≡ true → IsStrict (l .book .rows)) → roomed way l ≡ l
 unfolding excessIn
-strict-roomed way l s = go (strictly way) (anyOver (l .book .rows)) refl
+strict-roomed way l s = go (strictly way) refl (anyOver (l .book .rows)) refl
   where
-    go : (w z : Bool) → anyOver (l .book .rows) ≡ z
+    go : (w : Bool) → strictly way ≡ w → (z : Bool) → anyOver (l .book .rows) ≡ z
         → unless (cond w (cond z (Over (firstOver (l .book .rows)) (neededBy (rowAt (l .book .rows) (firstOver (l .book .rows))))) Within) Within) l ≡ l
-    go w true z = absurd (some-not-strict (l .book .rows) z s)
-    go true false z = refl
-    go false false z = refl
+    go true e true z = absurd (some-not-strict (l .book .rows) z (s e))
+    go true e false z = refl
+    go false e z y = refl
 
 within-unless : (e : Excess) (l : Loaded) → unless e l .number ≡ 0 → e ≡ Within
 within-unless Within l h = refl

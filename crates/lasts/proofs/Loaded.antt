@@ -8,6 +8,7 @@ use mathlib.Core.List.{List, []}
 use Rattle.lists.proofs.Listed.{listed-length, listed-at}
 use Rattle.pmtl.specs.Book.{Book, emptyBook, rowAt, Ordered}
 use Rattle.pmtl.specs.Book.Row.{never}
+use Rattle.pmtl.specs.Flat.{flat}
 use Rattle.pmtl.specs.Sets.{Way}
 use Rattle.pmtl.proofs.Table.{row-out}
 use Rattle.pmtl.proofs.Flat.{none-flat}
@@ -19,7 +20,7 @@ use Rattle.book.specs.Loading.{wayIn, admitted, loadedBy}
 use Rattle.book.proofs.Accepted.{range, range-ordered}
 use Rattle.book.proofs.Ordered.{book-ordered}
 use Rattle.book.proofs.Admitted.{admitted-flat, admitted-any, loaded-any, words-any}
-use Rattle.lasts.specs.Flat.{Upward, Fit}
+use Rattle.lasts.specs.Flat.{Upward, Taken, Fit}
 
 -- ---- rows
 row-upward : (kind arg lower upper : ℕ) (os : List ℕ) → rangeGood lower upper ≡ true → Upward (rowFrom kind arg lower upper os)
@@ -52,6 +53,10 @@ accepted-sane s ok = record { ordered = book-ordered s ok; ranges = λ r. go r (
     go : (r : ℕ) → Dec (r < rowsIn s) → Upward (rowAt (bookIn s .rows) r)
     go r (yes h) = rw (listed-at (rowIn s) never (rowsIn s) r h) (row-upward _ _ _ _ _ (range s ok r h))
     go r (no h) = rw (row-out (bookIn s .rows) r (omega (arith, listed-length (rowIn s) (rowsIn s)))) tt
+
+-- the lasting way takes it if it is flat
+pub accepted-taken : (s : Sections) → judged s ≡ 0 → flat (bookIn s .rows) ≡ true → Taken (bookIn s .rows)
+accepted-taken s ok f = let a = accepted-sane s ok in record { ordered = a .ordered; flat-rows = f; ranges = a .ranges }
 
 -- in each way of loading
 fit-by : (way : Loading) (l : Loaded) → Sane (l .book) → Fit (wayIn way) (admitted way l .book .rows)

@@ -8,7 +8,7 @@ use lib.ListN.{length}
 use lib.Dec.{eqb}
 use borrow.Author.Tests.{eqb-true}
 use Rattle.numbers.specs.Refusals.{ACCEPTED, NO-ROOM}
-use Rattle.pmtl.specs.Book.{Rows, rowAt, Ordered}
+use Rattle.pmtl.specs.Book.{Rows, rowAt, Ordered, widthOf}
 use Rattle.pmtl.specs.Monitor.{Snap, State, fullest, value, stepIn}
 use Rattle.pmtl.specs.Early.{early}
 use Rattle.pmtl.specs.Settled.{settled}
@@ -55,7 +55,7 @@ module _ (a a′ : Sections) (ok : judged a ≡ 0) (ok′ : judged a′ ≡ 0) (
   abbrev ps′ : List ℕ
   ps′ = a′ .assumes ++ a′ .guarantees
 
-  wide : _
+  wide : widthOf b ≡ widthOf b′
   wide = width a a′ ok ok′ s fit good-row pairs
 
   now-alike : (h : History) → nowOf b h ≡ nowOf b′ h
