@@ -54,12 +54,12 @@ or-nothing : (b : Bool) → (b || false) ≡ b
 or-nothing true = refl
 or-nothing false = refl
 
-one-list : (f : ℕ → Bool) (os : List ℕ) → 1 ≤ length os → f (getD os 0 0) ≡ some itself (map f (take 1 os))
+pub one-list : (f : ℕ → Bool) (os : List ℕ) → 1 ≤ length os → f (getD os 0 0) ≡ some itself (map f (take 1 os))
 unfolding some
 one-list f [] h = absurd (omega arith)
 one-list f (x ∷ os) h = sym (or-nothing (f x))
 
-two-list : (f : ℕ → Bool) (os : List ℕ) → 2 ≤ length os → (f (getD os 0 0) || f (getD os 1 0)) ≡ some itself (map f (take 2 os))
+pub two-list : (f : ℕ → Bool) (os : List ℕ) → 2 ≤ length os → (f (getD os 0 0) || f (getD os 1 0)) ≡ some itself (map f (take 2 os))
 unfolding some
 two-list f [] h = absurd (omega arith)
 two-list f (x ∷ []) h = absurd (omega arith)
