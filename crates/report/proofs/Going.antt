@@ -115,12 +115,12 @@ module _ (input : List ℕ) (cursor : ℕ) (out : List ℕ) (at : ℕ) (way : Wa
 
 -- ---- the book, and what follows it
 -- a fresh monitor is in the way that its book was loaded for
-pub way-loaded : {st : State} {way : Way} {b : Rows} → st ≡ initialIn way b → st .way ≡ way
+pub way-loaded : {st : State} (way : Way) (b : Rows) → st ≡ initialIn way b → st .way ≡ way
 unfolding initialIn
-way-loaded e = ap (λ (st : State). st .way) e
+way-loaded way b e = ap (λ (st : State). st .way) e
 
-pub fresh-in : {st : State} {way : Way} {b b′ : Book} → b ≡ b′ → st ≡ initialIn way (b′ .rows) → st ≡ initialIn (st .way) (b .rows)
-fresh-in f e = e ∙ ap₂ (λ (way : Way) (b : Book). initialIn way (b .rows)) (sym (way-loaded e)) (sym f)
+pub fresh-in : {st : State} (way : Way) {b b′ : Book} → b′ ≡ b → st ≡ initialIn way (b .rows) → st ≡ initialIn (st .way) (b′ .rows)
+fresh-in way {b} f e = e ∙ ap₂ (λ (way : Way) (b : Book). initialIn way (b .rows)) (sym (way-loaded way (b .rows) e)) (sym f)
 
 module _ (way : Loading) (l : Loaded) (ending : ℕ) (ws : List ℕ) where
   pub book-accepted : {out out₁ : List ℕ} {at n : ℕ} {h : Handed} {w : Way} {b : Book} → Wrote out 0 (bookLine n Within) out₁ at → n ≡ 0 → n ≡ admitted way l .number → b ≡ admitted way l .book → w ≡ wayIn way

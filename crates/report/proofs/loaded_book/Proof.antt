@@ -11,13 +11,13 @@ put-book-requires : tie.Need-put-book-requires
 put-book-requires c κs = search needs
 
 counted-calls-requires : tie.Need-counted-calls-requires
-counted-calls-requires c κs = let l = c .before .before .before .before .before .before .before .load-by .ensures in (l .kept, fresh-in (l .book) (l .state))
+counted-calls-requires c κs = let l = c .before .before .before .before .before .before .before .load-by .ensures in (l .kept, fresh-in _ (l .book) (l .state))
 
 same-length : tie.Need-same-length
 same-length c = search needs
 
 returns : tie.Need-returns
-returns c = let l = c .before .before .before .before .before .before .before .before .before .before .load-by .ensures in book-accepted _ _ _ _ (c .before .before .before .before .before .before .before .put-book .ensures) (c .before .before .before .before .before .before .before .before .before .if1 .taken) (l .number) (l .book) (way-loaded (l .state)) (c .before .before .counted-calls .ensures)
+returns c = let l = c .before .before .before .before .before .before .before .before .before .before .load-by .ensures in book-accepted _ _ _ _ (c .before .before .before .before .before .before .before .put-book .ensures) (c .before .before .before .before .before .before .before .before .before .if1 .taken) (l .number) (l .book) (way-loaded _ _ (l .state)) (c .before .before .counted-calls .ensures)
 
 first-excess-requires : tie.Need-first-excess-requires
 first-excess-requires c κs = search needs
