@@ -54,18 +54,18 @@ lines-length b done st (k ∷ ks) = ap suc (lines-length b (suc done) (call (b .
 pub lines-at : (w : Way) (b : Book) (done : ℕ) (past ks : List Call) (i : ℕ) → i < length ks → getD (linesOf b done (afterIn w (b .rows) past) ks) i noCallLine
     ≡ lineOf b (suc (done + i)) (call (b .rows) (afterIn w (b .rows) (reverseAux (take i ks) past)) (getD ks i missingCall))
 unfolding linesOf afterIn
-lines-at b done past [] i h = absurd (omega arith)
-lines-at b done past (k ∷ ks) zero h = let e : done + 0 ≡ done = omega arith in rw e
-lines-at b done past (k ∷ ks) (suc i) h =
-    let e : done + suc i ≡ suc done + i = omega arith in rw e (lines-at b (suc done) (k ∷ past) ks i (omega arith))
+lines-at w b done past [] i h = absurd (omega arith)
+lines-at w b done past (k ∷ ks) zero h = let e : done + 0 ≡ done = omega arith in rw e
+lines-at w b done past (k ∷ ks) (suc i) h =
+    let e : done + suc i ≡ suc done + i = omega arith in rw e (lines-at w b (suc done) (k ∷ past) ks i (omega arith))
 
--- line i of calls, on a fresh monitor
-abbrev pub sayings : ℕ → Book → List Call → CallLine
+-- line i of calls, on a fresh monitor in a way of monitoring
+abbrev pub sayings : Way → ℕ → Book → List Call → CallLine
 sayings w i b ks = lineOf b (suc i) (call (b .rows) (afterIn w (b .rows) (reverse (take i ks))) (getD ks i missingCall))
 
 said-at : (w : Way) (b : Book) (ks : List Call) (i : ℕ) → i < length ks → getD (linesOf b 0 (initialIn w (b .rows)) ks) i noCallLine ≡ sayings w i b ks
 unfolding afterIn
-said-at b ks i h = let e : 0 + i ≡ i = omega arith in rw e at (lines-at b 0 [] ks i h)
+said-at w b ks i h = let e : 0 + i ≡ i = omega arith in rw e at (lines-at w b 0 [] ks i h)
 
 number-of : (b : Book) (i : ℕ) (o : Outcome) → lineOf b i o .number ≡ i
 unfolding lineOf

@@ -43,11 +43,11 @@ module _ (b : Book) (e : Ending) where
   lower done st (k ∷ ks) = ap₂ (λ x xs. x ∷ xs) (one-lower (suc done) (call (b .rows) st k)) (lower (suc done) (call (b .rows) st k .state) ks)
 
   -- ---- without the line of a refused call
-  cut : (done : ℕ) (past before : List Call) (k : Call) (later : List Call) → ¬ (call (b .rows) (afterIn w (b .rows) (reverseAux before past)) k .number ≡ ACCEPTED)
+  cut : (w : Way) (done : ℕ) (past before : List Call) (k : Call) (later : List Call) → ¬ (call (b .rows) (afterIn w (b .rows) (reverseAux before past)) k .number ≡ ACCEPTED)
       → without (length before) (ends (linesOf b done (afterIn w (b .rows) past) (before ++ k ∷ later))) ≡ ends (linesOf b done (afterIn w (b .rows) past) (before ++ later))
   unfolding ends linesOf afterIn without
-  cut done past [] k later n = rw (refused-changes-nothing (b .rows) (afterIn w (b .rows) past) k n) (lower done (afterIn w (b .rows) past) later)
-  cut done past (x ∷ before) k later n = ap (λ ls. called (lineOf b (suc done) (call (b .rows) (afterIn w (b .rows) past) x)) ∷ ls) (cut (suc done) (x ∷ past) before k later n)
+  cut w done past [] k later n = rw (refused-changes-nothing (b .rows) (afterIn w (b .rows) past) k n) (lower done (afterIn w (b .rows) past) later)
+  cut w done past (x ∷ before) k later n = ap (λ ls. called (lineOf b (suc done) (call (b .rows) (afterIn w (b .rows) past) x)) ∷ ls) (cut w (suc done) (x ∷ past) before k later n)
 
 -- ---- the calls of the text, and of the text without one
 module _ (way : Loading) {input : List ℕ} {i : ℕ} (c : CallAt input i) where
@@ -105,7 +105,7 @@ module _ (way : Loading) {input : List ℕ} {i : ℕ} (c : CallAt input i) where
     unfolding without afterIn
     lines-cut n t =
         others-are t
-        ∙ ap (λ ls. book ACCEPTED Within ∷ ls) (sym (cut loaded (later .ends) 0 [] (c .before) (c .itself) (later .calls) n))
+        ∙ ap (λ ls. book ACCEPTED Within ∷ ls) (sym (cut loaded (later .ends) (wayIn way) 0 [] (c .before) (c .itself) (later .calls) n))
         ∙ ap₂ without (sym (c .place)) (sym lines-are)
 
   pub no-trace : {l : CallLine} → getD (lines way input) i noLine ≡ called l → ¬ (l .refusal ≡ ACCEPTED) → {other : List ℕ} → TakenOut c other → lines way other ≡ without i (lines way input)
