@@ -72,8 +72,16 @@ pub enum Row {
 }
 
 impl Row {
-    pub fn is_temporal(&self) -> bool {
-        matches!(self, Row::Historically(..) | Row::Once(..) | Row::Since(..))
+    /// The range of a temporal row.
+    pub fn range(&self) -> Option<Range> {
+        match self {
+            Row::Historically(_, range) | Row::Once(_, range) | Row::Since(_, _, range) => Some(*range),
+            _ => None,
+        }
+    }
+
+    fn is_temporal(&self) -> bool {
+        self.range().is_some()
     }
 }
 
@@ -118,9 +126,7 @@ impl Book {
 /// The first row whose set can need more runs than there is room for, and how many it can need.
 pub fn over(book: &Book) -> Option<(usize, u64)> {
     book.rows.iter().enumerate().find_map(|(row, kind)| {
-        let (Row::Historically(_, range) | Row::Once(_, range) | Row::Since(_, _, range)) = kind else {
-            return None;
-        };
+        let range = kind.range()?;
         let count = range.upper / (range.upper - range.lower).checked_add(2)? + 1;
         (range.upper != MAX && count > MOST_RUNS as u64).then_some((row, count))
     })

@@ -1,6 +1,6 @@
 //! The examples of docs/REFERENCE.md, run through the report.
 
-use crate::report::{lasting, report, strictly, Nobody, LONGEST_INPUT};
+use crate::report::{lasting, report, strictly, Gaps, Nobody, LONGEST_INPUT};
 
 const MAX: &str = "18446744073709551615";
 
@@ -8,10 +8,14 @@ fn reported(input: &str) -> String {
     String::from_utf8(report(input.as_bytes(), &mut Nobody).expect("original and rules agree")).expect("a report is ASCII")
 }
 
-/// The report in the lasting way.
+/// The report in the lasting way, whether calls are put in at every instant or at the ends of the gaps alone.
 fn lastingly(input: &str) -> String {
-    let report = lasting(input.as_bytes(), 100_000, &mut Nobody).expect("original and rules agree");
-    String::from_utf8(report.expect("not too many calls are put in")).expect("a report is ASCII")
+    let [whole, ends] = [Gaps::Whole, Gaps::Ends].map(|gaps| {
+        let report = lasting(input.as_bytes(), gaps, 100_000, &mut Nobody).expect("original and rules agree");
+        String::from_utf8(report.expect("not too many calls are put in")).expect("a report is ASCII")
+    });
+    assert_eq!(whole, ends);
+    whole
 }
 
 /// An input of a book and calls; the calls are given without their count.
@@ -311,15 +315,29 @@ fn books_that_the_lasting_way_does_not_take() {
 
 #[test]
 fn calls_that_are_too_many_to_put_in() {
-    let report = |most: u64, calls: &[&str]| {
+    let report = |gaps: Gaps, most: u64, calls: &[&str]| {
         let input = input_of("2 2 0 0 0 8 1 0 5 1 0 0 1 1", calls);
-        lasting(input.as_bytes(), most, &mut Nobody).expect("original and rules agree").is_some()
+        lasting(input.as_bytes(), gaps, most, &mut Nobody).expect("original and rules agree").is_some()
     };
-    assert!(report(9, &["0 5", "0 5", "0 11"]) && !report(8, &["0 5", "0 5", "0 11"]));
+    let calls = ["0 5", "0 5", "0 11"];
+    assert!(report(Gaps::Whole, 9, &calls) && !report(Gaps::Whole, 8, &calls));
     // A call that is refused in itself puts nothing in.
-    assert!(report(0, &["0 9223372036854775808", "2 9223372036854775807 1 2", "0 1"]));
-    assert!(!report(1000, &["0 9223372036854775807"]));
+    assert!(report(Gaps::Whole, 0, &["0 9223372036854775808", "2 9223372036854775807 1 2", "0 1"]));
+    let far = ["0 9223372036854775807"];
+    assert!(!report(Gaps::Whole, 1000, &far) && !report(Gaps::Ends, 5, &far) && report(Gaps::Ends, 6, &far));
     // Nor is anything needed where no row is temporal.
-    let input = input_of("1 2 0 0 0 0 0 1 0", &["0 9223372036854775807"]);
-    assert!(lasting(input.as_bytes(), 0, &mut Nobody).expect("original and rules agree").is_some());
+    let input = input_of("1 2 0 0 0 0 0 1 0", &far);
+    assert!(lasting(input.as_bytes(), Gaps::Whole, 0, &mut Nobody).expect("original and rules agree").is_some());
+}
+
+#[test]
+fn jumps_too_far_to_walk() {
+    let lines = |book: &str, calls: &[&str]| {
+        let report = lasting(input_of(book, calls).as_bytes(), Gaps::Ends, 1000, &mut Nobody).expect("original and rules agree");
+        after_book(&String::from_utf8(report.expect("not too many calls are put in")).expect("a report is ASCII"))
+    };
+    let h = "0 9223372036854775807";
+    assert_eq!(lines("2 2 0 0 0 8 1 1 1 1 0 0 1 1", &["1 1 1", h])[1], "2 0 122 1");
+    assert_eq!(lines("2 2 0 0 0 7 1 3 7 1 0 0 1 1", &["1 1 1", h])[1], "2 0 122 0");
+    assert_eq!(lines(&format!("2 2 0 0 0 8 1 7 {MAX} 1 0 0 1 1"), &["1 1 1", h])[1], "2 0 111 1");
 }

@@ -1,7 +1,7 @@
 //! Reads an input from standard input and prints the report that docs/REFERENCE.md asks for; with the word `strict` that of strict loading,
 //! with `lasting` that of the lasting way, and with both that of both.
 
-use judge::report::{lasting, report, strictly, Nobody, LONGEST_INPUT};
+use judge::report::{lasting, report, strictly, Gaps, Nobody, LONGEST_INPUT};
 use std::env;
 use std::io::{self, Read, Write};
 use std::process::ExitCode;
@@ -16,7 +16,8 @@ fn expected(input: &[u8], words: &[String]) -> Result<Vec<u8>, String> {
         return Err(format!("{word} is not known"));
     }
     let bytes = if names("lasting") {
-        lasting(input, MOST_PUT_IN, &mut Nobody)?.ok_or(format!("more than {MOST_PUT_IN} calls would have to be put in"))?
+        let reports = [Gaps::Whole, Gaps::Ends].map(|gaps| lasting(input, gaps, MOST_PUT_IN, &mut Nobody).transpose());
+        reports.into_iter().flatten().next().ok_or(format!("more than {MOST_PUT_IN} calls would have to be put in"))??
     } else {
         report(input, &mut Nobody)?
     };

@@ -1,6 +1,6 @@
 //! The report, byte for byte.
 
-use crate::book::{self, Book, Row, COULD_RUN_OUT, NESTED, PASSES_LIMIT};
+use crate::book::{self, Book, Row, COULD_RUN_OUT, MAX, NESTED, PASSES_LIMIT};
 use crate::monitor::{Monitor, ACCEPTED, MOST_WIDTH};
 use crate::original::Original;
 use crate::rules::Answer;
@@ -43,12 +43,22 @@ impl Call {
     }
 }
 
+/// At which of the instants between two clocks the judge of the lasting way puts a call in.
+#[derive(Clone, Copy, PartialEq, Eq)]
+pub enum Gaps {
+    /// At every one.
+    Whole,
+    /// At the first and at the last ones, as many as the largest finite upper bound says. What a call at another instant adds to a set is
+    /// over before the new clock or, where the range has no end, lies in what the first one adds; and all see the same state.
+    Ends,
+}
+
 /// A way of monitoring.
 #[derive(Clone, Copy)]
 enum Way {
     Ordinary,
-    /// A time call is put in at every instant between: so many in all may still be put in.
-    Lasting(u64),
+    /// Time calls are put in: so many in all may still be.
+    Lasting(Gaps, u64),
 }
 
 /// The report expected for an input; or, in words, where the original leaves the rules of REFERENCE 4.1 and 4.3 for value and early.
@@ -58,8 +68,8 @@ pub fn report(input: &[u8], watch: &mut impl Watch) -> Result<Vec<u8>, String> {
 
 /// The report expected in the lasting way, in which the calls of REFERENCE 3.9 are put in one by one, on the original, too; none where there
 /// are more of them than `most`.
-pub fn lasting(input: &[u8], most: u64, watch: &mut impl Watch) -> Result<Option<Vec<u8>>, String> {
-    report_in(Way::Lasting(most), input, watch)
+pub fn lasting(input: &[u8], gaps: Gaps, most: u64, watch: &mut impl Watch) -> Result<Option<Vec<u8>>, String> {
+    report_in(Way::Lasting(gaps, most), input, watch)
 }
 
 fn report_in(way: Way, input: &[u8], watch: &mut impl Watch) -> Result<Option<Vec<u8>>, String> {
@@ -70,7 +80,7 @@ fn report_in(way: Way, input: &[u8], watch: &mut impl Watch) -> Result<Option<Ve
     }
     let mut words = Reader::new(input);
     let judged = book::read(&mut words).and_then(|sections| book::judge(&sections)).and_then(|book| match way {
-        Way::Lasting(_) if book.is_nested() => Err(NESTED),
+        Way::Lasting(..) if book.is_nested() => Err(NESTED),
         _ => Ok(book),
     });
     let number = judged.as_ref().err().copied().unwrap_or(ACCEPTED);
@@ -161,14 +171,14 @@ impl Pair {
     /// The call's number of refusal, or 0; none where too many calls would be put in. What is put in before a call that is then refused is
     /// put into a copy alone.
     fn call(&mut self, call: &Call) -> Option<u64> {
-        let between = self.between(call);
-        let mut before = None;
-        if !between.is_empty() {
-            let Way::Lasting(left) = &mut self.way else { unreachable!("the ordinary way puts nothing in") };
-            *left = left.checked_sub(between.end - between.start)?;
-            before = Some(self.monitor.clone());
-            between.clone().for_each(|instant| self.monitor.put_in(instant));
+        let [first, last] = self.between(call);
+        let count = [&first, &last].iter().map(|instants| instants.end.saturating_sub(instants.start)).sum();
+        let before = (count > 0).then(|| self.monitor.clone());
+        if let Way::Lasting(_, left) = &mut self.way {
+            *left = left.checked_sub(count)?;
         }
+        let between = first.chain(last);
+        between.clone().for_each(|instant| self.monitor.put_in(instant));
         let refusal = match call {
             Call::Time(time) => self.monitor.time_call(*time),
             Call::State(state) => self.monitor.state_call(state),
@@ -185,20 +195,25 @@ impl Pair {
         Some(refusal)
     }
 
-    /// The instants strictly between the clock and the call's time, where the way puts a call in at each: none before a call that is wrong
+    /// The instants strictly between the clock and the call's time, where the way puts a call in at them: none before a call that is wrong
     /// in itself. Where no row is temporal nothing is remembered, and none is needed.
-    fn between(&self, call: &Call) -> Range<u64> {
-        let wrong = match call {
-            Call::Time(time) => self.monitor.wrong_time(*time),
-            Call::State(_) => ACCEPTED,
-            Call::Stamped(time, state) => self.monitor.wrong_time(*time).max(self.monitor.wrong_state(state)),
+    fn between(&self, call: &Call) -> [Range<u64>; 2] {
+        let none = 0..0;
+        let (Way::Lasting(gaps, _), Some(time)) = (self.way, call.time()) else { return [none.clone(), none] };
+        let wrong_state = match call {
+            Call::Stamped(_, state) => self.monitor.wrong_state(state),
+            _ => ACCEPTED,
         };
-        match (self.way, call.time()) {
-            (Way::Lasting(_), Some(time)) if wrong == ACCEPTED && self.monitor.book.rows.iter().any(Row::is_temporal) => {
-                self.monitor.clock + 1..time
-            }
-            _ => 0..0,
+        let ranges: Vec<book::Range> = self.monitor.book.rows.iter().filter_map(Row::range).collect();
+        if self.monitor.wrong_time(time) != ACCEPTED || wrong_state != ACCEPTED || ranges.is_empty() {
+            return [none.clone(), none];
         }
+        let first = self.monitor.clock + 1;
+        let reach = ranges.iter().map(|range| range.upper).filter(|&upper| upper != MAX).max().unwrap_or(0);
+        if gaps == Gaps::Whole || time.saturating_sub(reach) <= first {
+            return [none, first..time];
+        }
+        [first..first + 1, time - reach..time]
     }
 
     /// A word for each property, value and early of the original, settled of the rules; and the count, of the instants.
