@@ -166,7 +166,7 @@ impl Tally {
 fn difference(ours: &Ours, input: &[u8], tally: &mut Tally) -> Option<String> {
     tally.inputs += 1;
     let held = panic::catch_unwind(panic::AssertUnwindSafe(|| held(ours, input, tally).and_then(|()| held_lasting(ours, input, tally))));
-    held.unwrap_or(Err("the original panics".to_string())).err()
+    held.unwrap_or(Err("the original panics, or the judge".to_string())).err()
 }
 
 /// Our reports in the ordinary way are the expected ones.
@@ -180,6 +180,9 @@ fn held(ours: &Ours, input: &[u8], tally: &mut Tally) -> Result<(), String> {
 
 /// So are those in the lasting way, where the judge can put the calls in.
 fn held_lasting(ours: &Ours, input: &[u8], tally: &mut Tally) -> Result<(), String> {
+    if !ours.has_every_way() {
+        return Ok(());
+    }
     for gaps in [Gaps::Whole, Gaps::Ends] {
         let mut seen = Lasting::default();
         if let Some(expected) = lasting(input, gaps, MOST_PUT_IN, &mut seen)? {

@@ -62,8 +62,12 @@ impl Way {
 }
 
 impl Ours {
-    /// Compares every byte with the report expected in a way; in words, what differs first. A program loads in one way, and is asked in
-    /// that alone, the ordinary one.
+    /// A program loads in one way, the ordinary one, and is asked in no other.
+    pub fn has_every_way(&self) -> bool {
+        !matches!(self, Ours::Program(_))
+    }
+
+    /// Compares every byte with the report expected in a way; in words, what differs first.
     pub fn held_to(&self, way: Way, expected: &[u8], input: &[u8]) -> Result<(), String> {
         let held = match (self, way) {
             #[cfg(archive)]
