@@ -24,7 +24,7 @@
  * Of a book that it takes no call is ever refused with 11: for a host that nobody watches.
  *
  * binefdar_report_lasting is for states that last, as that of a case on its shelf: its answers, its counts and its 11
- * are as if a time call had been made at every instant between two accepted calls. That costs no more than one call,
+ * are as if a time call had been made at every instant between two accepted calls. None of these instants is walked,
  * however far the clock goes. It takes only books in which no rule with a window lies inside another; of any other its
  * one line is `book 17`. binefdar_report_lasting_strict is both: 15 comes before 17.
  *
