@@ -1,7 +1,7 @@
 /*
  * Binefdar: a runtime monitor for past-time metric temporal logic, proved correct.
  *
- * One function, for two ways of loading a book. It takes the bytes of an input (a book of rules, then calls, as
+ * One function, for four ways of loading a book. It takes the bytes of an input (a book of rules, then calls, as
  * decimal words parted by spaces or line feeds) and a buffer, and writes the report of that input into the buffer. A
  * scan is a call `2 time width` and that many words 0 or 1: its time and then its state, or neither. The two alone,
  * `0 time` and `1 width` with its words, are for old logs and for a state that changes without a scan.
@@ -22,6 +22,11 @@
  * binefdar_report_strict is the same, but that it refuses a book of which a rule could ever need more than 64 of these
  * stretches. Then its one line is `book 15 ROW COUNT`: the first such row, counted from 0, and how many it could need.
  * Of a book that it takes no call is ever refused with 11: for a host that nobody watches.
+ *
+ * binefdar_report_lasting is for states that last, as that of a case on its shelf: its answers, its counts and its 11
+ * are as if a time call had been made at every instant between two accepted calls. None of these instants is walked,
+ * however far the clock goes. It takes only books in which no rule with a window lies inside another; of any other its
+ * one line is `book 17`. binefdar_report_lasting_strict is both: 15 comes before 17.
  *
  * What they promise, for every input and every buffer (it is proved, and nothing is asked of the caller
  * beyond the pointers):
@@ -69,6 +74,13 @@ uint64_t binefdar_report(const uint8_t *input, size_t input_length, uint8_t *rep
 
 /* The same, its book loaded strictly. */
 uint64_t binefdar_report_strict(const uint8_t *input, size_t input_length, uint8_t *report, size_t report_length);
+
+/* The same in the lasting way. */
+uint64_t binefdar_report_lasting(const uint8_t *input, size_t input_length, uint8_t *report, size_t report_length);
+
+/* The same in the lasting way, its book loaded strictly. */
+uint64_t binefdar_report_lasting_strict(const uint8_t *input, size_t input_length, uint8_t *report,
+                                        size_t report_length);
 
 #ifdef __cplusplus
 }

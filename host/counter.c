@@ -1,6 +1,6 @@
 /* The counter: prints the report of a file, or of standard input; compiled with -DSTRICT that of a book that is loaded
- * strictly. Its status is 0 if the report was printed, 1 if reading,
- * memory or printing failed, which is said, and 2 if it was called wrongly.
+ * strictly, with -DLASTING that in the lasting way, and with both that of both. Its status is 0 if the report was
+ * printed, 1 if reading, memory or printing failed, which is said, and 2 if it was called wrongly.
  *
  * To build it from the repository's root, on x86-64:
  *     rt staticlib report && cc -O2 -Ihost -o target/counter host/counter.c target/staticlib/libreport.a
@@ -22,7 +22,11 @@ static int fail(const char *what) {
     return 1;
 }
 
-#ifdef STRICT
+#if defined LASTING && defined STRICT
+#define REPORT binefdar_report_lasting_strict
+#elif defined LASTING
+#define REPORT binefdar_report_lasting
+#elif defined STRICT
 #define REPORT binefdar_report_strict
 #else
 #define REPORT binefdar_report

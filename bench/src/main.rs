@@ -1,11 +1,12 @@
 //! Ours beside a straightforward Rust program over the original, on the same inputs, in one run.
 //!
 //! bench                         times and instruction counts, as ratios
+//! bench jumps                   those of calls in the lasting way alone
 //! bench count PLACE PART SIDE   one measured run, for callgrind
 
-use bench::workloads::{with_calls_refused, workloads, Workload, MANY_RUNS, ONE_RUN};
+use bench::workloads::{jumps, with_calls_refused, workloads, Workload, MANY_RUNS, ONE_RUN};
 use bench::{plain, as_the_rust_knows};
-use judge::report::{self, Nobody, LONGEST_INPUT};
+use judge::report::{self, Gaps, Nobody, LONGEST_INPUT};
 use std::hint::black_box;
 use std::process::Command;
 use std::time::{Duration, Instant};
@@ -13,6 +14,7 @@ use std::{env, fs, process};
 
 extern "C" {
     fn binefdar_report(input: *const u8, input_len: u64, report: *mut u8, report_len: u64) -> u64;
+    fn binefdar_report_lasting(input: *const u8, input_len: u64, report: *mut u8, report_len: u64) -> u64;
 }
 
 /// Room for the longest report of a workload.
@@ -26,18 +28,40 @@ const ROUND: Duration = Duration::from_millis(20);
 enum Side {
     Ours,
     Plain,
+    /// Ours in the lasting way, which the Rust has not.
+    Lasting,
 }
 
+/// The two that are measured beside each other.
 const SIDES: [Side; 2] = [Side::Ours, Side::Plain];
 
-/// The functions that callgrind counts.
-const MEASURED: [&str; 2] = ["measured_ours", "measured_plain"];
+impl Side {
+    const ALL: [Side; 3] = [Side::Ours, Side::Plain, Side::Lasting];
+
+    /// The function that callgrind counts.
+    fn measured(self) -> &'static str {
+        match self {
+            Side::Ours => "measured_ours",
+            Side::Plain => "measured_plain",
+            Side::Lasting => "measured_lasting",
+        }
+    }
+}
 
 #[no_mangle]
 #[inline(never)]
 extern "C" fn measured_ours(input: &&[u8], out: &mut Buffers) {
     // SAFETY: the pointers and lengths are those of a slice and of a vector.
     let length = unsafe { binefdar_report(input.as_ptr(), input.len() as u64, out.ours.as_mut_ptr(), out.ours.len() as u64) };
+    assert!(length != u64::MAX, "the report has room");
+    black_box(length);
+}
+
+#[no_mangle]
+#[inline(never)]
+extern "C" fn measured_lasting(input: &&[u8], out: &mut Buffers) {
+    // SAFETY: as above.
+    let length = unsafe { binefdar_report_lasting(input.as_ptr(), input.len() as u64, out.ours.as_mut_ptr(), out.ours.len() as u64) };
     assert!(length != u64::MAX, "the report has room");
     black_box(length);
 }
@@ -65,6 +89,7 @@ fn run_once(side: Side, input: &[u8], out: &mut Buffers) {
     match side {
         Side::Ours => measured_ours(&black_box(input), out),
         Side::Plain => measured_plain(&black_box(input), out),
+        Side::Lasting => measured_lasting(&black_box(input), out),
     }
 }
 
@@ -85,10 +110,30 @@ fn check(name: &str, texts: &[Vec<u8>; 2]) {
         assert!(length as usize == expected.len() && out[..length as usize] == expected, "{name}: ours is not the expected report");
         plain::report(text, &mut out);
         assert!(as_the_rust_knows(&out) == as_the_rust_knows(&expected), "{name}: the Rust program's is not the expected report");
-        let lines = String::from_utf8(expected).expect("a report is ASCII");
-        let accepted = lines.lines().filter(|l| l.split(' ').nth(1) == Some("0")).count();
-        // One line is the book's; with the calls refused the one more is the first call.
-        assert_eq!(accepted, if part == 0 { lines.lines().count() - 1 } else { 2 }, "{name}: accepted lines");
+        check_accepted(name, part, expected);
+    }
+}
+
+/// Every call is accepted, or, in the second part, refused.
+fn check_accepted(name: &str, part: usize, expected: Vec<u8>) {
+    let lines = String::from_utf8(expected).expect("a report is ASCII");
+    let accepted = lines.lines().filter(|l| l.split(' ').nth(1) == Some("0")).count();
+    // One line is the book's; with the calls refused the one more is the first call.
+    assert_eq!(accepted, if part == 0 { lines.lines().count() - 1 } else { 2 }, "{name}: accepted lines");
+}
+
+/// Calls that the judge of the lasting way may put in: at the ends of gaps alone, since these are far too long to walk.
+const MOST_PUT_IN: u64 = 1_000_000;
+
+/// In the lasting way ours must give the expected report.
+fn check_lasting(name: &str, texts: &[Vec<u8>; 2]) {
+    for (part, text) in texts.iter().enumerate() {
+        let expected = report::lasting(text, Gaps::Ends, MOST_PUT_IN, &mut Nobody).expect("original and rules agree");
+        let expected = expected.expect("not too many calls are put in");
+        let mut out = Buffers::new();
+        run_once(Side::Lasting, text, &mut out);
+        assert!(out.ours.starts_with(&expected), "{name}: ours is not the expected report");
+        check_accepted(name, part, expected);
     }
 }
 
@@ -99,39 +144,43 @@ fn times(texts: &[Vec<u8>; 2]) -> [[f64; 2]; 2] {
     for _ in 0..ROUNDS {
         for (part, text) in texts.iter().enumerate() {
             for (place, side) in SIDES.into_iter().enumerate() {
-                run_once(side, text, &mut out);
-                let start = Instant::now();
-                let mut runs = 0;
-                while start.elapsed() < ROUND {
-                    run_once(side, text, &mut out);
-                    runs += 1;
-                }
-                let time = start.elapsed().as_nanos() as f64 / f64::from(runs);
-                best[part][place] = best[part][place].min(time);
+                best[part][place] = best[part][place].min(time(side, text, &mut out));
             }
         }
     }
     best
 }
 
+/// Nanoseconds for one run, over one round.
+fn time(side: Side, text: &[u8], out: &mut Buffers) -> f64 {
+    run_once(side, text, out);
+    let start = Instant::now();
+    let mut runs = 0;
+    while start.elapsed() < ROUND {
+        run_once(side, text, out);
+        runs += 1;
+    }
+    start.elapsed().as_nanos() as f64 / f64::from(runs)
+}
+
 /// Instructions of one run of each side on each text; nothing if valgrind is not there.
 fn counts(place: usize) -> Option<[[f64; 2]; 2]> {
     let mut counts = [[0.0; 2]; 2];
     for (part, sides) in counts.iter_mut().enumerate() {
-        for (side, count) in sides.iter_mut().enumerate() {
+        for (side, count) in SIDES.into_iter().zip(sides.iter_mut()) {
             *count = counted(place, part, side)?;
         }
     }
     Some(counts)
 }
 
-fn counted(place: usize, part: usize, side: usize) -> Option<f64> {
+fn counted(place: usize, part: usize, side: Side) -> Option<f64> {
     let file = env::temp_dir().join(format!("bench-callgrind-{}", process::id()));
     let output = Command::new("valgrind")
-        .args(["--tool=callgrind", &format!("--toggle-collect={}", MEASURED[side])])
+        .args(["--tool=callgrind", &format!("--toggle-collect={}", side.measured())])
         .arg(format!("--callgrind-out-file={}", file.display()))
         .arg(env::current_exe().ok()?)
-        .args(["count".to_string(), place.to_string(), part.to_string(), side.to_string()])
+        .args(["count".to_string(), place.to_string(), part.to_string(), (side as usize).to_string()])
         .output()
         .ok()?;
     let text = fs::read_to_string(&file).ok()?;
@@ -192,6 +241,34 @@ fn measure_all() {
         row(workload.name, &rows, times.call, counts.as_ref().map(|c| c.call));
     }
     print_growth(&all, &measured);
+    print_jumps();
+}
+
+/// What a call costs in the lasting way, by how far the clock goes in it.
+fn print_jumps() {
+    println!("\nA call in the lasting way, by how many instants the clock goes in it, against one in which it goes one:\n");
+    println!("| instants | calls | ours ns | against 1 | ours instructions | against 1 |\n|---|---|---|---|---|---|");
+    let mut first: Option<(f64, Option<f64>)> = None;
+    for (place, (jump, workload)) in jumps().iter().enumerate() {
+        let texts = texts(workload);
+        check_lasting(workload.name, &texts);
+        let calls = workload.case.calls.len();
+        let each = |[all, refused]: [f64; 2]| (all - refused) / calls as f64;
+        let mut out = Buffers::new();
+        let mut best = [f64::INFINITY; 2];
+        for _ in 0..ROUNDS {
+            for (best, text) in best.iter_mut().zip(&texts) {
+                *best = best.min(time(Side::Lasting, text, &mut out));
+            }
+        }
+        let (ns, count) = (each(best), counted(place, 0, Side::Lasting).zip(counted(place, 1, Side::Lasting)).map(|(a, r)| each([a, r])));
+        let (first_ns, first_count) = *first.get_or_insert((ns, count));
+        print!("| {jump} | {calls} | {ns:.1} | {:.2} |", ns / first_ns);
+        match count.zip(first_count) {
+            Some((count, first)) => println!(" {count:.0} | {:.2} |", count / first),
+            None => println!(" - | - |"),
+        }
+    }
 }
 
 /// What a call costs where 64 runs were made in each set against one where 1 was, for each side.
@@ -209,20 +286,22 @@ fn print_growth(all: &[Workload], measured: &[(Measures, Option<Measures>)]) {
 
 /// Runs one side once on one text.
 fn count_once(words: &[usize]) {
-    let text = &texts(&workloads()[words[0]])[words[1]];
-    run_once(SIDES[words[2]], text, &mut Buffers::new());
+    let side = Side::ALL[words[2]];
+    let all = if matches!(side, Side::Lasting) { jumps().into_iter().map(|(_, workload)| workload).collect() } else { workloads() };
+    run_once(side, &texts(&all[words[0]])[words[1]], &mut Buffers::new());
 }
 
 fn main() {
     let words: Vec<String> = env::args().skip(1).collect();
     match words.split_first() {
         None => measure_all(),
+        Some((word, [])) if word == "jumps" => print_jumps(),
         Some((word, rest)) if word == "count" && rest.len() == 3 => {
             let numbers: Vec<usize> = rest.iter().map(|w| w.parse().expect("a number")).collect();
             count_once(&numbers);
         }
         _ => {
-            eprintln!("bench, or bench count PLACE PART SIDE");
+            eprintln!("bench, bench jumps, or bench count PLACE PART SIDE");
             process::exit(2);
         }
     }

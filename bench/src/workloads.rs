@@ -25,6 +25,11 @@ pub fn workloads() -> Vec<Workload> {
     ]
 }
 
+/// The same calls in the lasting way, with the clock going so many instants in each: the first is one.
+pub fn jumps() -> Vec<(u64, Workload)> {
+    JUMPS.into_iter().map(|jump| (jump, Workload { name: "jumps in the lasting way", case: jumping(jump) })).collect()
+}
+
 pub const ONE_RUN: &str = "sets of 1 run";
 pub const MANY_RUNS: &str = "sets of 64 runs";
 
@@ -210,4 +215,39 @@ fn lapsing() -> Case {
     let mut calls = vec![all_hold()];
     calls.extend((1..=4064).map(|i| Call::Time(i * APART)));
     onces([SIXTY_THREE_CALLS, SIXTY_THREE_CALLS], calls)
+}
+
+/// How far the clock goes in a call: one instant, some, and so many that all calls together go nearly as far as a clock goes.
+const JUMPS: [u64; 3] = [1, 1000, 1 << 52];
+const JUMPING: u64 = 2000;
+
+/// 32 rows that add to their sets in most calls: Once, Historically and Since, with an end and without. Every 50th call has a state, in
+/// which the atoms turn.
+fn jumping(jump: u64) -> Case {
+    let mut rows = Rows::default();
+    let mut properties = Vec::new();
+    for number in 0..ONCES {
+        let atom = rows.atom(number);
+        let (lower, upper) = [(0, MAX), (1, 1), (2, 9), (0, 20)][number as usize / 2 % 4];
+        properties.push(match number % 4 {
+            0 | 1 => rows.temporal(ONCE, vec![atom], lower, upper),
+            2 => {
+                let not = rows.plain(NOT, vec![atom]);
+                rows.temporal(HISTORICALLY, vec![not], lower, upper)
+            }
+            _ => {
+                let left = rows.plain(TRUE, vec![]);
+                rows.temporal(SINCE, vec![left, atom], lower, upper)
+            }
+        });
+    }
+    let guarantees = properties.split_off(16);
+    let mut calls = Vec::new();
+    for number in 1..=JUMPING {
+        if number % 50 == 1 {
+            calls.push(Call::State(vec![u64::from(number / 50 % 4 != 3); ONCES as usize]));
+        }
+        calls.push(Call::Time(number * jump));
+    }
+    rows.case(properties, guarantees, calls)
 }

@@ -29,6 +29,8 @@ pub struct Style {
     /// How many times the first rows are Historically Once of an atom, unbounded, or its Not: once the atom has failed and
     /// then held, Historically is true early and can never hold again.
     turned: usize,
+    /// No temporal row lies inside another.
+    flat: bool,
 }
 
 /// Where bounds lie.
@@ -39,6 +41,8 @@ pub enum Bounds {
     Open,
     /// Late and short, so that many runs lie ahead of the clock.
     Late,
+    /// So late that many runs lie ahead of the clock though each takes several instants.
+    Later,
     Mixed,
     NearH,
 }
@@ -55,7 +59,19 @@ impl Style {
             atoms: 1 + chance.below(5) as u64,
             bounds: chance.among(&[Bounds::Small, Bounds::Small, Bounds::Small, Bounds::Mixed, Bounds::NearH]),
             turned: 0,
+            flat: false,
         }
+    }
+
+    /// A book with this many rows at most, in which no temporal row lies inside another.
+    pub fn flat(chance: &mut Chance, rows: usize) -> Self {
+        let bounds = [Bounds::Small, Bounds::Small, Bounds::Open, Bounds::Late, Bounds::Later, Bounds::Mixed, Bounds::NearH];
+        Self { flat: true, bounds: chance.among(&bounds), weights: chance.among(&[BALANCED, TEMPORAL, CHAIN]), ..Self::drawn(chance, rows) }
+    }
+
+    /// Such a book of few rows, whose sets come to have many runs.
+    pub fn flat_with_many_runs(chance: &mut Chance) -> Self {
+        Self { rows: 4 + chance.below(6), bounds: Bounds::Later, flat: true, ..Self::with_many_runs(chance) }
     }
 
     /// A book whose rows mostly are properties or operands of one.
@@ -116,7 +132,7 @@ pub fn book(chance: &mut Chance, style: &Style) -> Case {
             let operands = take(chance, style, &mut free, spare);
             Row::plain(chance.among(&[AND, OR]), 0, operands)
         } else {
-            drawn_row(chance, style, &mut free, temporal < style.temporal)
+            drawn_row(chance, style, &rows, &mut free, temporal < style.temporal)
         };
         temporal += usize::from(is_temporal(row.kind));
         free.push(rows.len());
@@ -137,7 +153,12 @@ fn put_turned(chance: &mut Chance, style: &Style, rows: &mut Vec<Row>, free: &mu
     free.push(rows.len() - 1);
 }
 
-fn drawn_row(chance: &mut Chance, style: &Style, free: &mut Vec<usize>, temporal: bool) -> Row {
+/// Whether a row, or one that it is made of, is temporal.
+fn has_temporal(rows: &[Row], row: usize) -> bool {
+    is_temporal(rows[row].kind) || rows[row].operands.iter().any(|&o| has_temporal(rows, o))
+}
+
+fn drawn_row(chance: &mut Chance, style: &Style, rows: &[Row], free: &mut Vec<usize>, temporal: bool) -> Row {
     let kind = chance.weighed(&style.weights) as u64;
     let takes = match kind {
         AND | OR => chance.among(&[0, 1, 2, 2, 3, 3, 4, free.len() / 2]),
@@ -146,10 +167,14 @@ fn drawn_row(chance: &mut Chance, style: &Style, free: &mut Vec<usize>, temporal
         _ if is_temporal(kind) => 1,
         _ => 0,
     };
-    if takes > free.len() || (is_temporal(kind) && !temporal) {
+    let only_still = style.flat && is_temporal(kind);
+    let (mut takeable, others): (Vec<usize>, Vec<usize>) = free.iter().partition(|&&row| !only_still || !has_temporal(rows, row));
+    if takes > takeable.len() || (is_temporal(kind) && !temporal) {
         return leaf(chance, style);
     }
-    let operands = take(chance, style, free, takes);
+    let operands = take(chance, style, &mut takeable, takes);
+    free.clear();
+    free.extend(others.into_iter().chain(takeable));
     match kind {
         FALSE | TRUE => Row::plain(kind, 0, operands),
         ATOM => leaf(chance, style),
@@ -202,6 +227,7 @@ fn bounds(chance: &mut Chance, style: Bounds) -> (u64, u64) {
     let lower = match style {
         Bounds::Small | Bounds::Open => chance.among(&[0, 0, 0, 1, 2, 3, 5]),
         Bounds::Late => chance.among(&[0, 120, 126, 127, 128, 129, 150, 200, 300]),
+        Bounds::Later => chance.among(&[300, 500, 700, 900, 1200, 1500]),
         Bounds::Mixed => {
             let any = chance.word() & H;
             let shift = chance.below(63);
@@ -215,7 +241,7 @@ fn bounds(chance: &mut Chance, style: Bounds) -> (u64, u64) {
     let upper = match style {
         Bounds::Small => chance.among(&[MAX, lower, lower + small, lower + small, lower + 20]),
         Bounds::Open => chance.among(&[MAX, MAX, MAX, lower + small]),
-        Bounds::Late => chance.among(&[lower, lower, lower, lower + 1, lower + small]),
+        Bounds::Late | Bounds::Later => chance.among(&[lower, lower, lower, lower + 1, lower + small]),
         Bounds::Mixed => chance.among(&[MAX, lower, lower.saturating_add(small), lower.saturating_add(any >> shift), H]),
         Bounds::NearH => chance.among(&[MAX, lower, lower.saturating_add(small), H - 1, H]),
     };
@@ -243,5 +269,18 @@ mod tests {
             let case = book(&mut chance, &style);
             assert!(judge::book::judge(&case.sections()).is_ok(), "{case:?}");
         }
+    }
+
+    #[test]
+    fn drawn_flat_books_are_flat() {
+        let mut with_two = 0;
+        for index in 0..2000 {
+            let mut chance = Chance::new(8, index);
+            let style = if index % 3 == 0 { Style::flat_with_many_runs(&mut chance) } else { Style::flat(&mut chance, 30) };
+            let case = book(&mut chance, &style);
+            assert!(!judge::book::judge(&case.sections()).expect("the book is accepted").is_nested(), "{case:?}");
+            with_two += usize::from(case.rows.iter().filter(|row| is_temporal(row.kind)).count() > 1);
+        }
+        assert!(with_two > 1000, "{with_two} with two temporal rows");
     }
 }

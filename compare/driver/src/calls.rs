@@ -17,6 +17,8 @@ pub enum Pace {
     Bounds,
     /// Steps of two and a little more, each a run of its own.
     Apart,
+    /// Small steps and some of hundreds.
+    Gaps,
     /// Jumps of any size.
     Jumps,
     /// Small steps just below H.
@@ -44,7 +46,12 @@ pub struct Style {
     stamped_in: usize,
     /// A call is meant to be refused once in so many; 0 is never.
     refused_in: usize,
+    /// No step of the clock is longer.
+    longest: u64,
 }
+
+/// The longest step of calls between which every instant is walked.
+const LONGEST_WALK: u64 = 400;
 
 impl Style {
     pub fn drawn(chance: &mut Chance, count: usize) -> Self {
@@ -55,6 +62,25 @@ impl Style {
             state_in: chance.among(&[2, 2, 3, 5]),
             stamped_in: chance.among(&[0, 1, 2, 2]),
             refused_in: chance.among(&[0, 0, 20, 8]),
+            longest: MAX,
+        }
+    }
+
+    /// Calls near enough to each other in time that every instant between them can be walked.
+    pub fn near(chance: &mut Chance, count: usize) -> Self {
+        let pace = chance.among(&[Pace::Slow, Pace::Apart, Pace::Gaps, Pace::Gaps, Pace::Bounds]);
+        Self { pace, longest: LONGEST_WALK, ..Self::drawn(chance, count) }
+    }
+
+    /// Calls with states that seldom stay, near to each other in time: where a state lasts, only these part runs.
+    pub fn near_with_many_runs(chance: &mut Chance) -> Self {
+        Self {
+            count: 300 + chance.below(400),
+            states: States::Turning,
+            state_in: chance.among(&[1, 1, 2]),
+            stamped_in: chance.among(&[1, 2]),
+            longest: LONGEST_WALK,
+            ..Self::with_many_runs(chance)
         }
     }
 
@@ -137,6 +163,7 @@ impl Drawing<'_> {
                 let bound = self.chance.among(&self.bounds);
                 self.chance.among(&[bound, bound, bound - 1, bound.saturating_add(1), bound.saturating_add(small)])
             }
+            Pace::Gaps => self.chance.among(&[0, 1, small, small, 10, 63, 64, 128, 130, 301]),
             Pace::Apart => self.chance.among(&[2, 2, 2, 2, 2, 3, 4, 8, 1, 0, small]),
             Pace::Jumps if self.chance.one_in(3) => {
                 let shift = 1 + self.chance.below(60);
@@ -148,6 +175,7 @@ impl Drawing<'_> {
             }
             _ => small,
         };
+        let step = step.min(self.style.longest);
         // Past H there is nothing to accept: stay where the clock is.
         if step > H - self.clock {
             self.clock

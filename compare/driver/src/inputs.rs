@@ -5,6 +5,7 @@ use crate::calls::{self, add_calls};
 use crate::case::{text, Case, Layout};
 use crate::chance::Chance;
 use crate::damage;
+use judge::book::MOST_ROWS;
 use judge::report::LONGEST_INPUT;
 
 /// An input has thousands of calls once in so many.
@@ -41,6 +42,59 @@ pub fn input(seed: u64, index: u64) -> Vec<u8> {
         }
         _ => around_longest(chance),
     }
+}
+
+/// The input with this number among a seed's inputs that a monitor in the lasting way takes, with calls that its judge can walk between.
+pub fn flat_input(seed: u64, index: u64) -> Vec<u8> {
+    let chance = &mut Chance::new(seed ^ FLAT, index);
+    match chance.weighed(&[12, 3, 3, 1, 1]) {
+        0 => laid_out(chance, &flat),
+        1 => laid_out(chance, &flat_with_many_runs),
+        2 => laid_out(chance, &flat_and_far),
+        3 => {
+            let text = laid_out(chance, &flat);
+            damage::spoil_text(chance, text)
+        }
+        _ => laid_out(chance, &flat_at_limits),
+    }
+}
+
+/// Makes the draws of a seed's flat inputs others than those of its inputs.
+const FLAT: u64 = 0x666c_6174;
+
+/// A flat case with few rows and calls.
+fn flat(chance: &mut Chance) -> Case {
+    let style = books::Style::flat(chance, 14);
+    let mut case = book(chance, &style);
+    let style = calls::Style::near(chance, 80);
+    add_calls(chance, &mut case, &style);
+    case
+}
+
+/// A flat case whose sets come to have many runs.
+fn flat_with_many_runs(chance: &mut Chance) -> Case {
+    let style = books::Style::flat_with_many_runs(chance);
+    let mut case = book(chance, &style);
+    let style = calls::Style::near_with_many_runs(chance);
+    add_calls(chance, &mut case, &style);
+    case
+}
+
+/// A flat case whose clock may go far.
+fn flat_and_far(chance: &mut Chance) -> Case {
+    let style = books::Style::flat(chance, 14);
+    let mut case = book(chance, &style);
+    add_drawn_calls(chance, &mut case, 50);
+    case
+}
+
+/// A flat case with as many rows as there may be.
+fn flat_at_limits(chance: &mut Chance) -> Case {
+    let style = books::Style::flat(chance, MOST_ROWS as usize);
+    let mut case = book(chance, &style);
+    let style = calls::Style::near(chance, 30);
+    add_calls(chance, &mut case, &style);
+    case
 }
 
 /// A case with few rows and calls, most rows near a property.
@@ -109,4 +163,41 @@ fn around_longest(chance: &mut Chance) -> Vec<u8> {
     let byte = chance.among(b"  \n\n0");
     text.resize(length, byte);
     text
+}
+
+#[cfg(test)]
+mod tests {
+    use super::*;
+    use judge::monitor::{Monitor, ACCEPTED, NO_ROOM};
+    use judge::report::{lasting, report, Call, Gaps, Nobody, Watch};
+
+    #[derive(Default)]
+    struct Counts {
+        accepted: u64,
+        full: u64,
+    }
+
+    impl Watch for Counts {
+        fn call(&mut self, _: &Call, number: u64, _: &Monitor) {
+            self.accepted += u64::from(number == ACCEPTED);
+            self.full += u64::from(number == NO_ROOM);
+        }
+    }
+
+    /// Most flat inputs can be walked whole; then the judge gives the same where it puts calls in at the ends of gaps alone. In many the
+    /// lasting way says something else than the ordinary one, and 11 comes up.
+    #[test]
+    fn flat_inputs_are_walked() {
+        let (mut counts, mut walked, mut others) = (Counts::default(), 0, 0);
+        for index in 0..400 {
+            let text = flat_input(5, index);
+            let judged = |gaps: Gaps, watch: &mut Counts| lasting(&text, gaps, 20_000, watch).expect("original and rules agree");
+            let Some(whole) = judged(Gaps::Whole, &mut counts) else { continue };
+            walked += 1;
+            assert_eq!(judged(Gaps::Ends, &mut Counts::default()), Some(whole.clone()));
+            others += usize::from(report(&text, &mut Nobody).expect("original and rules agree") != whole);
+        }
+        let Counts { accepted, full } = counts;
+        assert!(walked > 320 && accepted > 10_000 && others > 150 && full > 0, "{walked} {accepted} {others} {full}");
+    }
 }

@@ -27,6 +27,8 @@ pub const NOT_USED_ONCE: u64 = 6;
 
 /// A range of which a set can need more runs than there is room for, where a book is loaded strictly.
 pub const COULD_RUN_OUT: u64 = 15;
+/// A temporal row inside another, where a book is loaded in the lasting way.
+pub const NESTED: u64 = 17;
 
 /// The four sections of a book as they are read.
 #[derive(Debug, Clone, PartialEq, Eq, Default)]
@@ -69,6 +71,20 @@ pub enum Row {
     Since(usize, usize, Range),
 }
 
+impl Row {
+    /// The range of a temporal row.
+    pub fn range(&self) -> Option<Range> {
+        match self {
+            Row::Historically(_, range) | Row::Once(_, range) | Row::Since(_, _, range) => Some(*range),
+            _ => None,
+        }
+    }
+
+    fn is_temporal(&self) -> bool {
+        self.range().is_some()
+    }
+}
+
 /// An accepted book.
 #[derive(Debug, Clone, PartialEq, Eq)]
 pub struct Book {
@@ -80,6 +96,27 @@ pub struct Book {
 }
 
 impl Book {
+    /// The rows that a row is made of.
+    fn operands(&self, row: usize) -> Vec<usize> {
+        match &self.rows[row] {
+            Row::False | Row::True | Row::Atom(_) => Vec::new(),
+            Row::And(operands) | Row::Or(operands) => operands.clone(),
+            Row::Not(o) | Row::Historically(o, _) | Row::Once(o, _) => vec![*o],
+            Row::Implies(left, right) | Row::Since(left, right, _) => vec![*left, *right],
+        }
+    }
+
+    /// Whether a row, or one that it is made of, however far down, is temporal.
+    fn has_temporal(&self, row: usize) -> bool {
+        self.rows[row].is_temporal() || self.operands(row).into_iter().any(|o| self.has_temporal(o))
+    }
+
+    /// Whether a temporal row lies inside another.
+    pub fn is_nested(&self) -> bool {
+        let temporal = (0..self.rows.len()).filter(|&row| self.rows[row].is_temporal());
+        temporal.flat_map(|row| self.operands(row)).any(|o| self.has_temporal(o))
+    }
+
     /// The properties' rows, assumes first.
     pub fn properties(&self) -> impl Iterator<Item = usize> + '_ {
         self.assumes.iter().chain(&self.guarantees).copied()
@@ -89,9 +126,7 @@ impl Book {
 /// The first row whose set can need more runs than there is room for, and how many it can need.
 pub fn over(book: &Book) -> Option<(usize, u64)> {
     book.rows.iter().enumerate().find_map(|(row, kind)| {
-        let (Row::Historically(_, range) | Row::Once(_, range) | Row::Since(_, _, range)) = kind else {
-            return None;
-        };
+        let range = kind.range()?;
         let count = range.upper / (range.upper - range.lower).checked_add(2)? + 1;
         (range.upper != MAX && count > MOST_RUNS as u64).then_some((row, count))
     })
@@ -270,6 +305,19 @@ mod tests {
         assert_eq!(once(0, H + 1), 4);
         assert_eq!(once(0, MAX - 1), 4);
         assert_eq!(once(1, 0), 4);
+    }
+
+    #[test]
+    fn temporal_rows_inside_others() {
+        let nested = |text: &str| judge(&read(&mut Reader::new(text.as_bytes())).unwrap()).unwrap().is_nested();
+        // Once Historically a; Once Not a; and, as properties side by side, Once a and Historically b.
+        assert!(nested("3 2 0 0 0 7 1 0 5 8 1 0 5 2 0 1 0 1 2"));
+        assert!(!nested("3 2 0 0 0 5 1 0 0 8 1 0 5 2 0 1 0 1 2"));
+        assert!(!nested("4 2 0 0 0 8 1 0 5 2 1 0 0 7 1 0 5 2 0 2 0 2 1 3"));
+        // And of two temporal rows; Since with one far below its right, and with one as its left.
+        assert!(!nested("5 2 0 0 0 8 1 0 5 2 1 0 0 7 1 0 5 3 2 0 0 4 0 2 1 3 0 1 4"));
+        assert!(nested("6 2 0 0 0 2 1 0 0 8 1 0 5 5 1 0 0 3 1 0 0 9 2 0 5 5 1 2 3 0 4 0 1 5"));
+        assert!(nested("4 2 0 0 0 8 1 0 5 2 1 0 0 9 2 0 5 3 0 1 2 0 1 3"));
     }
 
     #[test]

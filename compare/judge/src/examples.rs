@@ -1,6 +1,6 @@
 //! The examples of docs/REFERENCE.md, run through the report.
 
-use crate::report::{report, strictly, Nobody, LONGEST_INPUT};
+use crate::report::{lasting, report, strictly, Gaps, Nobody, LONGEST_INPUT};
 
 const MAX: &str = "18446744073709551615";
 
@@ -8,12 +8,35 @@ fn reported(input: &str) -> String {
     String::from_utf8(report(input.as_bytes(), &mut Nobody).expect("original and rules agree")).expect("a report is ASCII")
 }
 
-/// The lines after `book 0`, of a book and calls; the calls are given without their count.
-fn lines(book: &str, calls: &[&str]) -> Vec<String> {
-    let report = reported(&format!("{book}\n{}\n{}", calls.len(), calls.join("\n")));
+/// The report in the lasting way, whether calls are put in at every instant or at the ends of the gaps alone.
+fn lastingly(input: &str) -> String {
+    let [whole, ends] = [Gaps::Whole, Gaps::Ends].map(|gaps| {
+        let report = lasting(input.as_bytes(), gaps, 100_000, &mut Nobody).expect("original and rules agree");
+        String::from_utf8(report.expect("not too many calls are put in")).expect("a report is ASCII")
+    });
+    assert_eq!(whole, ends);
+    whole
+}
+
+/// An input of a book and calls; the calls are given without their count.
+fn input_of(book: &str, calls: &[&str]) -> String {
+    format!("{book}\n{}\n{}", calls.len(), calls.join("\n"))
+}
+
+/// The lines of a report after `book 0`.
+fn after_book(report: &str) -> Vec<String> {
     let mut lines = report.lines().map(str::to_string);
     assert_eq!(lines.next().as_deref(), Some("book 0"));
     lines.collect()
+}
+
+fn lines(book: &str, calls: &[&str]) -> Vec<String> {
+    after_book(&reported(&input_of(book, calls)))
+}
+
+/// The lines in the lasting way.
+fn lasting_lines(book: &str, calls: &[&str]) -> Vec<String> {
+    after_book(&lastingly(&input_of(book, calls)))
 }
 
 /// The first property's word after each call.
@@ -212,4 +235,109 @@ fn strict_loading() {
     assert_eq!(report("7 1 0 9223372036854775807"), "book 0\nend\n");
     assert_eq!(report("7 1 9223372036854775807 9223372036854775807"), "book 15 1 4611686018427387904\n");
     assert_eq!(report(&format!("8 1 9223372036854775807 {MAX}")), "book 0\nend\n");
+}
+
+#[test]
+fn p7_and_p8_in_the_lasting_way() {
+    // P7: a held at 4, where a call is put in. P8: the state set at 4 comes after the time call at 4, in either way.
+    assert_eq!(lasting_lines("2 2 0 0 0 8 1 1 1 1 0 0 1 1", &["1 1 1", "0 5"]), ["1 0 022 1", "2 0 122 1", "end"]);
+    let (book, calls) = ("2 2 0 0 0 7 1 0 0 1 0 0 1 1", ["0 4", "1 1 1"]);
+    assert_eq!(lasting_lines(book, &calls), ["1 0 022 1", "2 0 022 1", "end"]);
+    assert_eq!(lasting_lines(book, &calls), lines(book, &calls));
+}
+
+#[test]
+fn no_call_is_put_in_at_the_clock_itself() {
+    // Historically[5,5] a: a fails all the time, but there was no call at 0.
+    assert_eq!(lasting_lines("2 2 0 0 0 7 1 5 5 1 0 0 1 1", &["0 5", "0 6"]), ["1 0 122 1", "2 0 022 1", "end"]);
+    // Once[4,4] a: the state set at 1 counts from there, so that at 5 it was 4 ago; then it is gone.
+    let once = "2 2 0 0 0 8 1 4 4 1 0 0 1 1";
+    assert_eq!(lasting_lines(once, &["0 1", "1 1 1", "1 1 0", "0 5", "0 6"])[3..], ["4 0 122 1", "5 0 022 0", "end"]);
+}
+
+#[test]
+fn a_state_lasts_up_to_the_new_clock() {
+    // Once[0,0] a: the state lasts, and holds at the clock.
+    let now = "2 2 0 0 0 8 1 0 0 1 0 0 1 1";
+    assert_eq!(lasting_lines(now, &["1 1 1", "0 5"]), ["1 0 122 1", "2 0 122 1", "end"]);
+    // A stamped call's state does not reach back: up to 5, and at 5 before its state, the old one counts.
+    let ago = "2 2 0 0 0 8 1 1 1 1 0 0 1 1";
+    assert_eq!(lasting_lines(ago, &["1 1 1", "2 5 1 0", "0 6", "0 7"]), ["1 0 022 1", "2 0 122 1", "3 0 122 1", "4 0 022 0", "end"]);
+    assert_eq!(lasting_lines(ago, &["2 5 1 1", "0 6"]), ["1 0 022 1", "2 0 122 1", "end"]);
+}
+
+#[test]
+fn one_set_of_many_calls_is_one_run() {
+    // Once[128,128] a with a call at every second instant: what lasts between them joins the runs.
+    let steps = every_second(300);
+    let calls: Vec<&str> = ["1 1 1"].into_iter().chain(steps.iter().map(String::as_str)).collect();
+    let lines = lasting_lines("2 2 0 0 0 8 1 128 128 1 0 0 1 1", &calls);
+    assert!(lines[..151].iter().all(|line| line.ends_with(" 1")), "{lines:?}");
+}
+
+#[test]
+fn eleven_in_the_lasting_way_is_of_the_sets_with_what_is_put_in() {
+    // A state at an instant alone, each two after the one before: 64 runs; the next is one too many. A refused call puts nothing in.
+    let book = "2 2 0 0 0 8 1 300 300 1 0 0 1 1";
+    let times: Vec<String> = (1..=64).map(|i| format!("2 {} 1 1", 2 * i)).collect();
+    let calls = |last: &[&'static str]| {
+        let apart: Vec<&str> = times.iter().flat_map(|time| [time.as_str(), "1 1 0"]).chain(last.iter().copied()).collect();
+        lasting_lines(book, &apart).split_off(127)
+    };
+    assert_eq!(calls(&["2 130 1 1", "0 129", "2 131 1 1"])[1..], ["129 11", "130 0 022 64", "131 11", "end"]);
+    assert_eq!(calls(&["2 400 1 1"])[..2], ["128 0 022 64", "129 0 122 16"]);
+}
+
+#[test]
+fn since_in_the_lasting_way() {
+    // Since[3,3](a,b): a and b hold from 0 to 5. Where a fails the set is dropped, and b counts at the clock alone.
+    let book = "3 2 0 0 0 2 1 0 0 9 2 3 3 2 0 1 0 1 2";
+    assert_eq!(lasting_lines(book, &["1 2 1 1", "0 5", "0 6"]), ["1 0 022 1", "2 0 122 1", "3 0 122 1", "end"]);
+    assert_eq!(
+        lasting_lines(book, &["1 2 0 1", "0 5", "1 2 1 0", "0 8", "0 9"])[1..],
+        ["2 0 022 1", "3 0 022 1", "4 0 122 1", "5 0 022 0", "end"]
+    );
+}
+
+#[test]
+fn books_that_the_lasting_way_does_not_take() {
+    let nested = |range: &str| format!("3 2 0 0 0 7 1 0 5 8 1 {range} 2 0 1 0 1 2 0");
+    let strictly_lasting = |input: &str| String::from_utf8(strictly(input.as_bytes(), lastingly(input).as_bytes())).expect("ASCII");
+    assert_eq!(reported(&nested("0 5")), "book 0\nend\n");
+    assert_eq!(lastingly(&nested("0 5")), "book 17\n");
+    assert_eq!(strictly_lasting(&nested("0 5")), "book 17\n");
+    // 15 comes before 17, and 6 before both.
+    assert_eq!(lastingly(&nested("128 128")), "book 17\n");
+    assert_eq!(strictly_lasting(&nested("128 128")), "book 15 2 65\n");
+    assert_eq!(strictly_lasting("3 2 0 0 0 7 1 0 5 8 1 128 128 2 0 1 0 2 2 1 0"), "book 6\n");
+    assert_eq!(lastingly("3 2 0 0 0 7 1 0 5 8 1 0 5 2 0 1 0 2 2 1 0"), "book 6\n");
+}
+
+#[test]
+fn calls_that_are_too_many_to_put_in() {
+    let report = |gaps: Gaps, most: u64, calls: &[&str]| {
+        let input = input_of("2 2 0 0 0 8 1 0 5 1 0 0 1 1", calls);
+        lasting(input.as_bytes(), gaps, most, &mut Nobody).expect("original and rules agree").is_some()
+    };
+    let calls = ["0 5", "0 5", "0 11"];
+    assert!(report(Gaps::Whole, 9, &calls) && !report(Gaps::Whole, 8, &calls));
+    // A call that is refused in itself puts nothing in.
+    assert!(report(Gaps::Whole, 0, &["0 9223372036854775808", "2 9223372036854775807 1 2", "0 1"]));
+    let far = ["0 9223372036854775807"];
+    assert!(!report(Gaps::Whole, 1000, &far) && !report(Gaps::Ends, 5, &far) && report(Gaps::Ends, 6, &far));
+    // Nor is anything needed where no row is temporal.
+    let input = input_of("1 2 0 0 0 0 0 1 0", &far);
+    assert!(lasting(input.as_bytes(), Gaps::Whole, 0, &mut Nobody).expect("original and rules agree").is_some());
+}
+
+#[test]
+fn jumps_too_far_to_walk() {
+    let lines = |book: &str, calls: &[&str]| {
+        let report = lasting(input_of(book, calls).as_bytes(), Gaps::Ends, 1000, &mut Nobody).expect("original and rules agree");
+        after_book(&String::from_utf8(report.expect("not too many calls are put in")).expect("a report is ASCII"))
+    };
+    let h = "0 9223372036854775807";
+    assert_eq!(lines("2 2 0 0 0 8 1 1 1 1 0 0 1 1", &["1 1 1", h])[1], "2 0 122 1");
+    assert_eq!(lines("2 2 0 0 0 7 1 3 7 1 0 0 1 1", &["1 1 1", h])[1], "2 0 122 0");
+    assert_eq!(lines(&format!("2 2 0 0 0 8 1 7 {MAX} 1 0 0 1 1"), &["1 1 1", h])[1], "2 0 111 1");
 }

@@ -45,7 +45,13 @@ impl Monitor {
             return wrong;
         }
         let atoms = self.atoms.clone();
-        self.step(time, atoms)
+        self.step(time, atoms, MOST_RUNS)
+    }
+
+    /// A time call that is put in: it is never refused for room. The time is none that is refused.
+    pub fn put_in(&mut self, time: u64) {
+        let atoms = self.atoms.clone();
+        self.step(time, atoms, usize::MAX);
     }
 
     pub fn state_call(&mut self, state: &[u64]) -> u64 {
@@ -54,7 +60,7 @@ impl Monitor {
             return wrong;
         }
         let atoms = state.iter().map(|&word| word == 1).collect();
-        self.step(self.clock, atoms)
+        self.step(self.clock, atoms, MOST_RUNS)
     }
 
     /// The time call and then the state call, made on a copy that is kept if both are accepted; what is wrong with either comes first.
@@ -68,7 +74,7 @@ impl Monitor {
         refusal.unwrap_or(ACCEPTED)
     }
 
-    fn wrong_time(&self, time: u64) -> u64 {
+    pub fn wrong_time(&self, time: u64) -> u64 {
         if time < self.clock {
             TIME_BELOW_CLOCK
         } else if time > H {
@@ -78,7 +84,7 @@ impl Monitor {
         }
     }
 
-    fn wrong_state(&self, state: &[u64]) -> u64 {
+    pub fn wrong_state(&self, state: &[u64]) -> u64 {
         if state.len() > MOST_WIDTH {
             PAST_LIMIT
         } else if state.len() < self.book.width {
@@ -92,14 +98,14 @@ impl Monitor {
         }
     }
 
-    /// Re-evaluates every row at this clock and these atoms; nothing changes if one of the sets has no room.
-    fn step(&mut self, clock: u64, atoms: Vec<bool>) -> u64 {
+    /// Re-evaluates every row at this clock and these atoms; nothing changes if one of the sets needs more runs than it may have.
+    fn step(&mut self, clock: u64, atoms: Vec<bool>, most_runs: usize) -> u64 {
         let mut values = Vec::with_capacity(self.book.rows.len());
         let mut sets = Vec::with_capacity(self.book.rows.len());
         let mut instants = Vec::with_capacity(self.book.rows.len());
         for ((row, old), all) in self.book.rows.iter().zip(&self.sets).zip(&self.instants) {
             let set = changed(row, &values, old.kept(clock), clock);
-            if set.list().len() > MOST_RUNS {
+            if set.list().len() > most_runs {
                 return NO_ROOM;
             }
             instants.push(changed(row, &values, all.clone(), clock));

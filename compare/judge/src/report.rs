@@ -1,11 +1,12 @@
 //! The report, byte for byte.
 
-use crate::book::{self, Book, COULD_RUN_OUT, PASSES_LIMIT};
+use crate::book::{self, Book, Row, COULD_RUN_OUT, MAX, NESTED, PASSES_LIMIT};
 use crate::monitor::{Monitor, ACCEPTED, MOST_WIDTH};
 use crate::original::Original;
 use crate::rules::Answer;
 use crate::text::{Reader, BAD_WORD, ENDS_EARLY};
 use std::io::Write;
+use std::ops::Range;
 
 /// The longest input, in bytes.
 pub const LONGEST_INPUT: usize = 65536;
@@ -32,33 +33,76 @@ pub enum Call {
     Stamped(u64, Vec<u64>),
 }
 
+impl Call {
+    /// Its time, if it has one.
+    fn time(&self) -> Option<u64> {
+        match self {
+            Call::Time(time) | Call::Stamped(time, _) => Some(*time),
+            Call::State(_) => None,
+        }
+    }
+}
+
+/// At which of the instants between two clocks the judge of the lasting way puts a call in.
+#[derive(Clone, Copy, PartialEq, Eq)]
+pub enum Gaps {
+    /// At every one.
+    Whole,
+    /// At the first and at the last ones, as many as the largest finite upper bound says. What a call at another instant adds to a set is
+    /// over before the new clock or, where the range has no end, lies in what the first one adds; and all see the same state.
+    Ends,
+}
+
+/// A way of monitoring.
+#[derive(Clone, Copy)]
+enum Way {
+    Ordinary,
+    /// Time calls are put in: so many in all may still be.
+    Lasting(Gaps, u64),
+}
+
 /// The report expected for an input; or, in words, where the original leaves the rules of REFERENCE 4.1 and 4.3 for value and early.
 pub fn report(input: &[u8], watch: &mut impl Watch) -> Result<Vec<u8>, String> {
+    Ok(report_in(Way::Ordinary, input, watch)?.expect("the ordinary way puts nothing in"))
+}
+
+/// The report expected in the lasting way, in which the calls of REFERENCE 3.9 are put in one by one, on the original, too; none where there
+/// are more of them than `most`.
+pub fn lasting(input: &[u8], gaps: Gaps, most: u64, watch: &mut impl Watch) -> Result<Option<Vec<u8>>, String> {
+    report_in(Way::Lasting(gaps, most), input, watch)
+}
+
+fn report_in(way: Way, input: &[u8], watch: &mut impl Watch) -> Result<Option<Vec<u8>>, String> {
     let mut out = Vec::new();
     if input.len() > LONGEST_INPUT {
         stop_line(&mut out, PASSES_LIMIT, watch);
-        return Ok(out);
+        return Ok(Some(out));
     }
     let mut words = Reader::new(input);
-    let judged = book::read(&mut words).and_then(|sections| book::judge(&sections));
+    let judged = book::read(&mut words).and_then(|sections| book::judge(&sections)).and_then(|book| match way {
+        Way::Lasting(..) if book.is_nested() => Err(NESTED),
+        _ => Ok(book),
+    });
     let number = judged.as_ref().err().copied().unwrap_or(ACCEPTED);
     watch.book(number);
     out.extend_from_slice(format!("book {number}\n").as_bytes());
     if let Ok(book) = judged {
-        match call_lines(&mut words, book, &mut out, watch)? {
-            ENDED => out.extend_from_slice(b"end\n"),
-            number => stop_line(&mut out, number, watch),
+        match call_lines(way, &mut words, book, &mut out, watch)? {
+            None => return Ok(None),
+            Some(ENDED) => out.extend_from_slice(b"end\n"),
+            Some(number) => stop_line(&mut out, number, watch),
         }
     }
-    Ok(out)
+    Ok(Some(out))
 }
 
-/// The report of an input whose book is loaded strictly, from the ordinary one: one line if a row can need more runs than there is room for.
-pub fn strictly(input: &[u8], ordinary: &[u8]) -> Vec<u8> {
+/// The report of an input whose book is loaded strictly, from that of the same way where it is not: one line if a row can need more runs
+/// than there is room for, before 17.
+pub fn strictly(input: &[u8], report: &[u8]) -> Vec<u8> {
     let judged = book::read(&mut Reader::new(input)).and_then(|sections| book::judge(&sections));
     match judged.ok().filter(|_| input.len() <= LONGEST_INPUT).as_ref().and_then(book::over) {
         Some((row, count)) => format!("book {COULD_RUN_OUT} {row} {count}\n").into_bytes(),
-        None => ordinary.to_vec(),
+        None => report.to_vec(),
     }
 }
 
@@ -70,19 +114,19 @@ fn stop_line(out: &mut Vec<u8>, number: u64, watch: &mut impl Watch) {
     out.extend_from_slice(format!("stop {number}\n").as_bytes());
 }
 
-/// A line for each call; then `ENDED`, or the number that stops the reading.
-fn call_lines(words: &mut Reader, book: Book, out: &mut Vec<u8>, watch: &mut impl Watch) -> Result<u64, String> {
+/// A line for each call; then `ENDED`, or the number that stops the reading; none where too many calls would be put in.
+fn call_lines(way: Way, words: &mut Reader, book: Book, out: &mut Vec<u8>, watch: &mut impl Watch) -> Result<Option<u64>, String> {
     let count = match words.next_word() {
         Ok(count) => count,
-        Err(number) => return Ok(number),
+        Err(number) => return Ok(Some(number)),
     };
-    let mut pair = Pair { original: Original::new(&book), monitor: Monitor::new(book) };
+    let mut pair = Pair { way, original: Original::new(&book), monitor: Monitor::new(book) };
     for number in 1..=count {
         let call = match read_call(words) {
             Ok(call) => call,
-            Err(refusal) => return Ok(refusal),
+            Err(refusal) => return Ok(Some(refusal)),
         };
-        let refusal = pair.call(&call);
+        let Some(refusal) = pair.call(&call) else { return Ok(None) };
         watch.call(&call, refusal, &pair.monitor);
         write!(out, "{number} {refusal}").expect("a vector takes all bytes");
         if refusal == ACCEPTED {
@@ -90,11 +134,11 @@ fn call_lines(words: &mut Reader, book: Book, out: &mut Vec<u8>, watch: &mut imp
         }
         out.push(b'\n');
     }
-    Ok(match words.next_word() {
+    Ok(Some(match words.next_word() {
         Ok(_) => ENDS_EARLY,
         Err(ENDS_EARLY) => ENDED,
         Err(number) => number,
-    })
+    }))
 }
 
 /// A call, or the number that stops the reading: a kind over 2 and a width over 256 are refused at once.
@@ -118,36 +162,58 @@ fn read_state(words: &mut Reader) -> Result<Vec<u64>, u64> {
 
 /// The monitor by the rules and the original beside it; a refused call does not reach the original, and a stamped call is two calls there.
 struct Pair {
+    way: Way,
     monitor: Monitor,
     original: Original,
 }
 
 impl Pair {
-    fn call(&mut self, call: &Call) -> u64 {
-        match call {
-            Call::Time(time) => {
-                let refusal = self.monitor.time_call(*time);
-                if refusal == ACCEPTED {
-                    self.original.time_call(*time);
-                }
-                refusal
-            }
-            Call::State(state) => {
-                let refusal = self.monitor.state_call(state);
-                if refusal == ACCEPTED {
-                    self.original.state_call(state);
-                }
-                refusal
-            }
-            Call::Stamped(time, state) => {
-                let refusal = self.monitor.stamped_call(*time, state);
-                if refusal == ACCEPTED {
-                    self.original.time_call(*time);
-                    self.original.state_call(state);
-                }
-                refusal
-            }
+    /// The call's number of refusal, or 0; none where too many calls would be put in. What is put in before a call that is then refused is
+    /// put into a copy alone.
+    fn call(&mut self, call: &Call) -> Option<u64> {
+        let [first, last] = self.between(call);
+        let count = [&first, &last].iter().map(|instants| instants.end.saturating_sub(instants.start)).sum();
+        let before = (count > 0).then(|| self.monitor.clone());
+        if let Way::Lasting(_, left) = &mut self.way {
+            *left = left.checked_sub(count)?;
         }
+        let between = first.chain(last);
+        between.clone().for_each(|instant| self.monitor.put_in(instant));
+        let refusal = match call {
+            Call::Time(time) => self.monitor.time_call(*time),
+            Call::State(state) => self.monitor.state_call(state),
+            Call::Stamped(time, state) => self.monitor.stamped_call(*time, state),
+        };
+        if refusal == ACCEPTED {
+            between.chain(call.time()).for_each(|instant| self.original.time_call(instant));
+            if let Call::State(state) | Call::Stamped(_, state) = call {
+                self.original.state_call(state);
+            }
+        } else if let Some(before) = before {
+            self.monitor = before;
+        }
+        Some(refusal)
+    }
+
+    /// The instants strictly between the clock and the call's time, where the way puts a call in at them: none before a call that is wrong
+    /// in itself. Where no row is temporal nothing is remembered, and none is needed.
+    fn between(&self, call: &Call) -> [Range<u64>; 2] {
+        let none = 0..0;
+        let (Way::Lasting(gaps, _), Some(time)) = (self.way, call.time()) else { return [none.clone(), none] };
+        let wrong_state = match call {
+            Call::Stamped(_, state) => self.monitor.wrong_state(state),
+            _ => ACCEPTED,
+        };
+        let ranges: Vec<book::Range> = self.monitor.book.rows.iter().filter_map(Row::range).collect();
+        if self.monitor.wrong_time(time) != ACCEPTED || wrong_state != ACCEPTED || ranges.is_empty() {
+            return [none.clone(), none];
+        }
+        let first = self.monitor.clock + 1;
+        let reach = ranges.iter().map(|range| range.upper).filter(|&upper| upper != MAX).max().unwrap_or(0);
+        if gaps == Gaps::Whole || time.saturating_sub(reach) <= first {
+            return [none, first..time];
+        }
+        [first..first + 1, time - reach..time]
     }
 
     /// A word for each property, value and early of the original, settled of the rules; and the count, of the instants.

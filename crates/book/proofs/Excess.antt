@@ -16,8 +16,7 @@ use Rattle.pmtl.specs.Book.{Rows, rowAt}
 use Rattle.pmtl.specs.Book.Row.{never}
 use Rattle.pmtl.specs.Strict.{needed, neededBy, Strict as IsStrict, firstOver, anyOver}
 use Rattle.pmtl.proofs.Strict.{first-over, none-strict, some-not-strict}
-use Rattle.book.specs.declared.strict.Loading.{Loading}
-use Rattle.book.specs.declared.strict.Loading.the-variants.{Ordinary, Strict}
+use Rattle.book.specs.declared.loading.Loading.{Loading}
 use Rattle.book.specs.declared.strict.Excess.{Excess}
 use Rattle.book.specs.declared.strict.Excess.the-variants.{Within, Over}
 use Rattle.book.specs.Rows.{rowFrom, temporal}
@@ -25,7 +24,7 @@ use Rattle.book.specs.Reading.{Sections}
 use Rattle.book.specs.Judging.{Loaded, refusedWith, kindIn, argIn, lowerIn, upperIn, rowsIn, firstTo, rangeGood, rowNumber, rowIn, judged, bookIn, loadedFrom, loaded}
 use Rattle.book.specs.Placing.{partsOf, Placed, PlacedBy}
 use Rattle.book.specs.Private.{rangeIn, neededIn, NoneOver, FirstIn, Surplus}
-use Rattle.book.specs.Strict.{excessIn, excessBy, unless, admitted, loadedBy}
+use Rattle.book.specs.Strict.{excessIn, strictly, excessBy, unless, roomed}
 use Rattle.book.proofs.Tests.{first-none}
 use Rattle.book.proofs.Accepted.{first-each, form-kind, upper-small, row-form, row-range}
 use Rattle.book.proofs.Placing.{book-judged, refused-judged, accepted, accepted-book, refused-book, refused-empty}
@@ -107,7 +106,7 @@ module _ (s : Sections) (ok : firstTo (rowNumber (s .rows)) (rowsIn s) ≡ 0) wh
       rw (lt-ltb (firstOver b) (length b) (omega (arith, f, count, h .1)), f) (ap (Over r) (h .2 ∙ sym (same-needs r (h .1))))
 
 -- strict loading looks for it
-pub by-strict : (way : Loading) (b : Rows) (e : Excess) → way ≡ Strict → e ≡ excessIn b → e ≡ excessBy way b
+pub by-strict : (way : Loading) (b : Rows) (e : Excess) → strictly way ≡ true → e ≡ excessIn b → e ≡ excessBy way b
 by-strict way b e w h = rw w h
 
 -- ---- words whose sections are placed
@@ -124,7 +123,7 @@ module _ (words : List ℕ) (number n o a g : ℕ) (p : Placed words number n o 
   pub excess-accepted : number ≡ 0 → (e : Excess) → Surplus (partsOf words n o a g .rows) e → e ≡ excessIn (loaded words .book .rows)
   excess-accepted z e h = rw (accepted-book words number n o a g p z) (surplus-is (partsOf words n o a g) (rows-in-order z) e h)
 
-  -- in either way of loading: nothing is over, or something is
+  -- in each way of loading: nothing is over, or something is
   module _ (way : Loading) (e : Excess) (is : e ≡ excessBy way (loaded words .book .rows)) where
     pub placed-within : e ≡ Within → PlacedBy way words number n o a g
     placed-within z = record {
@@ -140,24 +139,24 @@ module _ (words : List ℕ) (number n o a g : ℕ) (p : Placed words number n o 
       none = λ y. (q .1, q .2, q .3, q .4);
     }
 
--- ---- what loading comes to in either way
+-- ---- what strict loading leaves
 accepted-unless : (e : Excess) (l : Loaded) → unless e l .number ≡ 0 → unless e l ≡ l
 accepted-unless Within l h = refl
 accepted-unless (Over r n) l h = absurd (omega arith)
 
--- a book that is accepted is accepted in ordinary loading, as the same book
-pub accepted-by : (way : Loading) (words : List ℕ) → loadedBy way words .number ≡ 0 → loadedBy way words ≡ loaded words
-accepted-by way words = accepted-unless (excessBy way (loaded words .book .rows)) (loaded words)
+-- a book that is left is the one that was judged
+pub accepted-roomed : (way : Loading) (l : Loaded) → roomed way l .number ≡ 0 → roomed way l ≡ l
+accepted-roomed way l = accepted-unless (excessBy way (l .book .rows)) l
 
 refused-unless : (e : Excess) (l : Loaded) → ((l .number ≡ 0 → ⊥) → l ≡ refusedWith (l .number)) → (unless e l .number ≡ 0 → ⊥) → unless e l ≡ refusedWith (unless e l .number)
 refused-unless Within l empty h = empty h
 refused-unless (Over r n) l empty h = refl
 
 -- a refused book gives an empty one
-pub refused-by : (way : Loading) (words : List ℕ) → (loadedBy way words .number ≡ 0 → ⊥) → loadedBy way words ≡ refusedWith (loadedBy way words .number)
-refused-by way words = refused-unless (excessBy way (loaded words .book .rows)) (loaded words) (refused-empty words)
+pub refused-roomed : (way : Loading) (words : List ℕ) → (roomed way (loaded words) .number ≡ 0 → ⊥) → roomed way (loaded words) ≡ refusedWith (roomed way (loaded words) .number)
+refused-roomed way words = refused-unless (excessBy way (loaded words .book .rows)) (loaded words) (refused-empty words)
 
--- a strict one, accepted or empty, has no row that can need more runs than a set may have
+-- what strict loading leaves, accepted or empty, has no row that can need more runs than a set may have
 strict-unless : (l : Loaded) (e : Excess) → e ≡ excessIn (l .book .rows) → anyOver (unless e l .book .rows) ≡ false
 unfolding excessIn firstOver
 strict-unless l (Over r n) h = refl
@@ -168,25 +167,27 @@ strict-unless l Within h = go (anyOver (l .book .rows)) refl h
     go true z h = absurd (let x : _≡_ {A = ℕ} 0 1 = cc in omega arith)
     go false z h = z
 
-pub admitted-strict : (l : Loaded) → IsStrict (admitted Strict l .book .rows)
-admitted-strict l = none-strict _ (strict-unless l (excessIn (l .book .rows)) refl)
+pub roomed-strict : (way : Loading) → strictly way ≡ true → (l : Loaded) → IsStrict (roomed way l .book .rows)
+roomed-strict way w l = rw w (none-strict _ (strict-unless l (excessIn (l .book .rows)) refl))
 
--- and a book that has none is admitted as it is
-pub strict-admitted : (l : Loaded) → IsStrict (l .book .rows) → admitted Strict l ≡ l
+-- and a book that has none, where loading is strict, is left as it is
+pub strict-roomed : (way : Loading) (l : Loaded) → (strictly way ≡ true → IsStrict (l .book .rows)) → roomed way l ≡ l
 unfolding excessIn
-strict-admitted l s = go (anyOver (l .book .rows)) refl
+strict-roomed way l s = go (strictly way) refl (anyOver (l .book .rows)) refl
   where
-    go : (z : Bool) → anyOver (l .book .rows) ≡ z → unless (cond z (Over (firstOver (l .book .rows)) (neededBy (rowAt (l .book .rows) (firstOver (l .book .rows))))) Within) l ≡ l
-    go true z = absurd (some-not-strict (l .book .rows) z s)
-    go false z = refl
+    go : (w : Bool) → strictly way ≡ w → (z : Bool) → anyOver (l .book .rows) ≡ z
+        → unless (cond w (cond z (Over (firstOver (l .book .rows)) (neededBy (rowAt (l .book .rows) (firstOver (l .book .rows))))) Within) Within) l ≡ l
+    go true e true z = absurd (some-not-strict (l .book .rows) z (s e))
+    go true e false z = refl
+    go false e z y = refl
 
 within-unless : (e : Excess) (l : Loaded) → unless e l .number ≡ 0 → e ≡ Within
 within-unless Within l h = refl
 within-unless (Over r n) l h = absurd (omega arith)
 
--- a book that is accepted has no such row
-pub accepted-within : (way : Loading) (l : Loaded) → admitted way l .number ≡ 0 → excessBy way (l .book .rows) ≡ Within
-accepted-within way l = within-unless (excessBy way (l .book .rows)) l
+-- a book that is left has no such row
+pub roomed-within : (way : Loading) (l : Loaded) → roomed way l .number ≡ 0 → excessBy way (l .book .rows) ≡ Within
+roomed-within way l = within-unless (excessBy way (l .book .rows)) l
 
 -- ---- how large the numbers get
 needed-small : (lower upper : ℕ) → rangeGood lower upper ≡ true → needed (rangeIn lower upper) ≤ LAST-TIME + 1
@@ -229,9 +230,9 @@ over-is s {r} {n} ok = go (either (anyOver (bookIn s .rows)))
 
 pub excess-small : (way : Loading) (s : Sections) {r n : ℕ} → excessBy way (loadedFrom s .book .rows) ≡ Over r n → SmallExcess s r n
 unfolding excessIn firstOver
-excess-small Ordinary s h = absurd (let z : _≡_ {A = ℕ} 0 1 = cc in omega arith)
-excess-small Strict s {r} {n} h = go (ℕ-discrete (judged s) 0) h
+excess-small way s {r} {n} h = go (either (strictly way)) (ℕ-discrete (judged s) 0) h
   where
-    go : Dec (judged s ≡ 0) → excessIn (loadedFrom s .book .rows) ≡ Over r n → SmallExcess s r n
-    go (yes z) h = over-is s z (rw (book-judged s z) at h)
-    go (no wrong) h = absurd (let e = rw (refused-judged s wrong) at h in let z : _≡_ {A = ℕ} 0 1 = cc in omega arith)
+    go : (strictly way ≡ true) ⊎ (strictly way ≡ false) → Dec (judged s ≡ 0) → excessBy way (loadedFrom s .book .rows) ≡ Over r n → SmallExcess s r n
+    go (inl w) (yes z) h = over-is s z (rw (w, book-judged s z) at h)
+    go (inl w) (no wrong) h = absurd (let e = rw (w, refused-judged s wrong) at h in let z : _≡_ {A = ℕ} 0 1 = cc in omega arith)
+    go (inr w) d h = absurd (let e = rw w at h in let z : _≡_ {A = ℕ} 0 1 = cc in omega arith)

@@ -9,4 +9,5 @@ pub mod Links
 pub mod Uses
 pub mod Judges
 pub mod Excess
+pub mod Admitted
 pub mod Ordered

@@ -7,8 +7,8 @@ use Rattle.lists.specs.Lists.{part}
 use Rattle.book.specs.Reading.{got, Sections, sections}
 use Rattle.numbers.specs.Limits.{ROW-WORDS, MOST-ASSUMES, MOST-GUARANTEES, MOST-OPERANDS, MOST-ROWS}
 use Rattle.book.specs.Judging.{loaded}
-use Rattle.book.specs.declared.strict.Loading.{Loading}
-use Rattle.book.specs.Strict.{loadedBy}
+use Rattle.book.specs.declared.loading.Loading.{Loading}
+use Rattle.book.specs.Strict.{roomed}
 use Rattle.numbers.specs.Refusals.{ACCEPTED, WRONG-LENGTH}
 
 -- the sections, from how many rows, operands, assumes and guarantees there are: each stands after its count
@@ -39,8 +39,8 @@ pub record Placed (words : List ℕ) (number n o a g : ℕ) : Type 0 where
   pub counted : number ≡ ACCEPTED → Counted words n o a g
   pub none : (number ≡ ACCEPTED → ⊥) → (n ≡ 0) × (o ≡ 0) × (a ≡ 0) × (g ≡ 0)
 
--- the same in either way of loading
+-- the same of what strict loading leaves
 pub record PlacedBy (way : Loading) (words : List ℕ) (number n o a g : ℕ) : Type 0 where
-  pub number-is : number ≡ loadedBy way words .number
+  pub number-is : number ≡ roomed way (loaded words) .number
   pub counted : number ≡ ACCEPTED → Counted words n o a g
   pub none : (number ≡ ACCEPTED → ⊥) → (n ≡ 0) × (o ≡ 0) × (a ≡ 0) × (g ≡ 0)

@@ -1,5 +1,6 @@
 // A book's rows, and the judging of a book that is handed over as words.
 pub mod check;
+pub mod loading;
 pub mod strict;
 
 // The kinds of a row.

@@ -18,17 +18,13 @@ use crate::check::place;
 use crate::check::refused;
 use crate::check::rows_part;
 use crate::check::upper_in;
+use crate::loading::Loading;
+use crate::loading::is_strict;
 use numbers::ACCEPTED;
 use numbers::COULD_RUN_OUT;
 use numbers::MAX;
 use numbers::MOST_RUNS;
 use numbers::ROW_WORDS;
-
-// How a book is loaded: as any that is in order, or so that no call ever lacks room.
-pub enum Loading {
-    Ordinary,
-    Strict,
-}
 
 // What strict loading refuses: the first row that can need more runs than a set may have, and how many it can need.
 pub enum Excess {
@@ -88,18 +84,18 @@ fn excess_in(rows: &[u64]) -> Excess
     Excess::Within
 }
 
-// The same of words whose sections stand where places tell: nothing where they are refused already, and in ordinary loading.
+// The same of words whose sections stand where places tell: nothing where they are refused already, and where loading is not strict.
 fn excess_at(way: Loading, words: &[u64], places: Places) -> Excess
     requires { ⌜ Placed (now words) (places .number) (places .rows) (places .operands) (places .assumes) (places .guarantees) ⌝ }
     ensures { λ r. ⌜ r ≡ excessBy way (loaded (now (words .entry)) .book .rows) ⌝ }
 {
-    let Loading::Strict = way else {
-        return Excess::Within;
-    };
-    if places.number != ACCEPTED {
-        return Excess::Within;
+    if is_strict(way) {
+        if places.number != ACCEPTED {
+            return Excess::Within;
+        }
+        return excess_in(rows_part(words, places));
     }
-    excess_in(rows_part(words, places))
+    Excess::Within
 }
 
 // What this way of loading refuses in a book that is in order.
@@ -109,7 +105,7 @@ pub fn first_excess(way: Loading, words: &[u64]) -> Excess
     excess_at(way, words, place(words))
 }
 
-// Where the sections of a book stand that is accepted in this way of loading, or what it is refused with.
+// Where the sections of a book stand that is accepted as far as its words alone tell in this way of loading, or what it is refused with.
 pub fn place_by(way: Loading, words: &[u64]) -> Places
     ensures { λ r. ⌜ PlacedBy way (now (words .entry)) (r .number) (r .rows) (r .operands) (r .assumes) (r .guarantees) ⌝ }
 {

@@ -1,5 +1,5 @@
 -- A planned call carried out: the memory that it leaves holds the definitions' next state, and its tables what is due. Assumes nothing.
-use Prim.Native.Nat.{ℕ, _+_, _*_, _-_, _^_, _≤_, _<_}
+use Prim.Native.Nat.{ℕ, _+_, _*_, _-_, _^_, _≤_, _<_, min}
 use mathlib.Core.Path.{_≡_, refl, sym, ap, ap₂, subst, _∙_}
 use mathlib.Core.Logic.{⊎-elim}
 use mathlib.Core.Bool.{Bool, true, false, cond, true≢false}
@@ -21,24 +21,25 @@ use Rattle.pmtl.specs.declared.Answer.{Answer}
 use Rattle.pmtl.specs.declared.Answer.the-variants.{Open}
 use Rattle.pmtl.specs.Answer.{bitOf, digitOf}
 use Rattle.pmtl.specs.Book.{Range, Rows, start, stop}
-use Rattle.pmtl.specs.Monitor.{Snap, State, setAt, step, value}
+use Rattle.pmtl.specs.Sets.{Renew, Way}
+use Rattle.pmtl.specs.Monitor.{Snap, State, setAt, stepBy, value}
 use Rattle.pmtl.specs.Calls.{crowded, Outcome, play}
-use Rattle.pmtl.proofs.Answers.{step-sets, step-now, step-begun}
+use Rattle.pmtl.proofs.Answers.{step-sets-by, step-now-by, step-begun-by, step-way-by}
 use Rattle.memory.specs.Layout.{ROWS, ROW, ATOMS, OWNERS, SET, VALUES, TOLD, EARLY, SETTLED, MOVES}
-use Rattle.memory.specs.Memory.{begunWord, clockOf, widthWord, temporals, rowCount, kindAt, slotAt, ownerAt, setStart, slotWords, propertyRow, valueAt, toldAt, rowsOf, setOf, stateOf, isOne, rangeAt}
+use Rattle.memory.specs.Memory.{begunWord, clockOf, widthWord, temporals, rowCount, kindAt, slotAt, ownerAt, setStart, slotWords, propertyRow, valueAt, toldAt, rowsOf, wayOf, setOf, stateOf, isOne, rangeAt}
 use Rattle.memory.specs.Tables.{valueOf, propertyCount, Valued, Told, Answered, Moving, Unused, Tables}
 use Rattle.memory.specs.Kept.{Sound, Kept}
 use Rattle.memory.specs.Alike.{Alike}
 use Rattle.memory.proofs.Rows.{rows-length}
-use Rattle.memory.proofs.Alike.{alike-on, alike-filled, alike-sound, alike-set, alike-rows}
-use Rattle.memory.proofs.Stepped.{Stepped, kept-step, step-book, rows-of-same, kind-same, slot-same, width-same, temporals-same, assumes-same, guarantees-same, property-same}
+use Rattle.memory.proofs.Alike.{alike-on, alike-filled, alike-sound, alike-set, alike-rows, alike-state}
+use Rattle.memory.proofs.Stepped.{Stepped, kept-step, step-book, rows-of-same, kind-same, slot-same, width-same, way-same, temporals-same, assumes-same, guarantees-same, property-same}
 use Rattle.row_answers.specs.Told.{earlyTold}
 use Rattle.row_answers.proofs.Told.{told-early, told-settled, early-same, settled-same}
 use Rattle.tables.specs.Puts.{valuesPut, toldPut, countPut, toldAgain, earlyPut, settledNow, settledPut}
 use Rattle.tables.proofs.Puts.{few-properties, answer-same, told-told, told-still, told-and-asked, count-alike, count-counts, count-valued, count-told, count-moving, count-answered, count-unused}
-use Rattle.set_change.specs.Change.{changed}
+use Rattle.set_change.specs.Change.{changed, countedFrom}
 use Rattle.set_change.proofs.Changes.{changed-under}
-use Rattle.calls.specs.Private.{Bytes, snapOf, stepOf, ahead, setAfter, valueAfter, clocked, Planned, Written, Atoms, Moved, Tried, TriedBoth, Fitting, Asked, Due, Advanced}
+use Rattle.calls.specs.Private.{Bytes, snapOf, stepOf, ownRenew, renewOver, countsFrom, timeStep, ahead, setAfter, valueAfter, clocked, Planned, Written, Atoms, Moved, Tried, TriedBoth, Fitting, Asked, Due, Advanced}
 use Rattle.calls.proofs.Rules.{set-of-slot, set-of-none}
 use Rattle.calls.proofs.Ahead.{ahead-one}
 use Rattle.calls.proofs.Plans.{set-none, fits-each}
@@ -55,12 +56,13 @@ stop-fits g c h b =
     (either (eqb (g .upper) MAX))
 
 -- a state is its parts
-state-is : (st : State) {begun : Bool} {now : Snap} {sets : List Runs} → st .begun ≡ begun → st .now ≡ now → st .sets ≡ sets → record { begun = begun; now = now; sets = sets } ≡ st
-state-is st e f g = λ i. record { begun = sym e i; now = sym f i; sets = sym g i }
+state-is : (st : State) {way : Way} {begun : Bool} {now : Snap} {sets : List Runs} → st .way ≡ way → st .begun ≡ begun → st .now ≡ now → st .sets ≡ sets
+    → record { way = way; begun = begun; now = now; sets = sets } ≡ st
+state-is st d e f g = λ i. record { way = sym d i; begun = sym e i; now = sym f i; sets = sym g i }
 
 -- a plan, where it is known whether there is room
-pub planned-as : {m : List ℕ} {st : State} {c : ℕ} {atoms m′ modes : List ℕ} {room room′ : Bool} → room ≡ room′ → Planned m st c atoms m′ room modes → Planned m st c atoms m′ room′ modes
-planned-as {m} {st} {c} {atoms} {m′} {modes} e p = subst (λ (b : Bool). Planned m st c atoms m′ b modes) e p
+pub planned-as : {m : List ℕ} {renew : Renew} {st : State} {c : ℕ} {atoms m′ modes : List ℕ} {room room′ : Bool} → room ≡ room′ → Planned m renew st c atoms m′ room modes → Planned m renew st c atoms m′ room′ modes
+planned-as {m} {renew} {st} {c} {atoms} {m′} {modes} e p = subst (λ (b : Bool). Planned m renew st c atoms m′ b modes) e p
 
 -- ---- the values worked out anew from what did not change are the old ones
 restored-from : {m mid : List ℕ} → Kept m → Alike m mid → ((i : ℕ) → VALUES + rowCount m ≤ i → getD mid i 0 ≡ getD m i 0) → valuesPut mid ≡ m
@@ -98,24 +100,24 @@ restored-from {m} {mid} kept alike beyond = ext-getD 0 (valuesPut mid) m same-le
 pub restored : {m m₁ : List ℕ} → Kept m → (f : ℕ → ℕ) (n : ℕ) → n ≤ rowCount m → m₁ ≡ filledFrom VALUES f m n → valuesPut m₁ ≡ m
 restored {m} kept f n few e = rw e (restored-from kept (alike-filled m VALUES f n (omega arith)) (λ i h. filledFrom-after VALUES f m 0 n i (omega arith)))
 
-pub tried-full : {m : List ℕ} {st : State} {c : ℕ} {atoms m₁ m₂ modes : List ℕ} → Kept m → Planned m st c atoms m₁ false modes → m₂ ≡ valuesPut m₁ → Tried m st c atoms m₂ 11
+pub tried-full : {m : List ℕ} {renew : Renew} {st : State} {c : ℕ} {atoms m₁ m₂ modes : List ℕ} → Kept m → Planned m renew st c atoms m₁ false modes → m₂ ≡ valuesPut m₁ → Tried m renew st c atoms m₂ 11
 tried-full kept p e =
     record { room = λ f. absurd (true≢false (sym (p .fits) ∙ f)); full = λ f. (refl, e ∙ restored kept _ (p .tried) (p .few) (p .values)) }
 
 -- the memory that the plan leaves is sound, whether there is room or not
-pub planned-sound : {m : List ℕ} {st : State} {c : ℕ} {atoms m₁ modes : List ℕ} {room : Bool} → Sound m → Planned m st c atoms m₁ room modes → Sound m₁
-planned-sound {m} {st} {c} {atoms} sound p = rw (p .values) (alike-sound sound (alike-filled m VALUES (valueAfter m st c atoms) (p .tried) (omega arith)))
+pub planned-sound : {m : List ℕ} {renew : Renew} {st : State} {c : ℕ} {atoms m₁ modes : List ℕ} {room : Bool} → Sound m → Planned m renew st c atoms m₁ room modes → Sound m₁
+planned-sound {m} {renew} {st} {c} {atoms} sound p = rw (p .values) (alike-sound sound (alike-filled m VALUES (valueAfter m renew st c atoms) (p .tried) (omega arith)))
 
 -- ---- a plan carried out
-module _ {m : List ℕ} {st : State} {c : ℕ} {atoms m₁ modes : List ℕ} (sound : Sound m) (small : c ≤ LAST-TIME) (planned : Planned m st c atoms m₁ true modes) where
-  roomy : crowded (stepOf m st c atoms) ≡ false
+module _ {m : List ℕ} {renew : Renew} {st : State} {c : ℕ} {atoms m₁ modes : List ℕ} (sound : Sound m) (small : c ≤ LAST-TIME) (planned : Planned m renew st c atoms m₁ true modes) where
+  roomy : crowded (stepOf m renew st c atoms) ≡ false
   roomy = planned .fits
 
-  values-all : m₁ ≡ filledFrom VALUES (valueAfter m st c atoms) m (rowCount m)
-  values-all = planned .values ∙ ap (filledFrom VALUES (valueAfter m st c atoms) m) (planned .all refl)
+  values-all : m₁ ≡ filledFrom VALUES (valueAfter m renew st c atoms) m (rowCount m)
+  values-all = planned .values ∙ ap (filledFrom VALUES (valueAfter m renew st c atoms) m) (planned .all refl)
 
   alike : Alike m m₁
-  alike = rw values-all (alike-filled m VALUES (valueAfter m st c atoms) (rowCount m) (omega arith))
+  alike = rw values-all (alike-filled m VALUES (valueAfter m renew st c atoms) (rowCount m) (omega arith))
 
   sound₁ : Sound m₁
   sound₁ = alike-sound sound alike
@@ -131,16 +133,17 @@ module _ {m : List ℕ} {st : State} {c : ℕ} {atoms m₁ modes : List ℕ} (so
       let o : ownerAt m₁ j ≡ ownerAt m j = alike .below (OWNERS + j) (omega arith) in
       let range : rangeAt m₁ (ownerAt m j) ≡ rangeAt m (ownerAt m j) =
       ap₂ (λ (l u : ℕ). record { lower = l; upper = u }) (alike .below (ROWS + ROW * ownerAt m j + 2) (omega arith)) (alike .below (ROWS + ROW * ownerAt m j + 3) (omega arith)) in
-      ap₂ (λ (g : Range) (ws : List ℕ). changed mode (start g c) (stop g c) c (runs ws)) (ap (rangeAt m₁) o ∙ range) (alike-set sound alike j (omega arith))
+      ap₂ (λ (g : Range) (ws : List ℕ). changed mode (start g (countsFrom m₁ c mode)) (stop g c) c (runs ws)) (ap (rangeAt m₁) o ∙ range) (alike-set sound alike j (omega arith))
+      ∙ ap (λ (before : ℕ). changed mode (start (rangeAt m (ownerAt m j)) (countedFrom (min (before + 1) c) c mode)) (stop (rangeAt m (ownerAt m j)) c) c (runs (slotWords m j))) (alike .below 2 (omega arith))
 
-  set-planned : (j : ℕ) → j < temporals m → setAfter m₁ c (getD modes j 0) j ≡ setAt (stepOf m st c atoms) (ownerAt m j)
+  set-planned : (j : ℕ) → j < temporals m → setAfter m₁ c (getD modes j 0) j ≡ setAt (stepOf m renew st c atoms) (ownerAt m j)
   set-planned j h = after-same (getD modes j 0) j h ∙ planned .sets refl j h
 
   pub fitting : Fitting m₁ c modes
   fitting =
       record {
         timely = record { sound = sound₁; clock = small };
-        room = rw slots-same (λ j h. ap (fits SET) (set-planned j h) ∙ fits-each m (sound .book) st c atoms roomy j h);
+        room = rw slots-same (λ j h. ap (fits SET) (set-planned j h) ∙ fits-each m (sound .book) renew st c atoms roomy j h);
       }
 
   abbrev after : ℕ → Runs
@@ -161,17 +164,17 @@ module _ {m : List ℕ} {st : State} {c : ℕ} {atoms m₁ modes : List ℕ} (so
         let l : j < temporals m₁ = rw slots-same lt in
         let g : Range = rangeAt m₁ (ownerAt m₁ j) in
         good-pack SET (after j) (room-is (after j) (fitting .room j l))
-        (changed-under (2 ^ 64 + 1) (getD modes j 0) (start g c) (stop g c) c (runs (slotWords m₁ j)) (sound₁ .sets j (omega arith) .apart)
+        (changed-under (2 ^ 64 + 1) (getD modes j 0) (start g (countsFrom m₁ c (getD modes j 0))) (stop g c) c (runs (slotWords m₁ j)) (sound₁ .sets j (omega arith) .apart)
         (stop-fits g c small (b .rows (ownerAt m₁ j) (b .owned j l) .upper)))
 
-    value-word : (r : ℕ) → r < rowCount m → valueAt (clocked m₂ c) r ≡ valueAfter m st c atoms r
+    value-word : (r : ℕ) → r < rowCount m → valueAt (clocked m₂ c) r ≡ valueAfter m renew st c atoms r
     value-word r h =
         let long = sound .book .long in
         let few = sound .book .few in
         clocked-other m₂ c (VALUES + r) (omega arith) (omega arith) ∙ w .beyond (VALUES + r) (omega arith)
-        ∙ ap (λ (x : List ℕ). valueAt x r) values-all ∙ filledFrom-at VALUES (valueAfter m st c atoms) m 0 (rowCount m) r h (omega arith)
+        ∙ ap (λ (x : List ℕ). valueAt x r) values-all ∙ filledFrom-at VALUES (valueAfter m renew st c atoms) m 0 (rowCount m) r h (omega arith)
 
-    moved : Moved m st c atoms (clocked m₂ c)
+    moved : Moved m renew st c atoms (clocked m₂ c)
     moved =
         record {
           long = clocked-length m₂ c ∙ w .long;
@@ -184,30 +187,30 @@ module _ {m : List ℕ} {st : State} {c : ℕ} {atoms m₁ modes : List ℕ} (so
           values = value-word;
           beyond = λ i p.
               clocked-other m₂ c i (omega arith) (omega arith) ∙ w .beyond i (omega arith)
-              ∙ ap (λ (x : List ℕ). getD x i 0) values-all ∙ filledFrom-after VALUES (valueAfter m st c atoms) m 0 (rowCount m) i p;
+              ∙ ap (λ (x : List ℕ). getD x i 0) values-all ∙ filledFrom-after VALUES (valueAfter m renew st c atoms) m 0 (rowCount m) i p;
         }
 
-    pub tried-room : {m₃ : List ℕ} → m₃ ≡ clocked m₂ c → Tried m st c atoms m₃ 0
+    pub tried-room : {m₃ : List ℕ} → m₃ ≡ clocked m₂ c → Tried m renew st c atoms m₃ 0
     tried-room e = record { room = λ f. (refl, rw e moved); full = λ f. absurd (true≢false (sym f ∙ roomy)) }
 
 -- ---- the snapshots of a call, up to the last, which is made from the state st
 abbrev pub Leads : List ℕ → List Snap → State → ℕ → List ℕ → Type 0
 Leads m ns st c atoms = play (rowsOf m) (stateOf m) (stateOf m) ns ≡ play (rowsOf m) (stateOf m) st (snapOf c atoms ∷ [])
 
-one-played : (m : List ℕ) (st : State) (c : ℕ) (atoms : List ℕ) → crowded (stepOf m st c atoms) ≡ false
-    → play (rowsOf m) (stateOf m) st (snapOf c atoms ∷ []) ≡ record { number = 0; state = stepOf m st c atoms }
+one-played : (m : List ℕ) (st : State) (c : ℕ) (atoms : List ℕ) → crowded (stepOf m (ownRenew st) st c atoms) ≡ false
+    → play (rowsOf m) (stateOf m) st (snapOf c atoms ∷ []) ≡ record { number = 0; state = stepOf m (ownRenew st) st c atoms }
 unfolding play
 one-played m st c atoms e = rw (e, play)
 
-none-played : (m : List ℕ) (st : State) (c : ℕ) (atoms : List ℕ) → crowded (stepOf m st c atoms) ≡ true
+none-played : (m : List ℕ) (st : State) (c : ℕ) (atoms : List ℕ) → crowded (stepOf m (ownRenew st) st c atoms) ≡ true
     → play (rowsOf m) (stateOf m) st (snapOf c atoms ∷ []) ≡ record { number = 11; state = stateOf m }
 unfolding play
 none-played m st c atoms e = rw (e, play)
 
 -- ---- once the atoms are set, too
 module _
-    {m : List ℕ} {st : State} {c : ℕ} {atoms m₁ m₂ : List ℕ} (kept : Kept m) (small : c ≤ LAST-TIME) (bytes : Bytes atoms (widthWord m)) (roomy : crowded (stepOf m st c atoms) ≡ false) (v : Moved m st c atoms m₁)
-    (a : Atoms m₁ atoms (length atoms) m₂)
+    {m : List ℕ} {st : State} {c : ℕ} {atoms m₁ m₂ : List ℕ} (kept : Kept m) (small : c ≤ LAST-TIME) (bytes : Bytes atoms (widthWord m)) (roomy : crowded (stepOf m (ownRenew st) st c atoms) ≡ false) (v : Moved m (ownRenew st) st c atoms m₁)
+    (a : Atoms m₁ atoms (length atoms) m₂) (own : st .way ≡ stateOf m .way)
   where
     begun-now : begunWord m₂ ≡ 1
     begun-now = a .below 1 (omega arith) ∙ v .begun
@@ -242,40 +245,45 @@ module _
         sym (bits-listed (λ i. getD m₂ (ATOMS + i) 0) atoms (widthWord m₂) (bytes .long ∙ sym (width-same m m₂ (kept .sound) stepped))
         (λ i lt. sym (a .new i (let e = width-same m m₂ (kept .sound) stepped in let n = bytes .long in omega arith))))
 
-    set-is : (r : ℕ) → r < rowCount m → setOf m₂ r ≡ setAt (stepOf m st c atoms) r
+    set-is : (r : ℕ) → r < rowCount m → setOf m₂ r ≡ setAt (stepOf m (ownRenew st) st c atoms) r
     set-is r p =
         let book = kept .sound .book in
         let small : r < 128 = let f = book .few in omega arith in
         let ek = kind-same m m₂ (kept .sound) stepped r small in
         let es = slot-same m m₂ (kept .sound) stepped r small in
         ⊎-elim
-        (λ (k : kindAt m r < 7). set-of-none m₂ r (rw ek k) ∙ sym (set-none m book st c atoms r p k))
+        (λ (k : kindAt m r < 7). set-of-none m₂ r (rw ek k) ∙ sym (set-none m book (ownRenew st) st c atoms r p k))
         (λ (k : 7 ≤ kindAt m r).
         let row = book .rows r p in
         let j : ℕ = slotAt m r in
         let lt : slotAt m r < temporals m = row .slot k in
         set-of-slot m₂ r (rw ek k)
         ∙ ap (λ (i : ℕ). runs (slotWords m₂ i)) es
-        ∙ ap runs (atoms-set j (let f = kept .sound .book .temporal-few in omega arith) ∙ v .new j lt) ∙ runs-pack SET (setAt (stepOf m st c atoms) (ownerAt m j))
-        ∙ ap (setAt (stepOf m st c atoms)) (row .owner k))
+        ∙ ap runs (atoms-set j (let f = kept .sound .book .temporal-few in omega arith) ∙ v .new j lt) ∙ runs-pack SET (setAt (stepOf m (ownRenew st) st c atoms) (ownerAt m j))
+        ∙ ap (setAt (stepOf m (ownRenew st) st c atoms)) (row .owner k))
         (lt-or-ge (kindAt m r) 7)
 
-    sets-are : listed (setOf m₂) (rowCount m₂) ≡ stepOf m st c atoms .sets
+    sets-are : listed (setOf m₂) (rowCount m₂) ≡ stepOf m (ownRenew st) st c atoms .sets
     sets-are =
-        let long : length (stepOf m st c atoms .sets) ≡ rowCount m = step-sets (rowsOf m) st (snapOf c atoms) ∙ rows-length m in
+        let long : length (stepOf m (ownRenew st) st c atoms .sets) ≡ rowCount m = step-sets-by (ownRenew st) (rowsOf m) st (snapOf c atoms) ∙ rows-length m in
         ap (listed (setOf m₂)) (stepped .rows-same)
-        ∙ ext-getD [] (listed (setOf m₂) (rowCount m)) (stepOf m st c atoms .sets) (listed-length (setOf m₂) (rowCount m) ∙ sym long)
+        ∙ ext-getD [] (listed (setOf m₂) (rowCount m)) (stepOf m (ownRenew st) st c atoms .sets) (listed-length (setOf m₂) (rowCount m) ∙ sym long)
         (λ r lt.
         let p : r < rowCount m = omega (arith, listed-length (setOf m₂) (rowCount m)) in
         listed-at (setOf m₂) [] (rowCount m) r p ∙ set-is r p)
 
+    way-now : wayOf m₂ ≡ wayOf m
+    unfolding wayOf
+    way-now = rw (way-same m m₂ (kept .sound) stepped)
+
     -- the memory holds the next state
-    state-after : stateOf m₂ ≡ stepOf m st c atoms
+    state-after : stateOf m₂ ≡ stepOf m (ownRenew st) st c atoms
     unfolding stateOf
     state-after =
-        state-is (stepOf m st c atoms)
-        (step-begun (rowsOf m) st (snapOf c atoms) ∙ sym (ap isOne begun-now))
-        (step-now (rowsOf m) st (snapOf c atoms) ∙ sym (ap₂ (λ (t : ℕ) (bs : List Bool). record { clock = t; atoms = bs }) clock-now atoms-are))
+        state-is (stepOf m (ownRenew st) st c atoms)
+        (step-way-by (ownRenew st) (rowsOf m) st (snapOf c atoms) ∙ own ∙ sym way-now)
+        (step-begun-by (ownRenew st) (rowsOf m) st (snapOf c atoms) ∙ sym (ap isOne begun-now))
+        (step-now-by (ownRenew st) (rowsOf m) st (snapOf c atoms) ∙ sym (ap₂ (λ (t : ℕ) (bs : List Bool). record { clock = t; atoms = bs }) clock-now atoms-are))
         (sym sets-are)
 
     pub played : {ns : List Snap} → Leads m ns st c atoms → Advanced m ns m₂ 0
@@ -357,25 +365,25 @@ module _
     pub due : {first : Bool} → first ≡ eqb (begunWord m) 0 → Due m₂ first
     due ef = record { sound = sound-now; valued = valued-now; moving = moving-now; unused = unused-now; asked = asked-now ef }
 
-unmoved : {m : List ℕ} (st : State) (c : ℕ) (atoms : List ℕ) {ns : List Snap} → Leads m ns st c atoms → crowded (stepOf m st c atoms) ≡ true → Advanced m ns m 11
+unmoved : {m : List ℕ} (st : State) (c : ℕ) (atoms : List ℕ) {ns : List Snap} → Leads m ns st c atoms → crowded (stepOf m (ownRenew st) st c atoms) ≡ true → Advanced m ns m 11
 unmoved {m} st c atoms leads e =
     let q = leads ∙ none-played m st c atoms e in
     record { number = sym (ap (λ (o : Outcome). o .number) q); state = sym (ap (λ (o : Outcome). o .state) q); book = refl; refused = λ ne. refl }
 
 -- ---- a call that was tried
-module _ {m : List ℕ} {st : State} {c : ℕ} {atoms m₁ : List ℕ} {r : ℕ} (tried : Tried m st c atoms m₁ r) where
-  pub has-room : r ≡ 0 → crowded (stepOf m st c atoms) ≡ false
-  has-room z = fails-by (crowded (stepOf m st c atoms)) (λ f. let e = tried .full f .0 in absurd (omega arith))
+module _ {m : List ℕ} {st : State} {c : ℕ} {atoms m₁ : List ℕ} {r : ℕ} (tried : Tried m (ownRenew st) st c atoms m₁ r) where
+  pub has-room : r ≡ 0 → crowded (stepOf m (ownRenew st) st c atoms) ≡ false
+  has-room z = fails-by (crowded (stepOf m (ownRenew st) st c atoms)) (λ f. let e = tried .full f .0 in absurd (omega arith))
 
-  pub tried-moved : r ≡ 0 → Moved m st c atoms m₁
+  pub tried-moved : r ≡ 0 → Moved m (ownRenew st) st c atoms m₁
   tried-moved z = tried .room (has-room z) .1
 
   pub tried-refused : {ns : List Snap} → Leads m ns st c atoms → (r ≡ 0 → ⊥) → Advanced m ns m₁ r × (m₁ ≡ m)
   tried-refused leads ne =
       ⊎-elim
-      (λ (f : crowded (stepOf m st c atoms) ≡ true). let q = tried .full f in (rw (q .0, q .1) (unmoved st c atoms leads f), q .1))
-      (λ (f : crowded (stepOf m st c atoms) ≡ false). absurd (ne (tried .room f .0)))
-      (either (crowded (stepOf m st c atoms)))
+      (λ (f : crowded (stepOf m (ownRenew st) st c atoms) ≡ true). let q = tried .full f in (rw (q .0, q .1) (unmoved st c atoms leads f), q .1))
+      (λ (f : crowded (stepOf m (ownRenew st) st c atoms) ≡ false). absurd (ne (tried .room f .0)))
+      (either (crowded (stepOf m (ownRenew st) st c atoms)))
 
   -- its atoms stand there already
   pub tried-stands : Sound m → Bytes atoms (widthWord m) → ((i : ℕ) → i < widthWord m → getD m (ATOMS + i) 0 ≡ getD atoms i 0) → r ≡ 0 → Atoms m₁ atoms (length atoms) m₁
@@ -414,9 +422,9 @@ module _ {m : List ℕ} {first : Bool} (due : Due m first) where
       )
 
 -- a plan of the step from the state that the modes leave is one from any state that leads to the same
-pub planned-from : {m : List ℕ} {st st′ : State} {c : ℕ} {atoms m′ modes : List ℕ} {room : Bool} → stepOf m st c atoms ≡ stepOf m st′ c atoms
-    → Planned m st c atoms m′ room modes → Planned m st′ c atoms m′ room modes
-planned-from {m} {st} {st′} {c} {atoms} e p =
+pub planned-from : {m : List ℕ} {renew renew′ : Renew} {st st′ : State} {c : ℕ} {atoms m′ modes : List ℕ} {room : Bool} → stepOf m renew st c atoms ≡ stepOf m renew′ st′ c atoms
+    → Planned m renew st c atoms m′ room modes → Planned m renew′ st′ c atoms m′ room modes
+planned-from {m} {renew} {renew′} {st} {st′} {c} {atoms} e p =
     record {
       fits = rw (← e) (p .fits);
       sets = λ z j l. p .sets z j l ∙ ap (λ (s : State). setAt s (ownerAt m j)) e;
@@ -437,13 +445,13 @@ module _ {m m₁ : List ℕ} (sound : Sound m) (alike : Alike m m₁) where
   owner-as : (j : ℕ) → j < temporals m → ownerAt m₁ j ≡ ownerAt m j
   owner-as j h = let few = sound .book .temporal-few in alike .below (OWNERS + j) (omega arith)
 
-  same-step : (st : State) (c : ℕ) (atoms : List ℕ) → stepOf m₁ st c atoms ≡ stepOf m st c atoms
-  same-step st c atoms = ap (λ (b : Rows). step b st (snapOf c atoms)) (alike-rows sound alike)
+  same-step : (renew : Renew) (st : State) (c : ℕ) (atoms : List ℕ) → stepOf m₁ renew st c atoms ≡ stepOf m renew st c atoms
+  same-step renew st c atoms = ap (λ (b : Rows). stepBy renew b st (snapOf c atoms)) (alike-rows sound alike)
 
-  moved-back : ((i : ℕ) → VALUES + rowCount m ≤ i → getD m₁ i 0 ≡ getD m i 0) → (st : State) (c : ℕ) (atoms : List ℕ) {m′ : List ℕ} → Moved m₁ st c atoms m′ → Moved m st c atoms m′
-  moved-back beyond₁ st c atoms v =
+  moved-back : ((i : ℕ) → VALUES + rowCount m ≤ i → getD m₁ i 0 ≡ getD m i 0) → (renew : Renew) (st : State) (c : ℕ) (atoms : List ℕ) {m′ : List ℕ} → Moved m₁ renew st c atoms m′ → Moved m renew st c atoms m′
+  moved-back beyond₁ renew st c atoms v =
       let few = sound .book .temporal-few in
-      let same = same-step st c atoms in
+      let same = same-step renew st c atoms in
       record {
         long = v .long;
         begun = v .begun;
@@ -456,9 +464,9 @@ module _ {m m₁ : List ℕ} (sound : Sound m) (alike : Alike m m₁) where
         beyond = λ i p. v .beyond i (rw rows-as p) ∙ beyond₁ i p;
       }
 
-module _ {m : List ℕ} {c : ℕ} {old m₁ modes₁ : List ℕ} (kept : Kept m) (small : c ≤ LAST-TIME) (first : Planned m (stateOf m) c old m₁ true modes₁) where
+module _ {m : List ℕ} {c : ℕ} {old m₁ modes₁ : List ℕ} (kept : Kept m) (small : c ≤ LAST-TIME) (first : Planned m (ownRenew (stateOf m)) (stateOf m) c old m₁ true modes₁) where
   abbrev f₁ : ℕ → ℕ
-  f₁ = valueAfter m (stateOf m) c old
+  f₁ = valueAfter m (ownRenew (stateOf m)) (stateOf m) c old
 
   first-alike : Alike m m₁
   first-alike = rw (first .values) (alike-filled m VALUES f₁ (first .tried) (omega arith))
@@ -472,34 +480,40 @@ module _ {m : List ℕ} {c : ℕ} {old m₁ modes₁ : List ℕ} (kept : Kept m)
   first-beyond : (i : ℕ) → VALUES + rowCount m ≤ i → getD m₁ i 0 ≡ getD m i 0
   first-beyond i h = let few = first .few in ap (λ (x : List ℕ). getD x i 0) (first .values) ∙ filledFrom-after VALUES f₁ m 0 (first .tried) i (omega arith)
 
+  abbrev own-renew : Renew
+  own-renew = ownRenew (stateOf m)
+
+  abbrev between : State
+  between = timeStep m c old
+
   -- the plan of the second, from the state that the first leaves
-  pub second-from : {new m₂ modes₂ : List ℕ} {room : Bool} → Planned m₁ (ahead m₁ c modes₁) c new m₂ room modes₂ → Planned m₁ (stepOf m (stateOf m) c old) c new m₂ room modes₂
-  second-from {new} p = planned-from (ahead-one first-sound small modes₁ (stepOf m (stateOf m) c old)
+  pub second-from : {new m₂ modes₂ : List ℕ} {room : Bool} → Planned m₁ (renewOver m₁ false) (ahead m₁ c modes₁) c new m₂ room modes₂ → Planned m₁ (ownRenew between) between c new m₂ room modes₂
+  second-from {new} p = planned-from (ahead-one first-sound small modes₁ between
+      (step-way-by own-renew (rowsOf m) (stateOf m) (snapOf c old) ∙ ap (λ (st : State). st .way) (sym (alike-state (kept .sound) first-alike)))
+      (let e = ap (λ (n : Snap). n .clock) (step-now-by own-renew (rowsOf m) (stateOf m) (snapOf c old)) in omega arith)
       (λ j h.
       let l : j < temporals m = rw (← slots-as (kept .sound) first-alike) h in
-      set-planned (kept .sound) small first j l ∙ ap (setAt (stepOf m (stateOf m) c old)) (sym (owner-as (kept .sound) first-alike j l))) new) p
+      set-planned (kept .sound) small first j l ∙ ap (setAt between) (sym (owner-as (kept .sound) first-alike j l))) new) p
 
-  pub both-room : {new m₂ m₃ m₄ modes₂ : List ℕ} → Planned m₁ (stepOf m (stateOf m) c old) c new m₂ true modes₂
+  pub both-room : {new m₂ m₃ m₄ modes₂ : List ℕ} → Planned m₁ (ownRenew between) between c new m₂ true modes₂
       → Written m₂ (λ j. setAfter m₂ c (getD modes₂ j 0) j) (temporals m₂) m₃ → m₄ ≡ clocked m₃ c → TriedBoth m c old new m₄ 0
   both-room {new} p w e =
-      let between : State = stepOf m (stateOf m) c old in
-      let same = same-step (kept .sound) first-alike between c new in
+      let same = same-step (kept .sound) first-alike (ownRenew between) between c new in
       record {
         between = λ f. absurd (true≢false (sym f ∙ first .fits));
         last = λ z. record {
-          room = λ f. (refl, moved-back (kept .sound) first-alike first-beyond between c new (tried-room first-sound small p w e .room (p .fits) .1));
+          room = λ f. (refl, moved-back (kept .sound) first-alike first-beyond (ownRenew between) between c new (tried-room first-sound small p w e .room (p .fits) .1));
           full = λ f. absurd (true≢false (sym f ∙ sym (ap crowded same) ∙ p .fits));
         };
       }
 
-  pub both-full : {new m₂ m₃ modes₂ : List ℕ} → Planned m₁ (stepOf m (stateOf m) c old) c new m₂ false modes₂ → m₃ ≡ valuesPut m₂ → TriedBoth m c old new m₃ 11
+  pub both-full : {new m₂ m₃ modes₂ : List ℕ} → Planned m₁ (ownRenew between) between c new m₂ false modes₂ → m₃ ≡ valuesPut m₂ → TriedBoth m c old new m₃ 11
   both-full {new} {m₂} p e =
-      let between : State = stepOf m (stateOf m) c old in
-      let f₂ : ℕ → ℕ = valueAfter m₁ between c new in
+      let f₂ : ℕ → ℕ = valueAfter m₁ (ownRenew between) between c new in
       let few = p .few in
       let count : rowCount m₁ ≡ rowCount m = first-alike .below 0 (omega arith) in
       let alike₂ : Alike m₁ m₂ = rw (p .values) (alike-filled m₁ VALUES f₂ (p .tried) (omega arith)) in
-      let same = same-step (kept .sound) first-alike between c new in
+      let same = same-step (kept .sound) first-alike (ownRenew between) between c new in
       record {
         between = λ f. absurd (true≢false (sym f ∙ first .fits));
         last = λ z. record {
@@ -512,6 +526,6 @@ module _ {m : List ℕ} {c : ℕ} {old m₁ modes₁ : List ℕ} (kept : Kept m)
         };
       }
 
-pub first-full : {m : List ℕ} {c : ℕ} {old m₁ m₂ modes : List ℕ} → Kept m → Planned m (stateOf m) c old m₁ false modes → m₂ ≡ valuesPut m₁ → (new : List ℕ) → TriedBoth m c old new m₂ 11
+pub first-full : {m : List ℕ} {c : ℕ} {old m₁ m₂ modes : List ℕ} → Kept m → Planned m (ownRenew (stateOf m)) (stateOf m) c old m₁ false modes → m₂ ≡ valuesPut m₁ → (new : List ℕ) → TriedBoth m c old new m₂ 11
 first-full kept p e new =
     record { between = λ f. (refl, e ∙ restored kept _ (p .tried) (p .few) (p .values)); last = λ f. absurd (true≢false (sym (p .fits) ∙ f)) }

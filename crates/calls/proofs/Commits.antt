@@ -1,5 +1,5 @@
 -- The sets changed in place, one by one. Assumes nothing.
-use Prim.Native.Nat.{ℕ, _+_, _*_, _-_, _≤_, _<_}
+use Prim.Native.Nat.{ℕ, _+_, _*_, _-_, _≤_, _<_, min}
 use mathlib.Core.Path.{_≡_, refl, sym, ap, ap₂, _∙_}
 use mathlib.Core.Logic.{⊎-elim}
 use mathlib.Core.Bool.{true}
@@ -15,11 +15,11 @@ use Rattle.numset.proofs.Packs.{length-pack}
 use Rattle.pmtl.specs.Book.{Range, start, stop}
 use Rattle.memory.specs.Layout.{ROWS, ROW, OWNERS, SET, SIZE}
 use Rattle.lists.specs.Lists.{part}
-use Rattle.memory.specs.Memory.{temporals, lowerAt, upperAt, ownerAt, setStart, slotWords, rangeAt}
+use Rattle.memory.specs.Memory.{clockOf, temporals, lowerAt, upperAt, ownerAt, setStart, slotWords, rangeAt}
 use Rattle.lists.proofs.Parts.{word-at, part-length, part-same}
-use Rattle.set_change.specs.Change.{changed}
+use Rattle.set_change.specs.Change.{changed, countedFrom}
 use Rattle.set_change.proofs.Changes.{changed-0}
-use Rattle.calls.specs.Private.{setAfter, Held, Roomy, Fit, Fitting, Written}
+use Rattle.calls.specs.Private.{countsFrom, setAfter, Held, Roomy, Fit, Fitting, Written}
 
 -- ---- a part of a memory put anew
 module _ (b k : ℕ) (xs ys : List ℕ) (hb : b + k ≤ length xs) (hk : length ys ≡ k) where
@@ -90,9 +90,9 @@ module _ {m : List ℕ} {c mode j : ℕ} (f : Fit m c mode j) where
   pub commit-stays : {m′ : List ℕ} → mode ≡ 0 → m′ ≡ putMid (setStart j) SET m (pack SET (kept c (runs (slotWords m j)))) → m′ ≡ putMid (setStart j) SET m (pack SET (setAfter m c mode j))
   commit-stays e h =
       let g : Range = rangeAt m (ownerAt m j) in
-      h ∙ sym (ap (λ (s : Runs). putMid (setStart j) SET m (pack SET s)) (changed-0 (start g c) (stop g c) c (runs (slotWords m j)) mode e))
+      h ∙ sym (ap (λ (s : Runs). putMid (setStart j) SET m (pack SET s)) (changed-0 (start g (countsFrom m c mode)) (stop g c) c (runs (slotWords m j)) mode e))
 
-  module _ {s t : ℕ} (es : s ≡ start (rangeAt m (ownerAt m j)) c) (et : t ≡ stop (rangeAt m (ownerAt m j)) c) where
+  module _ {s t : ℕ} (es : s ≡ start (rangeAt m (ownerAt m j)) (countsFrom m c mode)) (et : t ≡ stop (rangeAt m (ownerAt m j)) c) where
     pub fit-roomy : Roomy m mode s t c j
     fit-roomy = record { long = f .bounded .long; inside = f .inside; good = f .good; room = rw (es, et) (f .room) }
 
@@ -142,8 +142,13 @@ module _ {m : List ℕ} {c : ℕ} {modes : List ℕ} (fitting : Fitting m c mode
   set-same : slotWords m₁ n ≡ slotWords m n
   set-same = w .old n (omega arith) under
 
+  clock-same : clockOf m₁ ≡ clockOf m
+  clock-same = w .below 2 (omega arith)
+
   after-same : (mode : ℕ) → setAfter m₁ c mode n ≡ setAfter m c mode n
-  after-same mode = ap₂ (λ (g : Range) (s : Runs). changed mode (start g c) (stop g c) c s) range-same (ap runs set-same)
+  after-same mode =
+      ap₂ (λ (g : Range) (s : Runs). changed mode (start g (countsFrom m₁ c mode)) (stop g c) c s) range-same (ap runs set-same)
+      ∙ ap (λ (before : ℕ). changed mode (start (rangeAt m (ownerAt m n)) (countedFrom (min (before + 1) c) c mode)) (stop (rangeAt m (ownerAt m n)) c) c (runs (slotWords m n))) clock-same
 
   pub commit-fit : Fit m₁ c (getD modes n 0) n
   commit-fit =

@@ -8,5 +8,4 @@ pub mod Advances
 pub mod Public
 pub mod Joins
 pub mod Tries
-pub mod Still
 pub mod Looks

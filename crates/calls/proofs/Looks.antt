@@ -11,21 +11,20 @@ use Rattle.lists.proofs.Tests.{lt-or-ge}
 use Rattle.lists.proofs.Filled.{filledFrom-before, filledFrom-after, filledFrom-more}
 use Rattle.numset.specs.Runs.{has}
 use Rattle.pmtl.specs.Answer.{bitOf}
-use Rattle.pmtl.specs.Book.{Row, mapRow}
-use Rattle.pmtl.specs.Monitor.{Snap, valueRule, value}
+use Rattle.pmtl.specs.Book.{Row, mapRow, moveRule, moves}
+use Rattle.pmtl.specs.Monitor.{Snap, valueRule}
 use Rattle.pmtl.proofs.Table.{answer-in}
-use Rattle.pmtl.proofs.Answers.{step-now}
+use Rattle.pmtl.proofs.Answers.{step-now-by}
+use Rattle.pmtl.proofs.Still.{still}
 use Rattle.memory.specs.Layout.{ROWS, ROW, VALUES, MOVES}
 use Rattle.memory.specs.Memory.{rowCount, widthWord, temporals, kindAt, argAt, ownerAt, atomsOf, valueAt, movesAt, rowOf, rowsOf, stateOf, isOne}
-use Rattle.memory.specs.Tables.{moveRule, moves}
 use Rattle.memory.specs.Kept.{Sound, Kept}
 use Rattle.memory.proofs.Rows.{rows-length, row-at, kept-ordered}
 use Rattle.book.specs.Rows.{rowFrom}
 use Rattle.memory.proofs.Bits.{bit-back}
-use Rattle.calls.specs.Private.{atomsFor, snapOf, stepOf, ahead, heldIn, setNext, valueNext, Named, valueAfter}
+use Rattle.calls.specs.Private.{atomsFor, snapOf, stepOf, renewOver, ahead, heldIn, setNext, valueNext, Named, valueAfter}
 use Rattle.calls.proofs.Plans.{Going}
 use Rattle.calls.proofs.Heads.{old-atoms}
-use Rattle.calls.proofs.Still.{still}
 
 -- ---- a row by its kind
 not-atom-from : (x y : List Bool) (here : Bool) (f : ℕ → Bool) (kind arg lower upper : ℕ) (os : List ℕ) → (kind ≡ 2 → ⊥)
@@ -80,7 +79,7 @@ module _ {m : List ℕ} (sound : Sound m) where
       answer-in (rowsOf m) false (λ r row. moveRule row) (kept-ordered (sound .book)) n (rw rows-length h)
       ∙ ap (λ (row : Row ℕ). moveRule (mapRow of-rows row)) (row-at m n h)
 
-  module _ {modes₀ : List ℕ} {c : ℕ} {atoms m′ modes : List ℕ} {n : ℕ} (g : Going m modes₀ c atoms m′ modes n) (h : n < rowCount m) where
+  module _ {spans : Bool} {modes₀ : List ℕ} {c : ℕ} {atoms m′ modes : List ℕ} {n : ℕ} (g : Going m spans modes₀ c atoms m′ modes n) (h : n < rowCount m) where
     small : n < 128
     small = omega (arith, sound .book .few)
 
@@ -88,10 +87,10 @@ module _ {m : List ℕ} (sound : Sound m) where
     moves-now kept =
         let s = small in
         ap (λ (x : List ℕ). isOne (movesAt x n)) (g .values)
-        ∙ ap isOne (filledFrom-after VALUES (valueAfter m (ahead m c modes₀) c atoms) m 0 n (MOVES + n) (omega arith) ∙ kept .tables .moving .right n h) ∙ bit-back (of-rows n)
+        ∙ ap isOne (filledFrom-after VALUES (valueAfter m (renewOver m spans) (ahead m c modes₀) c atoms) m 0 n (MOVES + n) (omega arith) ∙ kept .tables .moving .right n h) ∙ bit-back (of-rows n)
 
     word-now : (k : ℕ) → k < VALUES → getD m′ k 0 ≡ getD m k 0
-    word-now k l = ap (λ (x : List ℕ). getD x k 0) (g .values) ∙ filledFrom-before VALUES (valueAfter m (ahead m c modes₀) c atoms) m 0 n k l
+    word-now k l = ap (λ (x : List ℕ). getD x k 0) (g .values) ∙ filledFrom-before VALUES (valueAfter m (renewOver m spans) (ahead m c modes₀) c atoms) m 0 n k l
 
     kind-now : kindAt m′ n ≡ kindAt m n
     kind-now = let s = small in word-now (ROWS + ROW * n) (omega arith)
@@ -112,9 +111,9 @@ module _ {m : List ℕ} (sound : Sound m) where
         }
     visited-named false bytes kept wide e = record { inside = λ k. absurd (moving-kind (kept refl) e k) }
 
-    pub visited-same : (fresh : Bool) (bytes : List ℕ) → (fresh ≡ false → Kept m) → atoms ≡ atomsFor m fresh bytes → (fresh || isOne (movesAt m′ n)) ≡ true → valueNext m′ c modes bytes n ≡ valueNext m′ c modes atoms n
-    visited-same true bytes kept ea e = ap (λ (x : List ℕ). valueNext m′ c modes x n) (sym ea)
-    visited-same false bytes kept ea e = not-atom (map isOne bytes) (map isOne atoms) (has (setNext m′ c modes n) c) (heldIn m′) m′ n (moving-kind (kept refl) e)
+    pub visited-same : (fresh : Bool) (bytes : List ℕ) → (fresh ≡ false → Kept m) → atoms ≡ atomsFor m fresh bytes → (fresh || isOne (movesAt m′ n)) ≡ true → valueNext m′ spans c modes bytes n ≡ valueNext m′ spans c modes atoms n
+    visited-same true bytes kept ea e = ap (λ (x : List ℕ). valueNext m′ spans c modes x n) (sym ea)
+    visited-same false bytes kept ea e = not-atom (map isOne bytes) (map isOne atoms) (has (setNext m′ spans c modes n) c) (heldIn m′) m′ n (moving-kind (kept refl) e)
 
     -- one that is passed over keeps its value, and has no set
     module _ (kept : Kept m) (ea : atoms ≡ atomsOf m) (e : isOne (movesAt m′ n) ≡ false) where
@@ -124,16 +123,16 @@ module _ {m : List ℕ} (sound : Sound m) where
       plain : kindAt m n < 7
       plain = still-plain of-rows m n (sound .book .rows n h .kind) (sym (own-rule n h) ∙ stays)
 
-      value-stays : valueAfter m (ahead m c modes₀) c atoms n ≡ valueAt m n
+      value-stays : valueAfter m (renewOver m spans) (ahead m c modes₀) c atoms n ≡ valueAt m n
       unfolding stateOf
       value-stays =
-          ap bitOf (still (rowsOf m) (kept-ordered (sound .book)) (stateOf m) (stepOf m (ahead m c modes₀) c atoms)
-          (ap (λ (s : Snap). s .atoms) (step-now (rowsOf m) (ahead m c modes₀) (snapOf c atoms)) ∙ ap (map isOne) ea ∙ old-atoms (sound))
+          ap bitOf (still (rowsOf m) (kept-ordered (sound .book)) (stateOf m) (stepOf m (renewOver m spans) (ahead m c modes₀) c atoms)
+          (ap (λ (s : Snap). s .atoms) (step-now-by (renewOver m spans) (rowsOf m) (ahead m c modes₀) (snapOf c atoms)) ∙ ap (map isOne) ea ∙ old-atoms (sound))
           n stays)
           ∙ sym (kept .tables .valued .right n h)
 
       value-there : valueAt m′ n ≡ valueAt m n
-      value-there = ap (λ (x : List ℕ). valueAt x n) (g .values) ∙ filledFrom-after VALUES (valueAfter m (ahead m c modes₀) c atoms) m 0 n (VALUES + n) (omega arith)
+      value-there = ap (λ (x : List ℕ). valueAt x n) (g .values) ∙ filledFrom-after VALUES (valueAfter m (renewOver m spans) (ahead m c modes₀) c atoms) m 0 n (VALUES + n) (omega arith)
 
       not-owner : (j : ℕ) → j < temporals m → ownerAt m j < n + 1 → ownerAt m j < n
       not-owner j l p =
@@ -145,18 +144,18 @@ module _ {m : List ℕ} (sound : Sound m) where
           absurd (omega arith))
           (lt-or-ge (ownerAt m j) n)
 
-      going-past : Going m modes₀ c atoms m′ modes (n + 1)
+      going-past : Going m spans modes₀ c atoms m′ modes (n + 1)
       going-past =
           record {
             few = omega arith;
-            values = sym (ap (set m′ (VALUES + n)) (value-stays ∙ sym value-there) ∙ set-getD m′ (VALUES + n) 0) ∙ filledFrom-more VALUES (valueAfter m (ahead m c modes₀) c atoms) m (g .values) refl;
+            values = sym (ap (set m′ (VALUES + n)) (value-stays ∙ sym value-there) ∙ set-getD m′ (VALUES + n) 0) ∙ filledFrom-more VALUES (valueAfter m (renewOver m spans) (ahead m c modes₀) c atoms) m (g .values) refl;
             modes-long = g .modes-long;
             sets = λ j l p. g .sets j l (not-owner j l p);
             room = λ j l p. g .room j l (not-owner j l p);
             rest = λ j l p. g .rest j l (omega arith);
           }
 
-    pub going-skip : (fresh : Bool) (bytes : List ℕ) → (fresh ≡ false → Kept m) → atoms ≡ atomsFor m fresh bytes → (fresh || isOne (movesAt m′ n)) ≡ false → Going m modes₀ c atoms m′ modes (n + 1)
+    pub going-skip : (fresh : Bool) (bytes : List ℕ) → (fresh ≡ false → Kept m) → atoms ≡ atomsFor m fresh bytes → (fresh || isOne (movesAt m′ n)) ≡ false → Going m spans modes₀ c atoms m′ modes (n + 1)
     going-skip true bytes kept ea e = absurd (true≢false e)
     going-skip false bytes kept ea e = going-past (kept refl) ea e
 

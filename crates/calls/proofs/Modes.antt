@@ -1,21 +1,25 @@
 -- The change of a temporal row's set as the code finds it: by the row's kind and its operands' values. Assumes nothing.
-use Prim.Native.Nat.{ℕ, zero, suc, _+_, _-_, _≤_, _<_}
+use Prim.Native.Nat.{ℕ, zero, suc, _+_, _-_, _≤_, _<_, min}
 use mathlib.Core.Path.{_≡_, refl, sym, ap, ap₂, _∙_, subst⁻¹}
-use mathlib.Core.Bool.{Bool, true, not}
+use mathlib.Core.Logic.{⊎-elim}
+use mathlib.Core.Bool.{Bool, true, false, not}
 use mathlib.Core.List.{List}
 use native.Mathlib.Omega.{arith}
 use lib.ListN.{getD, drop}
 use lib.Dec.{lit<}
 use borrow.Author.Tests.{eq-eqb, ne-eqb}
 use Rattle.numbers.specs.Limits.{MAX}
+use Rattle.lists.proofs.Tests.{lt-or-ge}
 use Rattle.pmtl.specs.Book.{Row, mapRow, Range, stop}
 use Rattle.memory.specs.Layout.{OPERANDS}
-use Rattle.memory.specs.Memory.{rowCount, kindAt, argAt, lowerAt, upperAt, startAt, operandsOf, rowOf}
+use Rattle.memory.specs.Memory.{rowCount, clockOf, wayWord, kindAt, argAt, lowerAt, upperAt, startAt, operandsOf, rowOf, isOne}
 use Rattle.book.specs.Rows.{rowFrom, countOf}
 use Rattle.memory.specs.Kept.{BookKept, Span}
 use Rattle.memory.proofs.Rows.{Read, span-read, first-is, second-is, first-below, second-below}
 use Rattle.row_answers.proofs.Answers.{span-as, first-inside, second-inside}
 use Rattle.set_change.specs.Change.{modeOf, modeIn}
+use Rattle.set_change.proofs.AsOne.{small-from, large-from}
+use Rattle.calls.specs.Private.{spansIn, countsFrom}
 
 -- a temporal row has an operand
 some-operand : (k arg : ℕ) → 7 ≤ k → k ≤ 9 → 0 < countOf k arg
@@ -92,3 +96,25 @@ stop-last g c e h = sym (rw (eq-eqb (g .upper) MAX (sym e ∙ h)))
 pub stop-sum : (g : Range) (c : ℕ) {u : ℕ} → u ≡ g .upper → (u ≡ MAX → ⊥) → c + u ≡ stop g c
 unfolding stop
 stop-sum g c e h = sym (rw (ne-eqb (g .upper) MAX (λ q. h (e ∙ q)), e))
+
+-- ---- the first instant that a change counts from, by its mode
+module _ (m : List ℕ) (c k : ℕ) where
+  pub counts-clock : k < 4 → c ≡ countsFrom m c k
+  counts-clock h = sym (small-from (min (clockOf m + 1) c) c k h)
+
+  pub counts-next : 4 ≤ k → {before : ℕ} → before ≡ clockOf m → before < c → before + 1 ≡ countsFrom m c k
+  counts-next h e l = sym (large-from (min (clockOf m + 1) c) c k h ∙ omega arith)
+
+  pub counts-still : 4 ≤ k → {before : ℕ} → before ≡ clockOf m → c ≤ before → c ≡ countsFrom m c k
+  counts-still h e l = sym (large-from (min (clockOf m + 1) c) c k h ∙ omega arith)
+
+  pub counts-small : countsFrom m c k ≤ c
+  counts-small =
+      ⊎-elim
+      (λ (h : k < 4). omega (arith, small-from (min (clockOf m + 1) c) c k h))
+      (λ (h : 4 ≤ k). omega (arith, large-from (min (clockOf m + 1) c) c k h))
+      (lt-or-ge k 4)
+
+-- ---- whether a step counts a stretch
+pub stretch-else : (m : List ℕ) {fresh lasts : Bool} → fresh ≡ false → lasts ≡ isOne (wayWord m) → lasts ≡ spansIn m fresh
+stretch-else m f e = rw f e

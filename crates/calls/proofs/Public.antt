@@ -11,9 +11,11 @@ use borrow.Author.Tests.{lt-ltb, le-ltb, ltb-false, ne-eqb, eq-eqb}
 use Rattle.numbers.specs.Limits.{LAST-TIME, MOST-ATOMS}
 use Rattle.lists.proofs.Tests.{either, fails-by}
 use Rattle.pmtl.specs.Book.{widthOf, some}
+use Rattle.pmtl.specs.Sets.{Renew}
 use Rattle.pmtl.specs.Monitor.{Snap, State}
 use Rattle.pmtl.specs.Calls.{Call, turns, timeRefusal, stateRefusal, firstOf, refusal, crowded, play, call}
 use Rattle.pmtl.specs.Calls.Call.{time, state, stamped}
+use Rattle.pmtl.proofs.Answers.{step-way-by}
 use Rattle.pmtl.proofs.Calls.{timely, well-stated}
 use Rattle.memory.specs.Layout.{SIZE}
 use Rattle.memory.specs.Memory.{begunWord, clockOf, widthWord, rowsOf, bookOf, stateOf, atomsOf}
@@ -21,7 +23,7 @@ use Rattle.memory.specs.Tables.{Tables}
 use Rattle.memory.specs.Kept.{BookKept, Sound, Kept}
 use Rattle.memory.specs.Alike.{Alike}
 use Rattle.memory.proofs.Alike.{alike-sound, alike-book, alike-state}
-use Rattle.calls.specs.Private.{Bytes, snapOf, stepOf, Atoms, Moved, Tried, TriedBoth, Due, Advanced}
+use Rattle.calls.specs.Private.{Bytes, snapOf, ownRenew, timeStep, Atoms, Moved, Tried, TriedBoth, Due, Advanced}
 use Rattle.calls.specs.Called.{Called}
 use Rattle.calls.proofs.Plans.{some-hit}
 use Rattle.calls.proofs.Heads.{old-same, old-bytes, old-atoms}
@@ -104,7 +106,7 @@ sound-bytes {m} book s e =
     }
 
 -- there is place for the atoms of a state where the sets were changed
-roomy-for : {m m₁ s : List ℕ} {st : State} {c : ℕ} → Kept m → Bytes s (widthWord m) → Moved m st c s m₁ → (length m₁ ≡ SIZE) × (length s ≤ MOST-ATOMS)
+roomy-for : {m m₁ s : List ℕ} {renew : Renew} {st : State} {c : ℕ} → Kept m → Bytes s (widthWord m) → Moved m renew st c s m₁ → (length m₁ ≡ SIZE) × (length s ≤ MOST-ATOMS)
 roomy-for kept bytes v = (v .long, omega (arith, kept .sound .book .narrow, bytes .long))
 
 -- and a byte for each
@@ -125,7 +127,7 @@ module _ {m : List ℕ} (kept : Kept m) (t : ℕ) {late : ℕ} (el : late ≡ ti
     unfolding refusal stateOf
     time-played a kept′ = called-played (sym el ∙ in-time) (ap (λ (bs : List Bool). record { clock = t; atoms = bs } ∷ []) (old-atoms (kept .sound))) a kept′
 
-    module _ {m₁ : List ℕ} {r : ℕ} (tried : Tried m (stateOf m) t (atomsOf m) m₁ r) where
+    module _ {m₁ : List ℕ} {r : ℕ} (tried : Tried m (ownRenew (stateOf m)) (stateOf m) t (atomsOf m) m₁ r) where
       pub time-full : (r ≡ 0 → ⊥) → Called (time t) m m₁ r
       time-full ne = let q = tried-refused tried refl ne in time-played (q .0) (rw (q .1) kept)
 
@@ -134,11 +136,11 @@ module _ {m : List ℕ} (kept : Kept m) (t : ℕ) {late : ℕ} (el : late ≡ ti
       stands = tried-stands tried (kept .sound) (old-bytes (kept .sound)) (old-same (kept .sound))
 
       pub time-due : r ≡ 0 → {first : Bool} → first ≡ eqb (begunWord m) 0 → Due m₁ first
-      time-due z ef = due kept in-range (old-bytes (kept .sound)) (has-room tried z) (tried-moved tried z) (stands z) ef
+      time-due z ef = due kept in-range (old-bytes (kept .sound)) (has-room tried z) (tried-moved tried z) (stands z) refl ef
 
       pub time-done : {m₂ : List ℕ} → r ≡ 0 → Alike m₁ m₂ × Tables m₂ → Called (time t) m m₂ 0
       time-done z renewed =
-          let a = played kept in-range (old-bytes (kept .sound)) (has-room tried z) (tried-moved tried z) (stands z) refl in
+          let a = played kept in-range (old-bytes (kept .sound)) (has-room tried z) (tried-moved tried z) (stands z) refl refl in
           let q = advanced-renewed a (time-due z refl .sound) renewed in
           time-played (q .0) (q .1)
 
@@ -153,15 +155,15 @@ module _ {m : List ℕ} (kept : Kept m) (s : List ℕ) {wrong : ℕ} (ew : wrong
     new-bytes = sound-bytes (kept .sound .book) s (sym ew ∙ right)
 
     module _ {clock : ℕ} (ec : clock ≡ clockOf m) where
-      pub state-timely : (Kept m × (clock ≤ LAST-TIME)) × (true ≡ true → widthWord m ≤ length s)
-      state-timely = ((kept, rw ec (kept .sound .clock)), λ e. enough new-bytes)
+      pub state-timely : (Kept m × (clock ≤ LAST-TIME)) × (true ≡ true → (widthWord m ≤ length s) × (clock ≡ clockOf m))
+      state-timely = ((kept, rw ec (kept .sound .clock)), λ e. (enough new-bytes, ec))
 
       state-played : {m′ : List ℕ} {r : ℕ} → Advanced m (snapOf clock s ∷ []) m′ r → Kept m′ → Called (state s) m m′ r
       unfolding refusal stateOf
       state-played a kept′ =
           called-played (sym ew ∙ right) (ap (λ (c : ℕ). snapOf c s ∷ []) ec) a kept′
 
-      module _ {m₁ : List ℕ} {r : ℕ} (tried : Tried m (stateOf m) clock s m₁ r) where
+      module _ {m₁ : List ℕ} {r : ℕ} (tried : Tried m (ownRenew (stateOf m)) (stateOf m) clock s m₁ r) where
         pub state-full : (r ≡ 0 → ⊥) → Called (state s) m m₁ r
         state-full ne = let q = tried-refused tried refl ne in state-played (q .0) (rw (q .1) kept)
 
@@ -170,11 +172,11 @@ module _ {m : List ℕ} (kept : Kept m) (s : List ℕ) {wrong : ℕ} (ew : wrong
 
         module _ {m₂ : List ℕ} (z : r ≡ 0) (a : Atoms m₁ s (length s) m₂) where
           pub state-due : {first : Bool} → first ≡ eqb (begunWord m) 0 → Due m₂ first
-          state-due ef = due kept (state-timely .0 .1) new-bytes (has-room tried z) (tried-moved tried z) a ef
+          state-due ef = due kept (state-timely .0 .1) new-bytes (has-room tried z) (tried-moved tried z) a refl ef
 
           pub state-done : {m₃ : List ℕ} → Alike m₂ m₃ × Tables m₃ → Called (state s) m m₃ 0
           state-done renewed =
-              let p = played kept (state-timely .0 .1) new-bytes (has-room tried z) (tried-moved tried z) a refl in
+              let p = played kept (state-timely .0 .1) new-bytes (has-room tried z) (tried-moved tried z) a refl refl in
               let q = advanced-renewed p (state-due refl .sound) renewed in
               state-played (q .0) (q .1)
 
@@ -215,7 +217,10 @@ module _ {m : List ℕ} (kept : Kept m) (t : ℕ) (s : List ℕ) {late : ℕ} (e
           (ap (λ (bs : List Bool). record { clock = t; atoms = bs } ∷ snapOf t s ∷ []) (old-atoms (kept .sound))) a kept′
 
       abbrev between : State
-      between = stepOf m (stateOf m) t (atomsOf m)
+      between = timeStep m t (atomsOf m)
+
+      own : between .way ≡ stateOf m .way
+      own = step-way-by (ownRenew (stateOf m)) (rowsOf m) (stateOf m) (snapOf t (atomsOf m))
 
       leads : crowded between ≡ false → Leads m snaps between t s
       unfolding play
@@ -237,7 +242,7 @@ module _ {m : List ℕ} (kept : Kept m) (t : ℕ) (s : List ℕ) {late : ℕ} (e
           roomy : crowded between ≡ false
           roomy = fails-by (crowded between) (λ f. let e = tried .between f .0 in absurd (omega arith))
 
-          last : Tried m between t s m₁ r
+          last : Tried m (ownRenew between) between t s m₁ r
           last = tried .last roomy
 
           pub stamped-roomy : (length m₁ ≡ SIZE) × (length s ≤ MOST-ATOMS)
@@ -245,10 +250,10 @@ module _ {m : List ℕ} (kept : Kept m) (t : ℕ) (s : List ℕ) {late : ℕ} (e
 
           module _ {m₂ : List ℕ} (a : Atoms m₁ s (length s) m₂) where
             pub stamped-due : {first : Bool} → first ≡ eqb (begunWord m) 0 → Due m₂ first
-            stamped-due ef = due kept small bytes (has-room last z) (tried-moved last z) a ef
+            stamped-due ef = due kept small bytes (has-room last z) (tried-moved last z) a own ef
 
             pub stamped-done : {m₃ : List ℕ} → Alike m₂ m₃ × Tables m₃ → Called (stamped t s) m m₃ 0
             stamped-done renewed =
-                let p = played kept small bytes (has-room last z) (tried-moved last z) a (leads roomy) in
+                let p = played kept small bytes (has-room last z) (tried-moved last z) a own (leads roomy) in
                 let q = advanced-renewed p (stamped-due refl .sound) renewed in
                 stamped-played (q .0) (q .1)

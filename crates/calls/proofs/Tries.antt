@@ -13,22 +13,22 @@ use Rattle.pmtl.specs.Book.{mapRow}
 use Rattle.pmtl.specs.Monitor.{valueRule}
 use Rattle.memory.specs.Layout.{SET, VALUES}
 use Rattle.memory.specs.Memory.{rowCount, kindAt, slotAt, rowOf, isOne}
-use Rattle.set_change.specs.Change.{bothOf}
+use Rattle.set_change.specs.Change.{spannedIf, bothOf}
 use Rattle.calls.specs.declared.RowPlan.{RowPlan}
-use Rattle.calls.specs.Private.{setAhead, heldIn, setNext, modeAt, modeNext, setAfter, rowPlan, modePut, RowTried, Timely, Slot}
+use Rattle.calls.specs.Private.{renewOver, setAhead, Leading, heldIn, setNext, modeAt, modeNext, setAfter, rowPlan, modePut, RowTried, Timely, Slot}
 use Rattle.calls.proofs.Rules.{no-set, temporal-held}
 use Rattle.calls.proofs.Ahead.{rule-both}
 
-module _ {m : List ℕ} {c : ℕ} (timely : Timely m c) (atoms modes : List ℕ) {r : ℕ} (inside : r < rowCount m) {kind : ℕ} (ek : kind ≡ kindAt m r) where
+module _ {m : List ℕ} {spans : Bool} {c : ℕ} (timely : Timely m c) (atoms : List ℕ) {modes : List ℕ} {r : ℕ} (leads : Leading m modes spans r) (inside : r < rowCount m) {kind : ℕ} (ek : kind ≡ kindAt m r) where
   -- ---- a row that is not temporal
   module _ (plain : kind < 7) where
     low : kindAt m r < 7
     low = rw (← ek) plain
 
-    no-next : setNext m c modes r ≡ []
-    no-next = no-set c (setAhead m c modes r) (heldIn m) m r low
+    no-next : setNext m spans c modes r ≡ []
+    no-next = no-set (renewOver m spans) c (setAhead m c modes r) (heldIn m) m r low
 
-    pub tried-plain : {v : Bool} → v ≡ valueRule (map isOne atoms) false (mapRow (heldIn m) (rowOf m r)) → {m′ : List ℕ} → m′ ≡ set m (VALUES + r) (bitOf v) → RowTried m c atoms modes r m′ modes true
+    pub tried-plain : {v : Bool} → v ≡ valueRule (map isOne atoms) false (mapRow (heldIn m) (rowOf m r)) → {m′ : List ℕ} → m′ ≡ set m (VALUES + r) (bitOf v) → RowTried m spans c atoms modes r m′ modes true
     unfolding has modePut
     tried-plain ev em =
         record {
@@ -51,20 +51,20 @@ module _ {m : List ℕ} {c : ℕ} (timely : Timely m c) (atoms modes : List ℕ)
     pub tried-inside : slot < 32
     tried-inside = omega (arith, tried-slot .inside, timely .sound .book .temporal-few)
 
-    next-set : setNext m c modes r ≡ setAfter m c (modeNext m modes r) slot
-    next-set = rule-both (timely .sound) (timely .clock) inside high modes (heldIn m) ∙ ap (setAfter m c (modeNext m modes r)) (sym es)
+    next-set : setNext m spans c modes r ≡ setAfter m c (modeNext m spans modes r) slot
+    next-set = rule-both (timely .sound) (timely .clock) inside high spans modes leads (heldIn m) ∙ ap (setAfter m c (modeNext m spans modes r)) (sym es)
 
-    module _ {plan : RowPlan} {before : ℕ} (eb : before ≡ getD modes slot 0) (planned : plan ≡ rowPlan m c (bothOf before (modeAt m r)) slot) where
-      ep : plan ≡ rowPlan m c (modeNext m modes r) slot
-      ep = planned ∙ ap (λ (x : ℕ). rowPlan m c (bothOf x (modeAt m r)) slot) (eb ∙ ap (λ (j : ℕ). getD modes j 0) es)
+    module _ {plan : RowPlan} {before : ℕ} (eb : before ≡ getD modes slot 0) (planned : plan ≡ rowPlan m c (spannedIf spans (bothOf before (modeAt m r))) slot) where
+      ep : plan ≡ rowPlan m c (modeNext m spans modes r) slot
+      ep = planned ∙ ap (λ (x : ℕ). rowPlan m c (spannedIf spans (bothOf x (modeAt m r))) slot) (eb ∙ ap (λ (j : ℕ). getD modes j 0) es)
 
-      room-right : plan .room ≡ fits SET (setNext m c modes r)
+      room-right : plan .room ≡ fits SET (setNext m spans c modes r)
       room-right = ap (λ (p : RowPlan). p .room) ep ∙ sym (ap (fits SET) next-set)
 
-      here-right : plan .here ≡ has (setNext m c modes r) c
+      here-right : plan .here ≡ has (setNext m spans c modes r) c
       here-right = ap (λ (p : RowPlan). p .here) ep ∙ sym (ap (λ (s : Runs). has s c) next-set)
 
-      pub tried-temporal : plan .room ≡ true → {v : Bool} → v ≡ cond (eqb kind 7) (not (plan .here)) (plan .here) → {m′ : List ℕ} → m′ ≡ set m (VALUES + r) (bitOf v) → RowTried m c atoms modes r m′ (set modes slot (plan .mode)) true
+      pub tried-temporal : plan .room ≡ true → {v : Bool} → v ≡ cond (eqb kind 7) (not (plan .here)) (plan .here) → {m′ : List ℕ} → m′ ≡ set m (VALUES + r) (bitOf v) → RowTried m spans c atoms modes r m′ (set modes slot (plan .mode)) true
       unfolding modePut
       tried-temporal e ev em =
           let row = timely .sound .book .rows r inside in
@@ -73,10 +73,10 @@ module _ {m : List ℕ} {c : ℕ} (timely : Timely m c) (atoms modes : List ℕ)
             value-put = λ z.
                 em ∙ ap (λ (b : Bool). set m (VALUES + r) (bitOf b))
                 (ev ∙ ap₂ (λ (k : ℕ) (b : Bool). cond (eqb k 7) (not b) b) ek here-right
-                ∙ sym (temporal-held (map isOne atoms) (has (setNext m c modes r) c) (heldIn m) m r high (row .kind)));
+                ∙ sym (temporal-held (map isOne atoms) (has (setNext m spans c modes r) c) (heldIn m) m r high (row .kind)));
             mode-put = λ z. ap₂ (λ (j k : ℕ). set modes j k) es (ap (λ (p : RowPlan). p .mode) ep) ∙ sym (rw (le-leb 7 (kindAt m r) high));
             none = λ z. absurd (true≢false z);
           }
 
-      pub tried-none : plan .room ≡ false → RowTried m c atoms modes r m modes false
+      pub tried-none : plan .room ≡ false → RowTried m spans c atoms modes r m modes false
       tried-none e = record { room-is = sym e ∙ room-right; value-put = λ z. absurd (true≢false (sym z)); mode-put = λ z. absurd (true≢false (sym z)); none = λ z. refl }

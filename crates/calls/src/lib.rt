@@ -12,12 +12,12 @@ ghost use Rattle.pmtl.specs.Book.{start, stop, some, mapRow};
 ghost use Rattle.pmtl.specs.Monitor.{fullest, valueRule};
 ghost use Rattle.pmtl.specs.Calls.{Call, timeRefusal, stateRefusal};
 ghost use Rattle.memory.specs.Layout.{SET, VALUES, SIZE};
-ghost use Rattle.memory.specs.Memory.{rowCount, widthWord, temporals, kindAt, setStart, slotWords, movesAt, rangeAt, rowOf, rowsOf, stateOf, atomsOf, isOne};
+ghost use Rattle.memory.specs.Memory.{rowCount, clockOf, widthWord, temporals, kindAt, setStart, slotWords, movesAt, rangeAt, rowOf, rowsOf, stateOf, atomsOf, isOne};
 ghost use Rattle.memory.specs.Tables.{Tables};
 ghost use Rattle.memory.specs.Kept.{BookKept, Sound, Kept};
 ghost use Rattle.memory.specs.Alike.{Alike};
-ghost use Rattle.set_change.specs.Change.{changed, bothOf};
-ghost use Rattle.calls.specs.Private.{ahead, atomsFor, heldIn, Named, modeAt, setAfter, rowPlan, RowTried, clocked, Bounded, Slot, Planned, Timely, Held, Roomy, Fit, Fitting, Written, Atoms, Tried, TriedBoth, Due};
+ghost use Rattle.set_change.specs.Change.{changed, spannedIf, bothOf};
+ghost use Rattle.calls.specs.Private.{ahead, atomsFor, ownRenew, spansIn, renewOver, countsFrom, heldIn, Named, modeAt, setAfter, rowPlan, Unplanned, Leading, RowTried, clocked, Bounded, Slot, Planned, Timely, Held, Roomy, Fit, Fitting, Written, Atoms, Tried, TriedBoth, Due};
 ghost use Rattle.calls.specs.Called.{Called};
 ghost use Rattle.book.specs.Rows.{HISTORICALLY};
 ghost use Rattle.numbers.specs.Limits.{LAST-TIME, MOST-ATOMS, MOST-ROWS, MOST-TEMPORALS};
@@ -109,15 +109,30 @@ fn mode_of(monitor: &[u64; SIZE], row: usize) -> u8
     set_change::mode(first, second)
 }
 
-// Where a row's range begins, counted from a clock.
-fn start_of(monitor: &[u64; SIZE], clock: u64, row: usize) -> u64
-    requires { ⌜ Bounded (now monitor) clock row ⌝ }
-    ensures { λ r. ⌜ r ≡ start (rangeAt (now (monitor .entry)) row) clock ⌝ }
+// The first instant that a change at a clock counts from: where it spans a stretch that after the clock before, which stands in the
+// memory until the call is carried out; else the clock itself.
+fn counts_from(monitor: &[u64; SIZE], clock: u64, mode: u8) -> u64
+    ensures { λ r. ⌜ r ≡ countsFrom (now (monitor .entry)) clock mode ⌝ }
 {
-    clock + memory::lower_at(monitor, row)
+    if mode < set_change::STAYS_AND_SPANS {
+        return clock;
+    }
+    let before = memory::clock(monitor);
+    if before < clock {
+        return before + 1;
+    }
+    clock
 }
 
-// And where it ends.
+// Where a row's range begins, counted from there.
+fn start_of(monitor: &[u64; SIZE], clock: u64, row: usize, mode: u8) -> u64
+    requires { ⌜ Bounded (now monitor) clock row ⌝ }
+    ensures { λ r. ⌜ r ≡ start (rangeAt (now (monitor .entry)) row) (countsFrom (now (monitor .entry)) clock mode) ⌝ }
+{
+    counts_from(monitor, clock, mode) + memory::lower_at(monitor, row)
+}
+
+// And where it ends, counted from the clock.
 fn stop_of(monitor: &[u64; SIZE], clock: u64, row: usize) -> u64
     requires { ⌜ Bounded (now monitor) clock row ⌝ }
     ensures { λ r. ⌜ r ≡ stop (rangeAt (now (monitor .entry)) row) clock ⌝ }
@@ -131,11 +146,18 @@ fn stop_of(monitor: &[u64; SIZE], clock: u64, row: usize) -> u64
 
 // The plan of one temporal row, most of which stay as they are, where the values of the rows below it are new in the table. `before` is
 // the change that a step before this one planned in the same call, and STAYS if there is none: the plan is of both.
-fn plan_row(monitor: &[u64; SIZE], clock: u64, slot: usize, row: usize, before: u8) -> RowPlan
+fn plan_row(
+    monitor: &[u64; SIZE],
+    clock: u64,
+    slot: usize,
+    row: usize,
+    before: u8,
+    spans: bool,
+) -> RowPlan
     requires { ⌜ Slot (now monitor) clock slot row ⌝ }
-    ensures { λ r. ⌜ r ≡ rowPlan (now (monitor .entry)) clock (bothOf before (modeAt (now (monitor .entry)) row)) slot ⌝ }
+    ensures { λ r. ⌜ r ≡ rowPlan (now (monitor .entry)) clock (spannedIf spans (bothOf before (modeAt (now (monitor .entry)) row))) slot ⌝ }
 {
-    let mode = set_change::both(before, mode_of(monitor, row));
+    let mode = set_change::next(before, mode_of(monitor, row), spans);
     let set = set_at(monitor, slot);
     if mode == set_change::STAYS {
         return RowPlan {
@@ -144,7 +166,7 @@ fn plan_row(monitor: &[u64; SIZE], clock: u64, slot: usize, row: usize, before: 
             room: true,
         };
     }
-    let start = start_of(monitor, clock, row);
+    let start = start_of(monitor, clock, row, mode);
     let stop = stop_of(monitor, clock, row);
     let room = set_change::room_for(set, mode, start, stop, clock);
     let here = set_change::will_have(set, mode, start, stop, clock);
@@ -174,10 +196,11 @@ fn try_row(
     atoms: &[u8],
     row: usize,
     modes: &mut [u8],
+    spans: bool,
 ) -> bool
     requires { ⌜ Timely (now monitor) clock ⌝ }
-    requires { ⌜ (row < rowCount (now monitor)) × (length (now modes) ≡ MOST-TEMPORALS) × Named (now monitor) (now atoms) row ⌝ }
-    ensures { λ r. ⌜ RowTried (now (monitor .entry)) clock (now (atoms .entry)) (now (modes .entry)) row (now (monitor .exit)) (now (modes .exit)) r ⌝ }
+    requires { ⌜ (row < rowCount (now monitor)) × (length (now modes) ≡ MOST-TEMPORALS) × Named (now monitor) (now atoms) row × Leading (now monitor) (now modes) spans row ⌝ }
+    ensures { λ r. ⌜ RowTried (now (monitor .entry)) spans clock (now (atoms .entry)) (now (modes .entry)) row (now (monitor .exit)) (now (modes .exit)) r ⌝ }
 {
     let kind = memory::kind_at(monitor, row);
     if kind < HISTORICALLY {
@@ -186,7 +209,7 @@ fn try_row(
         return true;
     }
     let slot = memory::slot_at(monitor, row);
-    let plan = plan_row(monitor, clock, slot, row, modes[slot]);
+    let plan = plan_row(monitor, clock, slot, row, modes[slot], spans);
     let room = plan.room;
     if room {
         modes[slot] = plan.mode;
@@ -208,6 +231,18 @@ fn visits(monitor: &[u64; SIZE], row: usize, fresh: bool) -> bool
     }
 }
 
+// Whether a step counts the whole stretch since the clock before: if a state lasts. A step with fresh atoms is made at a clock at which
+// the old ones were counted already.
+fn counts_stretch(monitor: &[u64; SIZE], fresh: bool) -> bool
+    ensures { λ r. ⌜ r ≡ spansIn (now (monitor .entry)) fresh ⌝ }
+{
+    if fresh {
+        false
+    } else {
+        memory::is_lasting(monitor)
+    }
+}
+
 // The plan of a step, from row 0 upward, up to the first row whose set lacks room, over the modes that the steps before it left. A step
 // with no fresh atoms has no bytes for them.
 fn plan_call(
@@ -217,15 +252,16 @@ fn plan_call(
     fresh: bool,
     modes: &mut [u8],
 ) -> bool
-    requires { ⌜ Sound (now monitor) × (clock ≤ LAST-TIME) × (fresh ≡ false → Kept (now monitor)) ⌝ }
+    requires { ⌜ Sound (now monitor) × (clock ≤ LAST-TIME) × (fresh ≡ false → Kept (now monitor) × Unplanned (now monitor) (now modes)) ⌝ }
     requires { ⌜ (length (now modes) ≡ MOST-TEMPORALS) × (fresh ≡ true → widthWord (now monitor) ≤ length (now atoms)) ⌝ }
-    ensures { λ r. ⌜ Planned (now (monitor .entry)) (ahead (now (monitor .entry)) clock (now (modes .entry))) clock (atomsFor (now (monitor .entry)) fresh (now (atoms .entry))) (now (monitor .exit)) r (now (modes .exit)) ⌝ }
+    ensures { λ r. ⌜ Planned (now (monitor .entry)) (renewOver (now (monitor .entry)) (spansIn (now (monitor .entry)) fresh)) (ahead (now (monitor .entry)) clock (now (modes .entry))) clock (atomsFor (now (monitor .entry)) fresh (now (atoms .entry))) (now (monitor .exit)) r (now (modes .exit)) ⌝ }
 {
+    let spans = counts_stretch(monitor, fresh);
     let count = memory::row_count(monitor);
     let mut row = 0;
     while row < count {
         if visits(monitor, row, fresh) {
-            if try_row(monitor, clock, atoms, row, modes) {
+            if try_row(monitor, clock, atoms, row, modes, spans) {
                 row += 1;
             } else {
                 return false;
@@ -267,7 +303,7 @@ fn commit_slot(monitor: &mut [u64; SIZE], clock: u64, slot: usize, mode: u8)
         return;
     }
     let row = memory::owner_at(monitor, slot);
-    let start = start_of(monitor, clock, row);
+    let start = start_of(monitor, clock, row, mode);
     let stop = stop_of(monitor, clock, row);
     change_set(monitor, slot, mode, start, stop, clock);
 }
@@ -310,8 +346,8 @@ fn put_atoms(monitor: &mut [u64; SIZE], atoms: &[u8])
 // lacks room, the values are worked out anew from what did not change: these are the old ones.
 fn advance(monitor: &mut [u64; SIZE], clock: u64, atoms: &[u8], fresh: bool) -> u64
     requires { ⌜ Kept (now monitor) × (clock ≤ LAST-TIME) ⌝ }
-    requires { ⌜ (fresh ≡ true → widthWord (now monitor) ≤ length (now atoms)) ⌝ }
-    ensures { λ r. ⌜ Tried (now (monitor .entry)) (stateOf (now (monitor .entry))) clock (atomsFor (now (monitor .entry)) fresh (now (atoms .entry))) (now (monitor .exit)) r ⌝ }
+    requires { ⌜ (fresh ≡ true → (widthWord (now monitor) ≤ length (now atoms)) × (clock ≡ clockOf (now monitor))) ⌝ }
+    ensures { λ r. ⌜ Tried (now (monitor .entry)) (ownRenew (stateOf (now (monitor .entry)))) (stateOf (now (monitor .entry))) clock (atomsFor (now (monitor .entry)) fresh (now (atoms .entry))) (now (monitor .exit)) r ⌝ }
 {
     let mut modes = [0u8; MOST_TEMPORALS];
     if plan_call(monitor, clock, atoms, fresh, &mut modes) {

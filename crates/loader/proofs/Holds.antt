@@ -13,7 +13,8 @@ use Rattle.numset.specs.Runs.{runs, runsTo}
 use Rattle.lists.proofs.Tests.{lt-or-ge}
 use Rattle.numset.proofs.Packs.{good-zeros}
 use Rattle.pmtl.specs.Book.{widthOf}
-use Rattle.pmtl.specs.Monitor.{initial}
+use Rattle.pmtl.specs.Sets.{Way}
+use Rattle.pmtl.specs.Monitor.{initialIn}
 use Rattle.memory.specs.Layout.{ROWS, ROW, OPERANDS, PROPERTIES, ATOMS, OWNERS, SET, SIZE, VALUES, TOLD, EARLY, SETTLED, MOVES}
 use Rattle.lists.specs.Lists.{part, listed, put}
 use Rattle.memory.specs.Memory.{assumeCount, guaranteeCount, kindAt, argAt, lowerAt, upperAt, startAt, slotAt, operandsOf, ownerAt, setStart, slotWords, rowOf, rowsOf, bookOf, isOne, setOf, stateOf}
@@ -25,6 +26,7 @@ use Rattle.book.specs.Judging.{kindIn, argIn, lowerIn, upperIn, rowsIn, tempora
 use Rattle.book.proofs.Accepted.{form, range, temporals-fit, operands-taken, operands-there, operand-below, assume-below, guarantee-below, form-arg, form-kind, lower-small, upper-small}
 use Rattle.loader.specs.Private.{reach, widthIn, slotIn, rowsPut, headPut, stored, Rowed, Accepted, Holds}
 use Rattle.lists.proofs.Parts.{word-at, part-length, part-at, part-is, part-zeros}
+use Rattle.loader.proofs.Empty.{way-read, way-small}
 use Rattle.loader.proofs.Forms.{row-local, row-width, width-listed, width-reaches, width-small}
 use Rattle.loader.proofs.Puts.{temporals-mono, slot-fits}
 use Rattle.loader.proofs.Rows.{Temporal, temporal-of}
@@ -55,7 +57,7 @@ runs-zeros : (n : ℕ) → runs (replicate (suc n) 0) ≡ []
 unfolding runsTo
 runs-zeros n = refl
 
-module _ (s : Sections) (m : List ℕ) (ok : Accepted s) (st : Stands s m) where
+module _ (way : Way) (s : Sections) (m : List ℕ) (ok : Accepted s) (st : Stands way s m) where
   few : rowsIn s ≤ 128
   few = let f = ok .few .rows in omega arith
 
@@ -178,13 +180,13 @@ module _ (s : Sections) (m : List ℕ) (ok : Accepted s) (st : Stands s m) where
       rw (le-leb 7 (kindIn (s .rows) r) k, slot-some r h k, no-sets (temporalsIn (s .rows) r) (omega arith)) (runs-zeros 128))
       (lt-or-ge (kindIn (s .rows) r) 7))
 
-  holds-state : stateOf m ≡ initial (bookIn s .rows)
-  unfolding stateOf initial bookIn
+  holds-state : stateOf m ≡ initialIn way (bookIn s .rows)
+  unfolding stateOf initialIn bookIn
   holds-state =
       let n = narrow in
       let atoms-are =
       listed-all (λ i. isOne (getD m (ATOMS + i) 0)) false (widthIn (s .rows) (rowsIn s)) (λ i h. ap isOne (st .atom i (omega arith))) in
-      rw (st .begun, st .clock, st .width, st .count, atoms-are, listed-all (setOf m) [] (rowsIn s) sets-empty, width-is, listed-length (rowIn s) (rowsIn s))
+      rw (way-read way m (st .way-word), st .begun, st .clock, st .width, st .count, atoms-are, listed-all (setOf m) [] (rowsIn s) sets-empty, width-is, listed-length (rowIn s) (rowsIn s))
 
   -- ---- kept
   owner-of : (j : ℕ) → j < temporalsIn (s .rows) (rowsIn s) → (t : Temporal (s .rows) (rowsIn s) j) → ownerAt m j ≡ t .row
@@ -251,7 +253,7 @@ module _ (s : Sections) (m : List ℕ) (ok : Accepted s) (st : Stands s m) where
   zero-from : (i : ℕ) → VALUES ≤ i → getD m i 0 ≡ 0
   zero-from i h = let t = room in st .owners-rest i (omega arith)
 
-  pub holds : Holds s m
+  pub holds : Holds way (bookIn s) m
   holds =
       let n = narrow in
       record {
@@ -260,6 +262,7 @@ module _ (s : Sections) (m : List ℕ) (ok : Accepted s) (st : Stands s m) where
         sound = record {
           book = book-kept;
           tidy = tidy;
+          way = way-small way m (st .way-word);
           begun = omega (arith, st .begun);
           clock = omega (arith, st .clock);
           atoms = λ i h. omega (arith, st .width, st .atom i (omega (arith, st .width)));
@@ -275,9 +278,9 @@ module _ (s : Sections) (m : List ℕ) (ok : Accepted s) (st : Stands s m) where
       }
 
 -- ---- what `store` writes, one after the other
-pub store-holds : (s : Sections) → Accepted s → (m : List ℕ) {m₁ m₂ m₃ m₄ m₅ m₆ : List ℕ} {width slots : ℕ} → length m ≡ SIZE → m₁ ≡ replicate (length m) 0
+pub store-holds : (way : Way) (s : Sections) → Accepted s → (m : List ℕ) {m₁ m₂ m₃ m₄ m₅ m₆ : List ℕ} {width slots : ℕ} → length m ≡ SIZE → m₁ ≡ replicate (length m) 0
     → m₂ ≡ put m₁ OPERANDS (s .operands) → m₃ ≡ put m₂ PROPERTIES (s .assumes) → m₄ ≡ put m₃ (PROPERTIES + length (s .assumes)) (s .guarantees)
     → m₅ ≡ rowsPut (s .rows) m₄ (rowsIn s) → width ≡ widthIn (s .rows) (rowsIn s) → slots ≡ temporalsIn (s .rows) (rowsIn s)
-    → m₆ ≡ headPut m₅ (rowsIn s) width slots (length (s .assumes)) (length (s .guarantees)) → Holds s m₆
+    → m₆ ≡ headPut m₅ way (rowsIn s) width slots (length (s .assumes)) (length (s .guarantees)) → Holds way (bookIn s) m₆
 unfolding stored
-store-holds s ok m l e₁ e₂ e₃ e₄ e₅ ew et e₆ = rw (e₆, e₅, e₄, e₃, e₂, e₁, l, ew, et) (holds s (stored s) ok (stored-stands s ok))
+store-holds way s ok m l e₁ e₂ e₃ e₄ e₅ ew et e₆ = rw (e₆, e₅, e₄, e₃, e₂, e₁, l, ew, et) (holds way s (stored way s) ok (stored-stands way s ok))

@@ -5,3 +5,4 @@ pub mod Rows
 pub mod Stands
 pub mod Holds
 pub mod Loads
+pub mod Nested

@@ -1,27 +1,31 @@
 -- What loading leaves, accepted and refused. Assumes nothing.
 use Prim.Native.Nat.{ℕ}
-use mathlib.Core.Path.{_≡_, sym, ap, _∙_}
+use mathlib.Core.Path.{_≡_, refl, sym, ap, ap₂, _∙_}
+use mathlib.Core.Bool.{Bool, true, false}
 use mathlib.Core.List.{List}
-use lib.ListN.{replicate, length-replicate}
-use Rattle.lists.proofs.Parts.{getD-zeros}
-use Rattle.memory.specs.Layout.{SIZE}
+use Rattle.pmtl.specs.Book.{Book, emptyBook}
+use Rattle.pmtl.specs.Sets.{Way}
+use Rattle.pmtl.specs.Monitor.{State, initialIn}
+use Rattle.memory.specs.Memory.{rowsOf, bookOf, wayOf, stateOf}
+use Rattle.memory.specs.Kept.{Sound}
 use Rattle.memory.specs.Tables.{Tables}
 use Rattle.memory.specs.Alike.{Alike}
 use Rattle.memory.proofs.Alike.{alike-sound, alike-book, alike-state}
-use Rattle.book.specs.declared.strict.Loading.{Loading}
-use Rattle.book.specs.Judging.{Loaded, loaded}
+use Rattle.book.specs.declared.loading.Loading.{Loading}
+use Rattle.book.specs.Judging.{Loaded, bookIn, loaded}
 use Rattle.book.specs.Placing.{partsOf, Placed, PlacedBy}
-use Rattle.book.specs.Strict.{loadedBy}
+use Rattle.book.specs.Strict.{roomed}
+use Rattle.book.specs.Loading.{wayIn, takes, loadedBy}
 use Rattle.book.proofs.Placing.{parts-few, accepted, accepted-book}
-use Rattle.book.proofs.Excess.{accepted-by, refused-by}
+use Rattle.book.proofs.Excess.{accepted-roomed, refused-roomed}
+use Rattle.book.proofs.Admitted.{taken-stays, nested-refused}
 use Rattle.loader.specs.Loading.{Loads}
 use Rattle.loader.specs.Private.{Accepted, Holds, Stored}
-use Rattle.loader.proofs.Empty.{empty-sound, empty-unused, empty-book, empty-state}
 
 module _ (way : Loading) (words : List ℕ) (number n o a g : ℕ) (p : PlacedBy way words number n o a g) where
   -- a book that is accepted is accepted in ordinary loading, as the same book
-  same-book : number ≡ 0 → loadedBy way words ≡ loaded words
-  same-book e = accepted-by way words (sym (p .number-is) ∙ e)
+  same-book : number ≡ 0 → roomed way (loaded words) ≡ loaded words
+  same-book e = accepted-roomed way (loaded words) (sym (p .number-is) ∙ e)
 
   placed : number ≡ 0 → Placed words number n o a g
   placed e = record { number-is = p .number-is ∙ ap (λ (l : Loaded). l .number) (same-book e); counted = p .counted; none = p .none }
@@ -30,31 +34,44 @@ module _ (way : Loading) (words : List ℕ) (number n o a g : ℕ) (p : PlacedBy
   placed-accepted e = record { few = parts-few words n o a g (p .counted e); good = accepted words number n o a g (placed e) e }
 
   module _ (m : List ℕ) where
-    pub stored-accepted : number ≡ 0 → Holds (partsOf words n o a g) m → Stored way words m number
-    stored-accepted e h =
-        let b = same-book e ∙ accepted-book words number n o a g (placed e) e in
-        record { number = p .number-is; book = rw b (h .book); state = rw b (h .state); sound = h .sound; unused = h .unused }
+    pub stored-accepted : number ≡ 0 → Holds (wayIn way) (bookIn (partsOf words n o a g)) m → Stored way words m number
+    stored-accepted e h = record { number = p .number-is; held = rw (same-book e ∙ accepted-book words number n o a g (placed e) e) h }
 
-    pub stored-refused : (number ≡ 0 → ⊥) → (old : ℕ) → old ≡ SIZE → m ≡ replicate old 0 → Stored way words m number
-    stored-refused no-0 old l e =
-        let b = refused-by way words (λ e. no-0 (p .number-is ∙ e)) in
-        let z : m ≡ replicate SIZE 0 = e ∙ ap (λ (k : ℕ). replicate k 0) l in
-        let long = length-replicate {A = ℕ} SIZE 0 in
-        let zeros = getD-zeros SIZE in
-        record {
-          number = p .number-is;
-          book = rw (b, z) (empty-book (replicate SIZE 0) long zeros);
-          state = rw (b, z) (empty-state (replicate SIZE 0) long zeros);
-          sound = rw z (empty-sound (replicate SIZE 0) long zeros);
-          unused = rw z (empty-unused (replicate SIZE 0) long zeros);
-        }
+    pub stored-refused : (number ≡ 0 → ⊥) → Holds (wayIn way) emptyBook m → Stored way words m number
+    stored-refused no-0 h = record { number = p .number-is; held = rw (refused-roomed way words (λ e. no-0 (p .number-is ∙ e))) h }
 
--- once the tables are worked out, too
-pub loads-worked : {way : Loading} {words m m′ : List ℕ} {r : ℕ} → Stored way words m r → Alike m m′ → Tables m′ → Loads way words m′ r
-loads-worked st alike tables =
+-- ---- once the tables are worked out, too
+module _ {w : Way} {b : Book} {m m′ : List ℕ} (h : Holds w b m) (alike : Alike m m′) where
+  pub worked-sound : Sound m′
+  worked-sound = alike-sound (h .sound) alike
+
+  worked-book : bookOf m′ ≡ b
+  worked-book = alike-book (h .sound) alike ∙ h .book
+
+  worked-state : stateOf m′ ≡ initialIn w (b .rows)
+  worked-state = alike-state (h .sound) alike ∙ h .state
+
+  -- whether the monitor's way takes its book
+  worked-taken : takes (wayOf m′) (rowsOf m′) ≡ takes w (b .rows)
+  unfolding stateOf initialIn bookOf
+  worked-taken = ap₂ takes (ap (λ (st : State). st .way) worked-state) (ap (λ (x : Book). x .rows) worked-book)
+
+worked : (way : Loading) {b : Book} {m m′ : List ℕ} → Holds (wayIn way) b m → Alike m m′ → Tables m′ → (words : List ℕ) {l : Loaded} {r : ℕ} → loadedBy way words ≡ l → b ≡ l .book
+    → r ≡ l .number → Loads way words m′ r
+worked way h alike tables words is eb er =
     record {
-      number = st .number;
-      book = alike-book (st .sound) alike ∙ st .book;
-      state = alike-state (st .sound) alike ∙ st .state;
-      kept = record { sound = alike-sound (st .sound) alike; tables = tables };
+      number = rw is er;
+      book = rw is (worked-book h alike ∙ eb);
+      state = rw is (worked-state h alike ∙ ap (λ (x : Book). initialIn (wayIn way) (x .rows)) eb);
+      kept = record { sound = worked-sound h alike; tables = tables };
     }
+
+module _ {way : Loading} {words m m′ : List ℕ} {r : ℕ} (st : Stored way words m r) (alike : Alike m m′) {t : Bool} (et : t ≡ takes (wayOf m′) (rowsOf m′)) where
+  judged-so : {z : Bool} → t ≡ z → takes (wayIn way) (roomed way (loaded words) .book .rows) ≡ z
+  judged-so e = sym (et ∙ worked-taken (st .held) alike) ∙ e
+
+  pub loads-taken : Tables m′ → t ≡ true → Loads way words m′ r
+  loads-taken tables e = worked way (st .held) alike tables words (taken-stays (wayIn way) (roomed way (loaded words)) (judged-so e)) refl (st .number)
+
+  pub loads-nested : {m₁ m₂ : List ℕ} → t ≡ false → Holds (wayIn way) emptyBook m₁ → Alike m₁ m₂ → Tables m₂ → Loads way words m₂ 17
+  loads-nested e empty alike₂ tables = worked way empty alike₂ tables words (nested-refused (wayIn way) (roomed way (loaded words)) (judged-so e)) refl refl

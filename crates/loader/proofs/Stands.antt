@@ -7,20 +7,22 @@ use native.Mathlib.Omega.{arith}
 use lib.ListN.{length, getD, set, replicate, length-set, length-replicate, getD-replicate, List·getD-append, List·getD-eq-default}
 use lib.Seq.{length-paste, getD-append-add, getD-set-same, getD-set-other}
 use Rattle.lists.proofs.Tests.{lt-or-ge}
+use Rattle.pmtl.specs.Sets.{Way}
 use Rattle.memory.specs.Layout.{ROWS, ROW, OPERANDS, PROPERTIES, ATOMS, OWNERS, SIZE}
-use Rattle.memory.specs.Memory.{rowCount, begunWord, clockOf, widthWord, temporals, assumeCount, guaranteeCount, ownerAt}
+use Rattle.memory.specs.Memory.{rowCount, begunWord, clockOf, widthWord, temporals, assumeCount, guaranteeCount, wayWord, ownerAt}
 use Rattle.book.specs.Reading.{Sections}
 use Rattle.book.specs.Judging.{kindIn, rowsIn, temporalsIn}
 use Rattle.book.proofs.Accepted.{temporals-fit}
-use Rattle.loader.specs.Private.{widthIn, rowWords, rowsPut, headPut, linksPut, stored, Accepted}
+use Rattle.loader.specs.Private.{wordFor, widthIn, rowWords, rowsPut, headPut, linksPut, stored, Accepted}
 use Rattle.lists.specs.Lists.{put}
 use Rattle.lists.proofs.Parts.{word-at}
 use Rattle.lists.proofs.Pastes.{paste-below, paste-at, paste-above}
 use Rattle.loader.proofs.Rows.{rows-length, rows-before, rows-after, owners-after, row-word, row-owner}
 
 -- every word of a memory that holds the sections' book and a fresh monitor
-pub record Stands (s : Sections) (m : List ℕ) : Type 0 where
+pub record Stands (way : Way) (s : Sections) (m : List ℕ) : Type 0 where
   pub long : length m ≡ SIZE
+  pub way-word : wayWord m ≡ wordFor way
   pub count : rowCount m ≡ rowsIn s
   pub begun : begunWord m ≡ 0
   pub clock : clockOf m ≡ 0
@@ -55,7 +57,7 @@ module _ (m : List ℕ) (at : ℕ) (xs : List ℕ) (h : at + length xs ≤ lengt
       (lt-or-ge i (length xs))
 
 -- ---- the words before the rows
-module _ (m : List ℕ) (long : length m ≡ SIZE) (n w t a g : ℕ) where
+module _ (m : List ℕ) (long : length m ≡ SIZE) (y n w t a g : ℕ) where
   abbrev m₁ : List ℕ
   m₁ = set m 0 n
 
@@ -71,42 +73,62 @@ module _ (m : List ℕ) (long : length m ≡ SIZE) (n w t a g : ℕ) where
   abbrev m₅ : List ℕ
   m₅ = set m₄ 6 g
 
-  head-long : length m₅ ≡ SIZE
+  abbrev m₆ : List ℕ
+  m₆ = set m₅ 7 y
+
+  head-long : length m₆ ≡ SIZE
   head-long = simp length-set long
 
-  from-6 : (i : ℕ) → (i ≡ 6 → ⊥) → getD m₅ i 0 ≡ getD m₄ i 0
-  from-6 i d = getD-set-other m₄ 6 i g 0 d
+  -- a word before those from k on, or after all of them, is as it was before these were put
+  abbrev Outside : ℕ → ℕ → Type 0
+  Outside k i = (i < k) ⊎ (7 < i)
 
-  from-5 : (i : ℕ) → (i ≡ 5 → ⊥) → (i ≡ 6 → ⊥) → getD m₅ i 0 ≡ getD m₃ i 0
-  from-5 i d d₆ = from-6 i d₆ ∙ getD-set-other m₃ 5 i a 0 d
+  outer : {i : ℕ} (k : ℕ) → k ≤ 7 → Outside k i → i ≡ k → ⊥
+  outer k h (inl l) e = omega arith
+  outer k h (inr l) e = omega arith
 
-  from-4 : (i : ℕ) → (i ≡ 4 → ⊥) → (i ≡ 5 → ⊥) → (i ≡ 6 → ⊥) → getD m₅ i 0 ≡ getD m₂ i 0
-  from-4 i d d₅ d₆ = from-5 i d₅ d₆ ∙ getD-set-other m₂ 4 i t 0 d
+  wider : {i : ℕ} (k j : ℕ) → k ≤ j → Outside k i → Outside j i
+  wider k j h (inl l) = inl (omega arith)
+  wider k j h (inr l) = inr l
 
-  from-3 : (i : ℕ) → (i < 3) ⊎ (6 < i) → getD m₅ i 0 ≡ getD m₁ i 0
-  from-3 i (inl l) = from-4 i (λ e. omega arith) (λ e. omega arith) (λ e. omega arith) ∙ getD-set-other m₁ 3 i w 0 (λ e. omega arith)
-  from-3 i (inr l) = from-4 i (λ e. omega arith) (λ e. omega arith) (λ e. omega arith) ∙ getD-set-other m₁ 3 i w 0 (λ e. omega arith)
+  from-7 : (i : ℕ) → Outside 7 i → getD m₆ i 0 ≡ getD m₅ i 0
+  from-7 i o = getD-set-other m₅ 7 i y 0 (outer 7 (omega arith) o)
 
-  head-other : (i : ℕ) → 0 < i → (i < 3) ⊎ (6 < i) → getD m₅ i 0 ≡ getD m i 0
-  head-other i h d = from-3 i d ∙ getD-set-other m 0 i n 0 (λ e. omega arith)
+  from-6 : (i : ℕ) → Outside 6 i → getD m₆ i 0 ≡ getD m₄ i 0
+  from-6 i o = from-7 i (wider 6 7 (omega arith) o) ∙ getD-set-other m₄ 6 i g 0 (outer 6 (omega arith) o)
 
-  head-0 : getD m₅ 0 0 ≡ n
+  from-5 : (i : ℕ) → Outside 5 i → getD m₆ i 0 ≡ getD m₃ i 0
+  from-5 i o = from-6 i (wider 5 6 (omega arith) o) ∙ getD-set-other m₃ 5 i a 0 (outer 5 (omega arith) o)
+
+  from-4 : (i : ℕ) → Outside 4 i → getD m₆ i 0 ≡ getD m₂ i 0
+  from-4 i o = from-5 i (wider 4 5 (omega arith) o) ∙ getD-set-other m₂ 4 i t 0 (outer 4 (omega arith) o)
+
+  from-3 : (i : ℕ) → Outside 3 i → getD m₆ i 0 ≡ getD m₁ i 0
+  from-3 i o = from-4 i (wider 3 4 (omega arith) o) ∙ getD-set-other m₁ 3 i w 0 (outer 3 (omega arith) o)
+
+  head-other : (i : ℕ) → 0 < i → Outside 3 i → getD m₆ i 0 ≡ getD m i 0
+  head-other i h o = from-3 i o ∙ getD-set-other m 0 i n 0 (λ e. omega arith)
+
+  head-0 : getD m₆ 0 0 ≡ n
   head-0 = from-3 0 (inl (omega arith)) ∙ getD-set-same m 0 n 0 (omega arith)
 
-  head-3 : getD m₅ 3 0 ≡ w
-  head-3 = from-4 3 (λ e. omega arith) (λ e. omega arith) (λ e. omega arith) ∙ getD-set-same m₁ 3 w 0 (simp length-set (omega arith))
+  head-3 : getD m₆ 3 0 ≡ w
+  head-3 = from-4 3 (inl (omega arith)) ∙ getD-set-same m₁ 3 w 0 (simp length-set (omega arith))
 
-  head-4 : getD m₅ 4 0 ≡ t
-  head-4 = from-5 4 (λ e. omega arith) (λ e. omega arith) ∙ getD-set-same m₂ 4 t 0 (simp length-set (omega arith))
+  head-4 : getD m₆ 4 0 ≡ t
+  head-4 = from-5 4 (inl (omega arith)) ∙ getD-set-same m₂ 4 t 0 (simp length-set (omega arith))
 
-  head-5 : getD m₅ 5 0 ≡ a
-  head-5 = from-6 5 (λ e. omega arith) ∙ getD-set-same m₃ 5 a 0 (simp length-set (omega arith))
+  head-5 : getD m₆ 5 0 ≡ a
+  head-5 = from-6 5 (inl (omega arith)) ∙ getD-set-same m₃ 5 a 0 (simp length-set (omega arith))
 
-  head-6 : getD m₅ 6 0 ≡ g
-  head-6 = getD-set-same m₄ 6 g 0 (simp length-set (omega arith))
+  head-6 : getD m₆ 6 0 ≡ g
+  head-6 = from-7 6 (inl (omega arith)) ∙ getD-set-same m₄ 6 g 0 (simp length-set (omega arith))
+
+  head-7 : getD m₆ 7 0 ≡ y
+  head-7 = getD-set-same m₅ 7 y 0 (simp length-set (omega arith))
 
 -- ---- operands and properties
-module _ (s : Sections) (ok : Accepted s) where
+module _ (way : Way) (s : Sections) (ok : Accepted s) where
   abbrev with-operands : List ℕ
   with-operands = put (replicate SIZE 0) OPERANDS (s .operands)
 
@@ -198,15 +220,15 @@ module _ (s : Sections) (ok : Accepted s) where
   between = rows-after (s .rows) (linksPut s) links-long (rowsIn s) few room (rowsIn s) (omega arith)
 
   abbrev headed : List ℕ → List ℕ
-  headed m = headPut m (rowsIn s) (widthIn (s .rows) (rowsIn s)) (temporalsIn (s .rows) (rowsIn s)) (length (s .assumes)) (length (s .guarantees))
+  headed m = headPut m way (rowsIn s) (widthIn (s .rows) (rowsIn s)) (temporalsIn (s .rows) (rowsIn s)) (length (s .assumes)) (length (s .guarantees))
 
-  under-head : (i : ℕ) → 0 < i → (i < 3) ⊎ (6 < i) → getD (headed with-rows) i 0 ≡ getD with-rows i 0
-  under-head = head-other with-rows rows-long _ _ _ _ _
+  under-head : (i : ℕ) → 0 < i → (i < 3) ⊎ (7 < i) → getD (headed with-rows) i 0 ≡ getD with-rows i 0
+  under-head = head-other with-rows rows-long _ _ _ _ _ _
 
   past-end : (m : List ℕ) → length m ≡ SIZE → (i : ℕ) → (i < SIZE → getD m i 0 ≡ 0) → getD m i 0 ≡ 0
   past-end m l i f = ⊎-elim f (λ p. List·getD-eq-default m 0 (omega arith)) (lt-or-ge i SIZE)
 
-  pub stored-stands : Stands s (stored s)
+  pub stored-stands : Stands way s (stored way s)
   unfolding stored
   stored-stands =
       let f = few in
@@ -214,14 +236,15 @@ module _ (s : Sections) (ok : Accepted s) where
       let l₀ = links-long in
       let t = room in
       record {
-        long = head-long with-rows l _ _ _ _ _;
-        count = head-0 with-rows l _ _ _ _ _;
+        long = head-long with-rows l _ _ _ _ _ _;
+        way-word = head-7 with-rows l _ _ _ _ _ _;
+        count = head-0 with-rows l _ _ _ _ _ _;
         begun = under-head 1 (omega arith) (inl (omega arith)) ∙ rows-before (s .rows) (linksPut s) l₀ (rowsIn s) f t (rowsIn s) (omega arith) 1 (omega arith) ∙ links-before 1 (omega arith);
         clock = under-head 2 (omega arith) (inl (omega arith)) ∙ rows-before (s .rows) (linksPut s) l₀ (rowsIn s) f t (rowsIn s) (omega arith) 2 (omega arith) ∙ links-before 2 (omega arith);
-        width = head-3 with-rows l _ _ _ _ _;
-        temporal-count = head-4 with-rows l _ _ _ _ _;
-        assume-count = head-5 with-rows l _ _ _ _ _;
-        guarantee-count = head-6 with-rows l _ _ _ _ _;
+        width = head-3 with-rows l _ _ _ _ _ _;
+        temporal-count = head-4 with-rows l _ _ _ _ _ _;
+        assume-count = head-5 with-rows l _ _ _ _ _ _;
+        guarantee-count = head-6 with-rows l _ _ _ _ _ _;
         word = λ r j h k. under-head (ROWS + ROW * r + j) (omega arith) (inr (omega arith)) ∙ row-word (s .rows) (linksPut s) l₀ (rowsIn s) f t (rowsIn s) (omega arith) r j h k;
         rows-rest = λ i h k. under-head i (omega arith) (inr (omega arith)) ∙ between i h (omega arith) ∙ links-before i k;
         operand = λ i h. under-head (OPERANDS + i) (omega arith) (inr (omega arith)) ∙ between (OPERANDS + i) (omega arith) (omega arith) ∙ links-operand i h;

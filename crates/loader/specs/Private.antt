@@ -6,16 +6,19 @@ use mathlib.Core.List.{List, [], _∷_}
 use lib.ListN.{length, set, replicate}
 use lib.Seq.{paste}
 use lib.Dec.{eqb}
-use Rattle.pmtl.specs.Monitor.{initial}
-use Rattle.memory.specs.Layout.{ROWS, ROW, OPERANDS, PROPERTIES, OWNERS, SIZE, ASSUMES, GUARANTEES, ROW-COUNT, TEMPORALS, WIDTH}
+use Rattle.pmtl.specs.Book.{Book}
+use Rattle.pmtl.specs.Sets.{Way, ordinary, lasting}
+use Rattle.pmtl.specs.Monitor.{initialIn}
+use Rattle.memory.specs.Layout.{ROWS, ROW, OPERANDS, PROPERTIES, OWNERS, SIZE, ASSUMES, GUARANTEES, ROW-COUNT, TEMPORALS, WIDTH, WAY}
 use Rattle.book.specs.Rows.{temporal, ATOM}
 use Rattle.lists.specs.Lists.{put}
 use Rattle.memory.specs.Memory.{bookOf, stateOf}
 use Rattle.numbers.specs.Limits.{ROW-WORDS, MOST-OPERANDS, MOST-ROWS, MOST-TEMPORALS}
 use Rattle.book.specs.Reading.{Sections}
-use Rattle.book.specs.Judging.{kindIn, argIn, lowerIn, upperIn, rowsIn, temporalsIn, startIn, argGood, judged, bookIn}
-use Rattle.book.specs.declared.strict.Loading.{Loading}
-use Rattle.book.specs.Strict.{loadedBy}
+use Rattle.book.specs.Judging.{kindIn, argIn, lowerIn, upperIn, rowsIn, temporalsIn, startIn, argGood, judged, loaded}
+use Rattle.book.specs.declared.loading.Loading.{Loading}
+use Rattle.book.specs.Strict.{roomed}
+use Rattle.book.specs.Loading.{wayIn}
 use Rattle.book.specs.Private.{Few}
 use Rattle.memory.specs.Kept.{Sound}
 use Rattle.memory.specs.Tables.{Unused}
@@ -51,9 +54,15 @@ unfoldable pub rowsPut : List ℕ → List ℕ → ℕ → List ℕ
 rowsPut ws m zero = m
 rowsPut ws m (suc r) = rowPut ws (rowsPut ws m r) r
 
+-- the word of a way of monitoring
+abbrev pub wordFor : Way → ℕ
+wordFor ordinary = 0
+wordFor lasting = 1
+
 -- the words before the rows
-abbrev pub headPut : List ℕ → ℕ → ℕ → ℕ → ℕ → ℕ → List ℕ
-headPut m rows width temporals assumes guarantees = set (set (set (set (set m ROW-COUNT rows) WIDTH width) TEMPORALS temporals) ASSUMES assumes) GUARANTEES guarantees
+abbrev pub headPut : List ℕ → Way → ℕ → ℕ → ℕ → ℕ → ℕ → List ℕ
+headPut m way rows width temporals assumes guarantees =
+    set (set (set (set (set (set m ROW-COUNT rows) WIDTH width) TEMPORALS temporals) ASSUMES assumes) GUARANTEES guarantees) WAY (wordFor way)
 
 -- operands and properties in a memory of zeros
 abbrev pub linksPut : Sections → List ℕ
@@ -61,9 +70,9 @@ linksPut s =
     put (put (put (replicate SIZE 0) OPERANDS (s .operands)) PROPERTIES (s .assumes)) (PROPERTIES + length (s .assumes)) (s .guarantees)
 
 -- the memory of an accepted book
-unfoldable pub stored : Sections → List ℕ
-stored s =
-    headPut (rowsPut (s .rows) (linksPut s) (rowsIn s)) (rowsIn s) (widthIn (s .rows) (rowsIn s)) (temporalsIn (s .rows) (rowsIn s))
+unfoldable pub stored : Way → Sections → List ℕ
+stored way s =
+    headPut (rowsPut (s .rows) (linksPut s) (rowsIn s)) way (rowsIn s) (widthIn (s .rows) (rowsIn s)) (temporalsIn (s .rows) (rowsIn s))
     (length (s .assumes)) (length (s .guarantees))
 
 -- the rows are within the limits, and each arg suits its kind
@@ -78,17 +87,14 @@ pub record Accepted (s : Sections) : Type 0 where
   pub few : Few s
   pub good : judged s ≡ ACCEPTED
 
--- the memory holds the book that the sections say, with a fresh monitor; its tables are not worked out yet
-pub record Holds (s : Sections) (m : List ℕ) : Type 0 where
-  pub book : bookOf m ≡ bookIn s
-  pub state : stateOf m ≡ initial (bookIn s .rows)
+-- the memory holds a book, with a fresh monitor in a way; its tables are not worked out yet
+pub record Holds (way : Way) (b : Book) (m : List ℕ) : Type 0 where
+  pub book : bookOf m ≡ b
+  pub state : stateOf m ≡ initialIn way (b .rows)
   pub sound : Sound m
   pub unused : Unused m
 
--- the same of words, accepted or refused, and the number that is handed back
+-- that of words, accepted or refused as far as the words alone tell, and the number that is handed back
 pub record Stored (way : Loading) (words m : List ℕ) (r : ℕ) : Type 0 where
-  pub number : r ≡ loadedBy way words .number
-  pub book : bookOf m ≡ loadedBy way words .book
-  pub state : stateOf m ≡ initial (loadedBy way words .book .rows)
-  pub sound : Sound m
-  pub unused : Unused m
+  pub number : r ≡ roomed way (loaded words) .number
+  pub held : Holds (wayIn way) (roomed way (loaded words) .book) m

@@ -1,14 +1,18 @@
 // Loading: a book's words judged, and an accepted book put into a monitor's lent memory.
+mod flat;
+
 ghost use mathlib.Core.Path.{_≡_};
 ghost use Prim.Native.Nat.{_+_, _*_, _/_, _≤_, _<_, max};
 ghost use lib.ListN.{length};
 ghost use lib.Seq.{paste};
+ghost use Rattle.pmtl.specs.Book.{emptyBook};
 ghost use Rattle.memory.specs.Layout.{ROWS, ROW, SIZE};
 ghost use Rattle.numbers.specs.Limits.{ROW-WORDS, MOST-ATOMS, MOST-ROWS};
 ghost use Rattle.book.specs.Placing.{sectionsOf, partsOf, Counted};
-ghost use Rattle.book.specs.Judging.{startIn, temporalsIn};
+ghost use Rattle.book.specs.Judging.{startIn, temporalsIn, bookIn};
+ghost use Rattle.book.specs.Loading.{wayIn};
 ghost use Rattle.loader.specs.Loading.{Loads};
-ghost use Rattle.loader.specs.Private.{reach, widthIn, wordsWith, rowPut, rowsPut, headPut, Rowed, Accepted, Holds, Stored};
+ghost use Rattle.loader.specs.Private.{reach, widthIn, wordsWith, rowPut, rowsPut, wordFor, headPut, Rowed, Accepted, Holds, Stored};
 use book::ATOM;
 use book::HISTORICALLY;
 use book::check::Places;
@@ -21,13 +25,15 @@ use book::check::operands_part;
 use book::check::rows_part;
 use book::check::taken_by;
 use book::check::upper_in;
-use book::strict::Loading;
+use book::loading::Loading;
 use book::strict::place_by;
 use memory::ARG;
 use memory::ASSUMES;
 use memory::GUARANTEES;
+use memory::LASTING;
 use memory::LOWER;
 use memory::OPERANDS;
+use memory::ORDINARY;
 use memory::OWNERS;
 use memory::PROPERTIES;
 use memory::ROW;
@@ -38,8 +44,10 @@ use memory::SLOT;
 use memory::START;
 use memory::TEMPORALS;
 use memory::UPPER;
+use memory::WAY;
 use memory::WIDTH;
 use numbers::ACCEPTED;
+use numbers::NESTED;
 use numbers::ROW_WORDS;
 
 // What the head of a memory says of its rows: the largest atom plus 1, and how many are temporal.
@@ -117,20 +125,41 @@ fn put_rows(given: &[u64], monitor: &mut [u64]) -> Totals
     }
 }
 
+// The word of the way of monitoring that a way of loading is for.
+fn way_word(way: Loading) -> u64
+    ensures { λ r. ⌜ r ≡ wordFor (wayIn way) ⌝ }
+{
+    match way {
+        Loading::Ordinary => ORDINARY,
+        Loading::Strict => ORDINARY,
+        Loading::Lasting => LASTING,
+        Loading::LastingStrict => LASTING,
+    }
+}
+
 // The words before the rows.
-fn put_head(monitor: &mut [u64], rows: u64, totals: Totals, assumes: u64, guarantees: u64)
+fn put_head(
+    monitor: &mut [u64],
+    way: Loading,
+    rows: u64,
+    totals: Totals,
+    assumes: u64,
+    guarantees: u64,
+)
     requires { ⌜ length (now monitor) ≡ SIZE ⌝ }
-    ensures { λ _. ⌜ now (monitor .exit) ≡ headPut (now (monitor .entry)) rows (totals .width) (totals .temporals) assumes guarantees ⌝ }
+    ensures { λ _. ⌜ now (monitor .exit) ≡ headPut (now (monitor .entry)) (wayIn way) rows (totals .width) (totals .temporals) assumes guarantees ⌝ }
 {
     monitor[ROW_COUNT] = rows;
     monitor[WIDTH] = totals.width;
     monitor[TEMPORALS] = totals.temporals;
     monitor[ASSUMES] = assumes;
     monitor[GUARANTEES] = guarantees;
+    monitor[WAY] = way_word(way);
 }
 
 // The memory of an accepted book, whatever stood there before.
 fn store<'a>(
+    way: Loading,
     given: &'a [u64],
     operands: &'a [u64],
     assumes: &'a [u64],
@@ -139,7 +168,7 @@ fn store<'a>(
 )
     requires { ⌜ Accepted (sectionsOf (now given) (now operands) (now assumes) (now guarantees)) ⌝ }
     requires { ⌜ length (now monitor) ≡ SIZE ⌝ }
-    ensures { λ _. ⌜ Holds (sectionsOf (now (given .entry)) (now (operands .entry)) (now (assumes .entry)) (now (guarantees .entry))) (now (monitor .exit)) ⌝ }
+    ensures { λ _. ⌜ Holds (wayIn way) (bookIn (sectionsOf (now (given .entry)) (now (operands .entry)) (now (assumes .entry)) (now (guarantees .entry)))) (now (monitor .exit)) ⌝ }
 {
     lists::clear(monitor);
     lists::copy(operands, monitor, OPERANDS);
@@ -148,6 +177,7 @@ fn store<'a>(
     let totals = put_rows(given, monitor);
     put_head(
         monitor,
+        way,
         (given.len() / ROW_WORDS) as u64,
         totals,
         assumes.len() as u64,
@@ -156,12 +186,13 @@ fn store<'a>(
 }
 
 // The book of these words, whose sections stand where places tell.
-fn store_parts(words: &[u64], places: Places, monitor: &mut [u64])
+fn store_parts(way: Loading, words: &[u64], places: Places, monitor: &mut [u64])
     requires { ⌜ Counted (now words) (places .rows) (places .operands) (places .assumes) (places .guarantees) ⌝ }
     requires { ⌜ Accepted (partsOf (now words) (places .rows) (places .operands) (places .assumes) (places .guarantees)) × (length (now monitor) ≡ SIZE) ⌝ }
-    ensures { λ _. ⌜ Holds (partsOf (now (words .entry)) (places .rows) (places .operands) (places .assumes) (places .guarantees)) (now (monitor .exit)) ⌝ }
+    ensures { λ _. ⌜ Holds (wayIn way) (bookIn (partsOf (now (words .entry)) (places .rows) (places .operands) (places .assumes) (places .guarantees))) (now (monitor .exit)) ⌝ }
 {
     store(
+        way,
         rows_part(words, places),
         operands_part(words, places),
         assumes_part(words, places),
@@ -170,7 +201,16 @@ fn store_parts(words: &[u64], places: Places, monitor: &mut [u64])
     );
 }
 
-// Loading but for the tables, over a memory whose length is not part of its type.
+// The memory of an empty book: it has its way, too.
+fn store_empty(way: Loading, monitor: &mut [u64])
+    requires { ⌜ length (now monitor) ≡ SIZE ⌝ }
+    ensures { λ _. ⌜ Holds (wayIn way) emptyBook (now (monitor .exit)) ⌝ }
+{
+    lists::clear(monitor);
+    monitor[WAY] = way_word(way);
+}
+
+// Loading as far as the words alone tell, and but for the tables, over a memory whose length is not part of its type.
 fn store_judged(way: Loading, words: &[u64], monitor: &mut [u64]) -> u64
     requires { ⌜ length (now monitor) ≡ SIZE ⌝ }
     ensures { λ r. ⌜ Stored way (now (words .entry)) (now (monitor .exit)) r ⌝ }
@@ -178,10 +218,10 @@ fn store_judged(way: Loading, words: &[u64], monitor: &mut [u64]) -> u64
     let places = place_by(way, words);
     let number = places.number;
     if number != ACCEPTED {
-        lists::clear(monitor);
+        store_empty(way, monitor);
         return number;
     }
-    store_parts(words, places, monitor);
+    store_parts(way, words, places, monitor);
     number
 }
 
@@ -190,9 +230,14 @@ fn store_judged(way: Loading, words: &[u64], monitor: &mut [u64]) -> u64
 pub fn load_by(way: Loading, words: &[u64], monitor: &mut [u64; SIZE]) -> u64
     ensures { λ r. ⌜ Loads way (now (words .entry)) (now (monitor .exit)) r ⌝ }
 {
-    let number = store_judged(way, words, monitor);
+    let judged = store_judged(way, words, monitor);
     tables::work_out(monitor);
-    number
+    if flat::is_taken(monitor) {
+        return judged;
+    }
+    store_empty(way, monitor);
+    tables::work_out(monitor);
+    NESTED
 }
 
 // Loads a book as any that is in order.
@@ -207,4 +252,19 @@ pub fn load_strict(words: &[u64], monitor: &mut [u64; SIZE]) -> u64
     ensures { λ r. ⌜ Loads Loading.Strict (now (words .entry)) (now (monitor .exit)) r ⌝ }
 {
     load_by(Loading::Strict, words, monitor)
+}
+
+// Loads a book for the lasting way of monitoring, in which a state lasts until the next call: one in which a temporal row lies below another is refused,
+// too.
+pub fn load_lasting(words: &[u64], monitor: &mut [u64; SIZE]) -> u64
+    ensures { λ r. ⌜ Loads Loading.Lasting (now (words .entry)) (now (monitor .exit)) r ⌝ }
+{
+    load_by(Loading::Lasting, words, monitor)
+}
+
+// Loads a book for the lasting way, and so that no call ever lacks room.
+pub fn load_lasting_strict(words: &[u64], monitor: &mut [u64; SIZE]) -> u64
+    ensures { λ r. ⌜ Loads Loading.LastingStrict (now (words .entry)) (now (monitor .exit)) r ⌝ }
+{
+    load_by(Loading::LastingStrict, words, monitor)
 }

@@ -13,7 +13,7 @@ use Rattle.lists.proofs.Listed.{listed-agree}
 use Rattle.lists.proofs.Parts.{part-same}
 use Rattle.lists.proofs.Filled.{filledFrom-length, filledFrom-before}
 use Rattle.memory.specs.Layout.{ATOMS, OWNERS, SET, VALUES}
-use Rattle.memory.specs.Memory.{rowCount, widthWord, kindAt, slotAt, atomAt, setStart, slotWords, rowsOf, bookOf, isOne, setOf, stateOf}
+use Rattle.memory.specs.Memory.{rowCount, widthWord, kindAt, slotAt, atomAt, setStart, slotWords, rowsOf, bookOf, isOne, wayOf, setOf, stateOf}
 use Rattle.memory.specs.Kept.{Sound}
 use Rattle.memory.specs.Alike.{Alike}
 use Rattle.memory.proofs.Stepped.{Stepped, kept-step, step-book, rows-of-same, kind-same, slot-same}
@@ -77,11 +77,12 @@ module _ {m m′ : List ℕ} (sound : Sound m) (alike : Alike m m′) where
       (lt-or-ge (kindAt m r) 7)
 
   pub alike-state : stateOf m′ ≡ stateOf m
-  unfolding stateOf
+  unfolding stateOf wayOf
   alike-state =
       let narrow = sound .book .narrow in
-      rw (alike .below 0 (omega arith), alike .below 1 (omega arith), alike .below 2 (omega arith), alike .below 3 (omega arith))
+      rw (alike .below 0 (omega arith), alike .below 1 (omega arith), alike .below 2 (omega arith), alike .below 3 (omega arith), alike .below 7 (omega arith))
       (λ i. record {
+        way = wayOf m;
         begun = isOne (getD m 1 0);
         now = record {
           clock = getD m 2 0;

@@ -1,7 +1,7 @@
 -- Two kept memories that hold the same monitor are equal, word for word. Assumes nothing.
 use Prim.Native.Nat.{ℕ, zero, suc, _+_, _*_, _-_, _/_, _%_, _≤_, _<_}
 use mathlib.Core.Path.{_≡_, refl, sym, ap, ap₂, _∙_}
-use mathlib.Core.Bool.{Bool, false}
+use mathlib.Core.Bool.{Bool, true, false, cond}
 use mathlib.Core.Logic.{⊎-elim}
 use mathlib.Core.List.{List, [], _++_}
 use native.Mathlib.Omega.{arith}
@@ -12,14 +12,15 @@ use Rattle.numset.specs.Runs.{Runs, runs, pack}
 use Rattle.lists.proofs.Tests.{either, lt-or-ge}
 use Rattle.numset.proofs.Packs.{packed}
 use Rattle.pmtl.specs.Answer.{bitOf, digitOf}
-use Rattle.pmtl.specs.Book.{Row, Rows, Book, widthOf}
+use Rattle.pmtl.specs.Book.{Row, Rows, Book, widthOf, moves}
+use Rattle.pmtl.specs.Sets.{Way, ordinary, lasting}
 use Rattle.pmtl.specs.Monitor.{State, fullest, value}
 use Rattle.pmtl.specs.Early.{early}
 use Rattle.pmtl.specs.Settled.{settled}
 use Rattle.memory.specs.Layout.{ROWS, ROW, OPERANDS, PROPERTIES, ATOMS, OWNERS, SETS, SET, VALUES, TOLD, EARLY, SETTLED, MOVES, FULLEST, SIZE}
 use Rattle.lists.specs.Lists.{part, listed}
-use Rattle.memory.specs.Memory.{rowCount, begunWord, clockOf, widthWord, temporals, assumeCount, guaranteeCount, kindAt, argAt, lowerAt, upperAt, startAt, slotAt, operandsOf, ownerAt, setStart, slotWords, propertyRow, valueAt, toldAt, earlyAt, settledAt, movesAt, fullestWord, rowOf, rowsOf, bookOf, isOne, setOf, stateOf}
-use Rattle.memory.specs.Tables.{standing, propertyCount, moves}
+use Rattle.memory.specs.Memory.{rowCount, begunWord, clockOf, widthWord, temporals, assumeCount, guaranteeCount, wayWord, kindAt, argAt, lowerAt, upperAt, startAt, slotAt, operandsOf, ownerAt, setStart, slotWords, propertyRow, valueAt, toldAt, earlyAt, settledAt, movesAt, fullestWord, rowOf, rowsOf, bookOf, isOne, wayOf, setOf, stateOf}
+use Rattle.memory.specs.Tables.{standing, propertyCount}
 use Rattle.book.specs.Rows.{countOf}
 use Rattle.lists.proofs.Listed.{listed-at}
 use Rattle.memory.proofs.Rows.{rows-length, row-at}
@@ -33,6 +34,18 @@ same-bit a b ha hb e =
     (λ t. eqb-true a 1 t ∙ sym (eqb-true b 1 (sym e ∙ t)))
     (λ t. let x = eqb-false a 1 t in let y = eqb-false b 1 (sym e ∙ t) in omega arith)
     (either (isOne a))
+
+-- ways are as different as the bits that tell them
+same-way-bit : (x y : Bool) → cond x lasting ordinary ≡ cond y lasting ordinary → x ≡ y
+same-way-bit x y e = sym (back x) ∙ ap lasts e ∙ back y
+  where
+    lasts : Way → Bool
+    lasts ordinary = false
+    lasts lasting = true
+
+    back : (z : Bool) → lasts (cond z lasting ordinary) ≡ z
+    back true = refl
+    back false = refl
 
 -- ---- what a kept memory's rows tell
 module _ (m : List ℕ) (k : Sound m) where
@@ -156,6 +169,10 @@ module _ (m m′ : List ℕ) (k : Sound m) (k′ : Sound m′) (same-book : book
   unfolding stateOf
   same-clock = ap (λ (st : State). st .now .clock) same-state
 
+  same-way : wayWord m ≡ wayWord m′
+  unfolding stateOf wayOf
+  same-way = same-bit (wayWord m) (wayWord m′) (k .way) (k′ .way) (same-way-bit (isOne (wayWord m)) (isOne (wayWord m′)) (ap (λ (st : State). st .way) same-state))
+
   same-head : (i : ℕ) → i < ROWS → getD m i 0 ≡ getD m′ i 0
   same-head zero h = same-count
   same-head (suc zero) h = same-begun
@@ -164,7 +181,8 @@ module _ (m m′ : List ℕ) (k : Sound m) (k′ : Sound m′) (same-book : book
   same-head (suc (suc (suc (suc zero)))) h = same-temporals
   same-head (suc (suc (suc (suc (suc zero))))) h = same-assume-count
   same-head (suc (suc (suc (suc (suc (suc zero)))))) h = same-guarantee-count
-  same-head (suc (suc (suc (suc (suc (suc (suc i))))))) h = absurd (omega arith)
+  same-head (suc (suc (suc (suc (suc (suc (suc zero))))))) h = same-way
+  same-head (suc (suc (suc (suc (suc (suc (suc (suc i)))))))) h = absurd (omega arith)
 
   -- ---- the rows
   same-word : (r j : ℕ) → r < rowCount m → j < ROW → getD m (ROWS + ROW * r + j) 0 ≡ getD m′ (ROWS + ROW * r + j) 0
@@ -179,8 +197,8 @@ module _ (m m′ : List ℕ) (k : Sound m) (k′ : Sound m′) (same-book : book
 
   same-in-rows : (i : ℕ) → ROWS ≤ i → i < OPERANDS → getD m i 0 ≡ getD m′ i 0
   same-in-rows i l u =
-      let r : ℕ = (i - 7) / 6 in
-      let j : ℕ = (i - 7) % 6 in
+      let r : ℕ = (i - ROWS) / ROW in
+      let j : ℕ = (i - ROWS) % ROW in
       let e : i ≡ ROWS + ROW * r + j = omega arith in
       let n = same-count in
       ⊎-elim
@@ -289,8 +307,8 @@ module _ (m m′ : List ℕ) (k : Sound m) (k′ : Sound m′) (same-book : book
 
   same-in-sets : (i : ℕ) → SETS ≤ i → i < VALUES → getD m i 0 ≡ getD m′ i 0
   same-in-sets i l u =
-      let j : ℕ = (i - 1223) / 129 in
-      let d : ℕ = (i - 1223) % 129 in
+      let j : ℕ = (i - SETS) / SET in
+      let d : ℕ = (i - SETS) % SET in
       let e : i ≡ setStart j + d = omega arith in
       word-at m i (setStart j + d) e ∙ sym (part-at (setStart j) SET m d (omega arith)) ∙ ap (λ (x : List ℕ). getD x d 0) (same-set j (omega arith))
       ∙ part-at (setStart j) SET m′ d (omega arith) ∙ word-at m′ (setStart j + d) i (sym e)

@@ -10,7 +10,7 @@ use Rattle.lists.proofs.Tests.{lt-or-ge}
 use Rattle.numbers.specs.Limits.{LAST-TIME}
 use Rattle.pmtl.specs.Book.{widthOf}
 use Rattle.memory.specs.Layout.{ROWS, ROW, OPERANDS, PROPERTIES, ATOMS, SIZE}
-use Rattle.memory.specs.Memory.{rowCount, begunWord, clockOf, widthWord, temporals, assumeCount, guaranteeCount, kindAt, argAt, lowerAt, upperAt, startAt, slotAt, operandsOf, ownerAt, slotWords, rowOf, rowsOf, bookOf}
+use Rattle.memory.specs.Memory.{rowCount, begunWord, clockOf, widthWord, temporals, assumeCount, guaranteeCount, wayWord, kindAt, argAt, lowerAt, upperAt, startAt, slotAt, operandsOf, ownerAt, slotWords, rowOf, rowsOf, bookOf}
 use Rattle.memory.specs.Kept.{RowKept, BookKept, startTo, slotTo, Tidy, Sound}
 use Rattle.lists.proofs.Listed.{listed-agree}
 use Rattle.lists.proofs.Parts.{part-same}
@@ -49,6 +49,9 @@ module _ (m m′ : List ℕ) (kept : Sound m) (step : Stepped m m′) where
 
   pub guarantees-same : guaranteeCount m′ ≡ guaranteeCount m
   guarantees-same = step .book-same 6 (omega arith) (omega arith)
+
+  pub way-same : wayWord m′ ≡ wayWord m
+  way-same = step .book-same 7 (omega arith) (omega arith)
 
   pub operand-same : (i : ℕ) → i < 128 → getD m′ (OPERANDS + i) 0 ≡ getD m (OPERANDS + i) 0
   operand-same i h = step .book-same (OPERANDS + i) (omega arith) (omega arith)
@@ -193,6 +196,7 @@ module _ (m m′ : List ℕ) (kept : Sound m) (step : Stepped m m′) where
       record {
         book = book-kept;
         tidy = tidy;
+        way = rw way-same (kept .way);
         begun = step .begun;
         clock = step .clock;
         atoms = rw width-same (step .atoms);

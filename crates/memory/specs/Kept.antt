@@ -11,7 +11,7 @@ use Rattle.pmtl.specs.Answer.{bitOf}
 use Rattle.book.specs.Rows.{countOf, temporal, ATOM, HISTORICALLY, SINCE}
 use Rattle.book.specs.Judging.{formGood}
 use Rattle.memory.specs.Layout.{ROWS, ROW, OPERANDS, PROPERTIES, ATOMS, OWNERS, SET, SIZE}
-use Rattle.memory.specs.Memory.{rowCount, begunWord, clockOf, widthWord, temporals, assumeCount, guaranteeCount, kindAt, argAt, lowerAt, upperAt, startAt, slotAt, operandAt, ownerAt, atomAt, slotWords, rowsOf}
+use Rattle.memory.specs.Memory.{rowCount, begunWord, clockOf, widthWord, temporals, assumeCount, guaranteeCount, wayWord, kindAt, argAt, lowerAt, upperAt, startAt, slotAt, operandAt, ownerAt, atomAt, slotWords, rowsOf}
 use Rattle.memory.specs.Tables.{Tables}
 
 -- ---- a loaded book, as the loader leaves it: what reading it needs
@@ -72,6 +72,7 @@ pub record Tidy (m : List ℕ) : Type 0 where
 pub record Sound (m : List ℕ) : Type 0 where
   pub book : BookKept m
   pub tidy : Tidy m
+  pub way : wayWord m ≤ 1
   pub begun : begunWord m ≤ 1
   pub clock : clockOf m ≤ LAST-TIME
   pub atoms : (i : ℕ) → i < widthWord m → atomAt m i ≤ 1

@@ -3,7 +3,8 @@ use Prim.Native.Nat.{ℕ, _+_, _*_}
 use Rattle.numbers.specs.Limits.{MOST-ROWS, MOST-OPERANDS, MOST-PROPERTIES, MOST-TEMPORALS, MOST-ATOMS}
 use Rattle.numset.specs.Runs.{SET-WORDS}
 
--- the head, a word for each: how many rows; whether a call was accepted; the clock; the largest atom plus 1; how many temporal rows, assumes, guarantees
+-- the head, a word for each: how many rows; whether a call was accepted; the clock; the largest atom plus 1; how many temporal rows, assumes,
+-- guarantees; the way of monitoring
 abbrev pub ROW-COUNT : ℕ
 ROW-COUNT = 0
 
@@ -25,9 +26,12 @@ ASSUMES = 5
 abbrev pub GUARANTEES : ℕ
 GUARANTEES = 6
 
+abbrev pub WAY : ℕ
+WAY = 7
+
 -- words of the head
 abbrev pub HEAD : ℕ
-HEAD = 7
+HEAD = 8
 
 -- words of a row: kind, arg, lower, upper, where its operands start, which set is its own
 abbrev pub ROW : ℕ

@@ -8,10 +8,11 @@ use Rattle.numbers.specs.Limits.{MOST-OPERANDS}
 use Rattle.lists.specs.Lists.{listed, part}
 use Rattle.numset.specs.Runs.{Runs, runs}
 use Rattle.pmtl.specs.Book.{Range, Row, Rows, Book}
+use Rattle.pmtl.specs.Sets.{Way, ordinary, lasting}
 use Rattle.pmtl.specs.Monitor.{State}
 use Rattle.book.specs.Rows.{rowFrom, temporal}
 use Rattle.memory.specs.declared.RowWords.{RowWords}
-use Rattle.memory.specs.Layout.{ROW-COUNT, BEGUN, CLOCK, WIDTH, TEMPORALS, ASSUMES, GUARANTEES, ROWS, ROW, OPERANDS, PROPERTIES, ATOMS, OWNERS, SETS, SET, VALUES, TOLD, EARLY, SETTLED, MOVES, FULLEST}
+use Rattle.memory.specs.Layout.{ROW-COUNT, BEGUN, CLOCK, WIDTH, TEMPORALS, ASSUMES, GUARANTEES, WAY, ROWS, ROW, OPERANDS, PROPERTIES, ATOMS, OWNERS, SETS, SET, VALUES, TOLD, EARLY, SETTLED, MOVES, FULLEST}
 
 -- ---- words read off a memory
 abbrev pub rowCount : List ℕ → ℕ
@@ -34,6 +35,9 @@ assumeCount m = getD m ASSUMES 0
 
 abbrev pub guaranteeCount : List ℕ → ℕ
 guaranteeCount m = getD m GUARANTEES 0
+
+abbrev pub wayWord : List ℕ → ℕ
+wayWord m = getD m WAY 0
 
 abbrev pub kindAt : List ℕ → ℕ → ℕ
 kindAt m r = getD m (ROWS + ROW * r) 0
@@ -130,11 +134,15 @@ bookOf m = record {
 abbrev pub isOne : ℕ → Bool
 isOne x = eqb x 1
 
+unfoldable pub wayOf : List ℕ → Way
+wayOf m = cond (isOne (wayWord m)) lasting ordinary
+
 unfoldable pub setOf : List ℕ → ℕ → Runs
 setOf m r = cond (temporal (kindAt m r)) (runs (slotWords m (slotAt m r))) []
 
 unfoldable pub stateOf : List ℕ → State
 stateOf m = record {
+  way = wayOf m;
   begun = isOne (begunWord m);
   now = record { clock = clockOf m; atoms = listed (λ i. isOne (atomAt m i)) (widthWord m) };
   sets = listed (setOf m) (rowCount m);

@@ -1,14 +1,13 @@
 -- What the tables of a memory say of the monitor that it holds. Definitions only.
 use Prim.Native.Nat.{ℕ, _+_, _≤_, _<_}
 use mathlib.Core.Path.{_≡_}
-use mathlib.Core.Bool.{Bool, true, false, cond, _||_}
+use mathlib.Core.Bool.{Bool, cond}
 use mathlib.Core.List.{List}
 use Rattle.numbers.specs.Limits.{MOST-ROWS, MOST-PROPERTIES, MOST-TEMPORALS}
 use Rattle.numset.specs.Runs.{Runs, runs, covers}
 use Rattle.pmtl.specs.declared.Answer.{Answer}
 use Rattle.pmtl.specs.Answer.{bitOf, digitOf}
-use Rattle.pmtl.specs.Book.{Row, Rows, answer, some, itself}
-use Rattle.pmtl.specs.Book.Row.{never, always, atom, conj, disj, neg, implies, historically, once, since}
+use Rattle.pmtl.specs.Book.{moves}
 use Rattle.pmtl.specs.Sets.{gone}
 use Rattle.pmtl.specs.Monitor.{fullest, value}
 use Rattle.pmtl.specs.Early.{early}
@@ -41,22 +40,6 @@ settledOf m r = settled (rowsOf m) (stateOf m) r
 -- how many properties its head says that it has
 abbrev pub propertyCount : List ℕ → ℕ
 propertyCount m = assumeCount m + guaranteeCount m
-
--- a row moves with the clock if it is temporal or an operand of it does
-unfoldable pub moveRule : Row Bool → Bool
-moveRule never = false
-moveRule always = false
-moveRule (atom a) = false
-moveRule (conj vs) = some itself vs
-moveRule (disj vs) = some itself vs
-moveRule (neg v) = v
-moveRule (implies l r) = l || r
-moveRule (historically g v) = true
-moveRule (once g v) = true
-moveRule (since g l r) = true
-
-abbrev pub moves : Rows → ℕ → Bool
-moves b = answer b false (λ r row. moveRule row)
 
 -- each row's word is its value
 pub record Valued (m : List ℕ) : Type 0 where

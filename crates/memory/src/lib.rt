@@ -4,7 +4,7 @@ ghost use Prim.Native.Nat.{_<_};
 ghost use lib.ListN.{getD};
 ghost use Rattle.numbers.specs.Limits.{MOST-ROWS, MOST-OPERANDS, MOST-PROPERTIES, MOST-TEMPORALS};
 ghost use Rattle.memory.specs.Layout.{SIZE};
-ghost use Rattle.memory.specs.Memory.{rowCount, begunWord, clockOf, widthWord, temporals, assumeCount, guaranteeCount, kindAt, argAt, lowerAt, upperAt, startAt, wordsAt, slotAt, operandAt, propertyRow, ownerAt, slotWords, valueAt, toldAt, earlyAt, settledAt, movesAt, fullestWord, isOne};
+ghost use Rattle.memory.specs.Memory.{rowCount, begunWord, clockOf, widthWord, temporals, assumeCount, guaranteeCount, wayWord, kindAt, argAt, lowerAt, upperAt, startAt, wordsAt, slotAt, operandAt, propertyRow, ownerAt, slotWords, valueAt, toldAt, earlyAt, settledAt, movesAt, fullestWord, isOne};
 ghost use Rattle.memory.specs.Kept.{BookKept};
 ghost use Rattle.memory.specs.Tables.{propertyCount};
 use numbers::MOST_ATOMS;
@@ -14,7 +14,7 @@ use numbers::MOST_ROWS;
 use numbers::MOST_TEMPORALS;
 
 // The head: how many rows, whether a call was accepted, the clock, the largest atom plus 1, how many temporal rows, assumes and
-// guarantees.
+// guarantees, the way of monitoring.
 pub const ROW_COUNT: usize = 0;
 
 pub const BEGUN: usize = 1;
@@ -29,7 +29,14 @@ pub const ASSUMES: usize = 5;
 
 pub const GUARANTEES: usize = 6;
 
-const HEAD: usize = 7;
+pub const WAY: usize = 7;
+
+const HEAD: usize = 8;
+
+// The ways: only calls count, or a state lasts until the next call.
+pub const ORDINARY: u64 = 0;
+
+pub const LASTING: u64 = 1;
 
 // A row's words: kind, arg, lower, upper, where its operands start, which set is its own.
 pub const ROW: usize = 6;
@@ -141,6 +148,13 @@ pub fn guarantee_count(monitor: &[u64; SIZE]) -> usize
     ensures { λ r. ⌜ r ≡ guaranteeCount (now (monitor .entry)) ⌝ }
 {
     monitor[GUARANTEES] as usize
+}
+
+// Whether a state lasts until the next call.
+pub fn is_lasting(monitor: &[u64; SIZE]) -> bool
+    ensures { λ r. ⌜ r ≡ isOne (wayWord (now (monitor .entry))) ⌝ }
+{
+    monitor[WAY] == LASTING
 }
 
 // How many properties there are.

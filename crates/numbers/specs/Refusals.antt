@@ -65,6 +65,10 @@ COULD-RUN-OUT = 15
 abbrev pub TOO-WIDE : ℕ
 TOO-WIDE = 16
 
+-- a temporal row that lies below another: refused where a book is loaded in the lasting way
+abbrev pub NESTED : ℕ
+NESTED = 17
+
 -- a step of tidying that does not fit
 abbrev pub DOES-NOT-FIT : ℕ
 DOES-NOT-FIT = 21

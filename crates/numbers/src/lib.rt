@@ -83,5 +83,8 @@ pub const COULD_RUN_OUT: u64 = 15;
 // A state longer than the largest atom plus 1.
 pub const TOO_WIDE: u64 = 16;
 
+// A temporal row that lies below another: refused where a book is loaded in the lasting way.
+pub const NESTED: u64 = 17;
+
 // A step of tidying that does not fit.
 pub const DOES_NOT_FIT: u64 = 21;

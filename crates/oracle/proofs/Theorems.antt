@@ -1,32 +1,34 @@
--- What loading, in either way, and the calls promise over any list of calls: the memory holds the definitions' monitor after those calls, so that the
--- demands hold of the answers that the code hands back. Nothing is assumed.
+-- What loading, in each of its ways, and the calls promise over any list of calls: the memory holds the definitions' monitor after those calls, so
+-- that the demands hold of the answers that the code hands back. The history is that of the way of monitoring: of the accepted calls, or with a
+-- time call put in at every instant between. Nothing is assumed.
 use Prim.Native.Nat.{ℕ}
-use mathlib.Core.Path.{_≡_, sym, ap, ap₂, _∙_}
+use mathlib.Core.Path.{_≡_, refl, sym, ap, ap₂, _∙_}
 use mathlib.Core.Logic.{_↔_}
 use mathlib.Core.Bool.{Bool, true, not}
 use mathlib.Core.List.{List, _∷_, _++_}
 use Rattle.pmtl.specs.Answer.{known}
-use Rattle.pmtl.specs.Book.{Range, Book, Ordered, rowAt}
+use Rattle.pmtl.specs.Book.{Range, Book, rowAt}
 use Rattle.pmtl.specs.Book.Row.{historically, once, since}
 use Rattle.pmtl.specs.Monitor.{State, fullest, value}
 use Rattle.pmtl.specs.Early.{early}
 use Rattle.pmtl.specs.Settled.{settled}
-use Rattle.pmtl.specs.Calls.{Call, call, after, accepted}
+use Rattle.pmtl.specs.Calls.{Call, call, afterIn}
 use Rattle.pmtl.specs.Meaning.{meaning}
 use Rattle.pmtl.specs.Past.{held, SomeCall, SinceCall}
-use Rattle.pmtl.proofs.Strict.{never-eleven as strict-never}
-use Rattle.pmtl.proofs.Theorems.{demand-2 as means, demand-3 as stays, once-holds as once-means, historically-holds as historically-means, since-holds as since-means}
+use Rattle.lasts.specs.Lasting.{historyIn}
+use Rattle.lasts.proofs.Loaded.{words-fit}
+use Rattle.lasts.proofs.EitherWay.{demand-2 as means, demand-3 as stays, once-holds as once-means, historically-holds as historically-means, since-holds as since-means, never-eleven as strict-never}
 use Rattle.memory.specs.Memory.{clockOf, bookOf, stateOf}
-use Rattle.memory.proofs.Rows.{kept-ordered}
 use Rattle.memory.specs.Kept.{Kept}
 use Rattle.memory.proofs.Same.{same-words}
 use Rattle.property_answers.specs.declared.Verdict.{Verdict}
 use Rattle.property_answers.specs.Verdict.{propertyAt, verdictIn, verdictOf}
 use Rattle.calls.specs.Called.{Called}
-use Rattle.book.specs.declared.strict.Loading.{Loading}
-use Rattle.book.specs.declared.strict.Loading.the-variants.{Strict}
+use Rattle.book.specs.declared.loading.Loading.{Loading}
 use Rattle.book.specs.Judging.{loaded}
-use Rattle.book.proofs.Excess.{admitted-strict}
+use Rattle.book.specs.Strict.{strictly}
+use Rattle.book.specs.Loading.{wayIn}
+use Rattle.book.proofs.Admitted.{admitted-strict}
 use Rattle.oracle.specs.Made.{Made, bookSaid}
 use Rattle.oracle.specs.Made.Made.{loads, calls}
 
@@ -41,91 +43,86 @@ made-book (loads l) = l .book
 made-book (calls k made c) = c .book ∙ made-book made
 
 -- and the definitions' state after those calls
-pub made-state : {way : Loading} {words : List ℕ} {ks : List Call} {m : List ℕ} → Made way words ks m → stateOf m ≡ after (bookSaid way words .rows) ks
-unfolding after
+pub made-state : {way : Loading} {words : List ℕ} {ks : List Call} {m : List ℕ} → Made way words ks m → stateOf m ≡ afterIn (wayIn way) (bookSaid way words .rows) ks
+unfolding afterIn
 made-state (loads l) = l .state
 made-state (calls k made c) =
     c .state ∙ ap₂ (λ (b : Book) (st : State). call (b .rows) st k .state) (made-book made) (made-state made)
 
 -- a call handed back the definitions' number
 pub made-number : {way : Loading} {words : List ℕ} {ks : List Call} {m m′ : List ℕ} {k : Call} {r : ℕ} → Made way words ks m → Called k m m′ r
-    → r ≡ call (bookSaid way words .rows) (after (bookSaid way words .rows) ks) k .number
+    → r ≡ call (bookSaid way words .rows) (afterIn (wayIn way) (bookSaid way words .rows) ks) k .number
 made-number {k = k} made c = c .number ∙ ap₂ (λ (b : Book) (st : State). call (b .rows) st k .number) (made-book made) (made-state made)
 
 -- the count that it handed back is that of the definitions' state after it
 pub made-count : {way : Loading} {words : List ℕ} {ks : List Call} {m m′ : List ℕ} {k : Call} {r count : ℕ} → Made way words ks m → Called k m m′ r → count ≡ fullest (stateOf m′)
-    → count ≡ fullest (after (bookSaid way words .rows) (k ∷ ks))
+    → count ≡ fullest (afterIn (wayIn way) (bookSaid way words .rows) (k ∷ ks))
 made-count {k = k} made c e = e ∙ ap fullest (made-state (calls k made c))
 
--- operands are below their owners
-made-ordered : {way : Loading} {words : List ℕ} {ks : List Call} {m : List ℕ} → Made way words ks m → Ordered (bookSaid way words .rows)
-unfolding bookOf
-made-ordered {m = m} made = rw (sym (ap (λ (b : Book). b .rows) (made-book made))) (kept-ordered (made-kept made .sound .book))
-
 -- the answers of property i are the definitions'
-pub made-verdict : {way : Loading} {words : List ℕ} {ks : List Call} {m : List ℕ} → Made way words ks m → (i : ℕ) → verdictOf m i ≡ verdictIn (bookSaid way words) (after (bookSaid way words .rows) ks) i
+pub made-verdict : {way : Loading} {words : List ℕ} {ks : List Call} {m : List ℕ} → Made way words ks m → (i : ℕ) → verdictOf m i ≡ verdictIn (bookSaid way words) (afterIn (wayIn way) (bookSaid way words .rows) ks) i
 made-verdict made i = ap₂ (λ (b : Book) (st : State). verdictIn b st i) (made-book made) (made-state made)
 
 -- so is the clock
-pub made-clock : {way : Loading} {words : List ℕ} {ks : List Call} {m : List ℕ} → Made way words ks m → clockOf m ≡ after (bookSaid way words .rows) ks .now .clock
+pub made-clock : {way : Loading} {words : List ℕ} {ks : List Call} {m : List ℕ} → Made way words ks m → clockOf m ≡ afterIn (wayIn way) (bookSaid way words .rows) ks .now .clock
 unfolding stateOf
 made-clock made = ap (λ (st : State). st .now .clock) (made-state made)
 
 -- and so are the three answers of a property, each by itself
 module _ {way : Loading} {words : List ℕ} {ks : List Call} {m : List ℕ} (made : Made way words ks m) (i : ℕ) where
-  pub value-is : verdictOf m i .value ≡ value (bookSaid way words .rows) (after (bookSaid way words .rows) ks) (propertyAt (bookSaid way words) i)
+  pub value-is : verdictOf m i .value ≡ value (bookSaid way words .rows) (afterIn (wayIn way) (bookSaid way words .rows) ks) (propertyAt (bookSaid way words) i)
   unfolding verdictIn
   value-is = ap (λ (v : Verdict). v .value) (made-verdict made i)
 
-  pub early-is : verdictOf m i .early ≡ early (bookSaid way words .rows) (after (bookSaid way words .rows) ks) (propertyAt (bookSaid way words) i)
+  pub early-is : verdictOf m i .early ≡ early (bookSaid way words .rows) (afterIn (wayIn way) (bookSaid way words .rows) ks) (propertyAt (bookSaid way words) i)
   unfolding verdictIn
   early-is = ap (λ (v : Verdict). v .early) (made-verdict made i)
 
-  pub settled-is : verdictOf m i .settled ≡ settled (bookSaid way words .rows) (after (bookSaid way words .rows) ks) (propertyAt (bookSaid way words) i)
+  pub settled-is : verdictOf m i .settled ≡ settled (bookSaid way words .rows) (afterIn (wayIn way) (bookSaid way words .rows) ks) (propertyAt (bookSaid way words) i)
   unfolding verdictIn
   settled-is = ap (λ (v : Verdict). v .settled) (made-verdict made i)
 
--- DEMAND 2: the value handed back of a property is what its row means on the history of the accepted calls
+-- DEMAND 2: the value handed back of a property is what its row means on the history of the way
 pub demand-2 : {way : Loading} {words : List ℕ} {ks : List Call} {m : List ℕ} → Made way words ks m → (i : ℕ)
-    → verdictOf m i .value ≡ meaning (bookSaid way words .rows) (propertyAt (bookSaid way words) i) (accepted (bookSaid way words .rows) ks)
+    → verdictOf m i .value ≡ meaning (bookSaid way words .rows) (propertyAt (bookSaid way words) i) (historyIn (wayIn way) (bookSaid way words .rows) ks)
 demand-2 {way} {words} {ks} made i =
-    value-is made i ∙ means (bookSaid way words .rows) (made-ordered made) ks (propertyAt (bookSaid way words) i)
+    value-is made i ∙ means (wayIn way) (bookSaid way words .rows) (words-fit way words) ks (propertyAt (bookSaid way words) i)
 
 -- DEMAND 3: if settled is handed back true or false, then now and after every further list of calls the value handed back is that, and settled is that
 pub demand-3 : {way : Loading} {words : List ℕ} {ks : List Call} {m : List ℕ} → Made way words ks m → (i : ℕ) (x : Bool) → verdictOf m i .settled ≡ known x
     → (more : List Call) {m′ : List ℕ} → Made way words (more ++ ks) m′ → (verdictOf m′ i .value ≡ x) × (verdictOf m′ i .settled ≡ known x)
 demand-3 {way} {words} {ks} made i x e more later =
     let b : Book = bookSaid way words in
-    let s = stays (b .rows) (made-ordered made) ks (propertyAt b i) more x (sym (settled-is made i) ∙ e) in
+    let s = stays (wayIn way) (b .rows) (words-fit way words) ks (propertyAt b i) more x (sym (settled-is made i) ∙ e) in
     (value-is later i ∙ s .0, settled-is later i ∙ s .1)
 
 -- IT NEVER RUNS OUT: from strict loading on, whatever the words, no call is ever answered 11, refused ones among those before it
-pub never-eleven : {words : List ℕ} {ks : List Call} {m m′ : List ℕ} {k : Call} {r : ℕ} → Made Strict words ks m → Called k m m′ r → ¬ (r ≡ 11)
-never-eleven {words} {ks} {k = k} made c e =
-    strict-never (bookSaid Strict words .rows) (made-ordered made) (admitted-strict (loaded words)) ks k (sym (made-number made c) ∙ e)
+pub never-eleven : {way : Loading} → strictly way ≡ true → {words : List ℕ} {ks : List Call} {m m′ : List ℕ} {k : Call} {r : ℕ} → Made way words ks m → Called k m m′ r → ¬ (r ≡ 11)
+never-eleven {way} strict {words} {ks} {k = k} made c e =
+    strict-never (wayIn way) (bookSaid way words .rows) (words-fit way words) (admitted-strict way strict (loaded words)) ks k (sym (made-number made c) ∙ e)
 
 -- ---- demand 2 in words: of a property whose row is temporal, and the clock that the memory has
 module _ {way : Loading} {words : List ℕ} {ks : List Call} {m : List ℕ} (made : Made way words ks m) (i : ℕ) where
   -- Once is handed back true exactly if its argument held after some accepted call whose range, counted from that call, contains now
   pub once-holds : (g : Range) (o : ℕ) → rowAt (bookSaid way words .rows) (propertyAt (bookSaid way words) i) ≡ once g o
       → (verdictOf m i .value ≡ true)
-      ↔ SomeCall (bookSaid way words .rows) g (held (bookSaid way words .rows) o) (accepted (bookSaid way words .rows) ks) (clockOf m)
+      ↔ SomeCall (bookSaid way words .rows) g (held (bookSaid way words .rows) o) (historyIn (wayIn way) (bookSaid way words .rows) ks) (clockOf m)
   once-holds g o e =
-      rw (value-is made i, made-clock made) (once-means (bookSaid way words .rows) (made-ordered made) ks (propertyAt (bookSaid way words) i) g o e)
+      rw (value-is made i, made-clock made) (once-means (wayIn way) (bookSaid way words .rows) (words-fit way words) ks (propertyAt (bookSaid way words) i) g o e)
 
   -- Historically exactly if its argument failed after no such call
   pub historically-holds : (g : Range) (o : ℕ) → rowAt (bookSaid way words .rows) (propertyAt (bookSaid way words) i) ≡ historically g o
       → (verdictOf m i .value ≡ true)
-      ↔ ¬ (SomeCall (bookSaid way words .rows) g (λ past. not (held (bookSaid way words .rows) o past)) (accepted (bookSaid way words .rows) ks) (clockOf m))
+      ↔ ¬ (SomeCall (bookSaid way words .rows) g (λ past. not (held (bookSaid way words .rows) o past)) (historyIn (wayIn way) (bookSaid way words .rows) ks) (clockOf m))
   historically-holds g o e =
-      rw (value-is made i, made-clock made) (historically-means (bookSaid way words .rows) (made-ordered made) ks (propertyAt (bookSaid way words) i) g o e)
+      rw (value-is made i, made-clock made) (historically-means (wayIn way) (bookSaid way words .rows) (words-fit way words) ks (propertyAt (bookSaid way words) i) g o e)
 
   -- Since exactly if right held after some such call and left after every later one
   pub since-holds : (g : Range) (left right : ℕ) → rowAt (bookSaid way words .rows) (propertyAt (bookSaid way words) i) ≡ since g left right
       → (verdictOf m i .value ≡ true)
-      ↔ SinceCall (bookSaid way words .rows) g (held (bookSaid way words .rows) left) (held (bookSaid way words .rows) right) (accepted (bookSaid way words .rows) ks) (clockOf m)
+      ↔ SinceCall (bookSaid way words .rows) g (held (bookSaid way words .rows) left) (held (bookSaid way words .rows) right) (historyIn (wayIn way) (bookSaid way words .rows) ks) (clockOf m)
   since-holds g left right e =
-      rw (value-is made i, made-clock made) (since-means (bookSaid way words .rows) (made-ordered made) ks (propertyAt (bookSaid way words) i) g left right e)
+      rw (value-is made i, made-clock made) (since-means (wayIn way) (bookSaid way words .rows) (words-fit way words) ks (propertyAt (bookSaid way words) i) g left right e)
 
 -- ---- what is allowed for one input coincides
 -- a call on a memory has one answer and leaves one memory

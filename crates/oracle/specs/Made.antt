@@ -3,8 +3,8 @@ use Prim.Native.Nat.{ℕ}
 use mathlib.Core.List.{List, [], _∷_}
 use Rattle.pmtl.specs.Calls.{Call}
 use Rattle.pmtl.specs.Book.{Book}
-use Rattle.book.specs.declared.strict.Loading.{Loading}
-use Rattle.book.specs.Strict.{loadedBy}
+use Rattle.book.specs.declared.loading.Loading.{Loading}
+use Rattle.book.specs.Loading.{loadedBy}
 use Rattle.loader.specs.Loading.{Loads}
 use Rattle.calls.specs.Called.{Called}
 

@@ -11,7 +11,7 @@ use Rattle.numbers.specs.Limits.{LAST-TIME, MOST-ATOMS}
 use Rattle.pmtl.specs.Book.{Rows, Book, AllBelow, widthOf}
 use Rattle.pmtl.specs.Monitor.{Snap, State, initial, value}
 use Rattle.pmtl.specs.Early.{early}
-use Rattle.pmtl.specs.Calls.{Call, time, state, stamped, call, after, History, nowOf, accepted}
+use Rattle.pmtl.specs.Calls.{Call, time, state, stamped, call, afterIn, after, History, nowOf, accepted}
 use Rattle.pmtl.specs.Past.{runBy, run as state-after}
 use Rattle.pmtl.proofs.History.{now-run}
 use Rattle.pmtl.proofs.Values.{values-mean}
@@ -126,7 +126,7 @@ module _ (b : Book) (w : Proper b) (calls : List Call) where
 
 -- 4. SO ALSO BEFORE THE FIRST CALL
 pub before-the-first-call : (b : Book) → Proper b → Agrees b (initial (b .rows)) (oracleOf b)
-unfolding replayed after
+unfolding replayed afterIn
 before-the-first-call b w = answers-agree b w [] (oracleOf b) refl
 
 -- ---- and beside them

@@ -3,9 +3,9 @@ use Prim.Native.Nat.{ℕ, zero, suc, _<_, _≤_}
 use native.Mathlib.Omega.{arith}
 use native.Mathlib.Decide.{decLt}
 use native.Mathlib.Nat.{not-suc-le-zero}
-use mathlib.Core.Path.{_≡_, refl}
+use mathlib.Core.Path.{_≡_}
 use mathlib.Core.Logic.{_⊎_, inl, inr}
-use mathlib.Core.Bool.{Bool, true, false}
+use mathlib.Core.Bool.{true, false}
 use mathlib.Core.List.{List, [], _∷_}
 use lib.ListN.{length, getD, take}
 use lib.Dec.{eqb}
@@ -17,14 +17,12 @@ use Rattle.pmtl.specs.Book.Row.{never, always, atom, conj, disj, neg, implies, 
 use Rattle.pmtl.proofs.Table.{row-out}
 use Rattle.book.specs.Rows.{rowFrom}
 use Rattle.lists.proofs.Listed.{listed-length, listed-at}
-use Rattle.book.specs.Reading.{Read, got, refused, Sections, sections}
-use Rattle.book.specs.Judging.{rowsIn, rangeGood, judged, rowIn, bookIn, refusedWith, loadedFrom, whole, loaded}
-use Rattle.book.specs.declared.strict.Loading.{Loading}
-use Rattle.book.specs.declared.strict.Excess.{Excess}
-use Rattle.book.specs.declared.strict.Excess.the-variants.{Within, Over}
-use Rattle.book.specs.Strict.{excessBy, unless}
+use Rattle.book.specs.Reading.{Sections}
+use Rattle.book.specs.Judging.{rowsIn, rangeGood, judged, rowIn, bookIn, loaded}
+use Rattle.book.specs.declared.loading.Loading.{Loading}
 use Rattle.book.proofs.Accepted.{range, range-ordered, lower-small, upper-small, assume-below, guarantee-below}
 use Rattle.book.proofs.Ordered.{book-ordered}
+use Rattle.book.proofs.Admitted.{admitted-any, words-any}
 use Rattle.oracle.specs.Made.{bookSaid}
 use Rattle.original.specs.Proper.{Fit, RowFit, Proper}
 use Rattle.original_code.proofs.Uses.{book-used}
@@ -76,23 +74,6 @@ book-proper s ok = record {
     go r (yes h) = rw (listed-at (rowIn s) never (rowsIn s) r h) (row-fit _ _ _ _ _ (range s ok r h))
     go r (no h) = rw (row-out (bookIn s .rows) r (omega (arith, listed-length (rowIn s) (rowsIn s)))) tt
 
-loaded-proper : (words : List ℕ) → Proper (loaded words .book)
-unfolding loaded whole loadedFrom
-loaded-proper words = go (sections 1 words)
-  where
-    picked : (s : Sections) (z : Bool) → eqb (judged s) 0 ≡ z → Proper (elim z as (λ x. Rattle.book.specs.Judging.Loaded) [ true ↦ record { number = 0; book = bookIn s } | false ↦ refusedWith (judged s) ] .book)
-    picked s true e = book-proper s (eqb-true (judged s) 0 e)
-    picked s false e = empty-proper
-
-    go : (read : Read Sections) → Proper (whole read .book)
-    go (got s []) = picked s (eqb (judged s) 0) refl
-    go (got s (w ∷ ws)) = empty-proper
-    go (refused n) = empty-proper
-
--- in either way of loading
+-- in each way of loading
 pub said-proper : (way : Loading) (words : List ℕ) → Proper (bookSaid way words)
-said-proper way words = go (excessBy way (loaded words .book .rows))
-  where
-    go : (e : Excess) → Proper (unless e (loaded words) .book)
-    go Within = loaded-proper words
-    go (Over r n) = empty-proper
+said-proper way words = admitted-any Proper empty-proper way (loaded words) (words-any Proper empty-proper book-proper words)

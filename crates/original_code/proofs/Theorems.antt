@@ -1,4 +1,4 @@
--- What our code hands back, from loading on, in either way, and over any list of calls, is what the original answers. Assumes nothing.
+-- What our code hands back in the ordinary way, from loading on, strict or not, and over any list of calls, is what the original answers. Assumes nothing.
 use Prim.Native.Nat.{ℕ, zero, suc, _≤_}
 use native.Mathlib.Omega.{arith}
 use mathlib.Core.Path.{_≡_, refl, sym, ap, ap₂, _∙_}
@@ -10,13 +10,15 @@ use lib.Seq.{ext-getD, take-at}
 use lib.Dec.{ltb}
 use Rattle.numbers.specs.Limits.{LAST-TIME, MOST-ATOMS}
 use Rattle.pmtl.specs.Book.{Book, properties}
+use Rattle.pmtl.specs.Sets.{Way, ordinary}
 use Rattle.pmtl.specs.Monitor.{State, value}
 use Rattle.pmtl.specs.Early.{early}
-use Rattle.pmtl.specs.Calls.{Call, time, state, call, after, accepted}
+use Rattle.pmtl.specs.Calls.{Call, time, state, call, afterIn, after, accepted}
 use Rattle.memory.specs.Memory.{stateOf}
 use Rattle.lists.specs.Lists.{listed}
 use Rattle.lists.proofs.Listed.{listed-length, listed-at, listed-agree}
-use Rattle.book.specs.declared.strict.Loading.{Loading}
+use Rattle.book.specs.declared.loading.Loading.{Loading}
+use Rattle.book.specs.Loading.{wayIn}
 use Rattle.property_answers.specs.declared.Verdict.{Verdict}
 use Rattle.property_answers.specs.Verdict.{propertyAt, verdictIn, verdictOf, propertiesIn, answersNumber, answersList}
 use Rattle.calls.specs.Called.{Called}
@@ -54,10 +56,18 @@ records-first m out = go (ltb (length out) (propertiesIn m)) refl
     go true e h = absurd (omega arith)
     go false e h = take-at (listed (verdictOf m) (propertiesIn m)) (drop (propertiesIn m) out) (propertiesIn m) (listed-length (verdictOf m) (propertiesIn m))
 
--- ---- the statements, of any words loaded and any calls made on what that left
-module _ (way : Loading) (words : List ℕ) (ks : List Call) (m : List ℕ) (came : Made way words ks m) where
+-- ---- the statements, of any words loaded for the ordinary way, and any calls made on what that left
+module _ (way : Loading) (plain : wayIn way ≡ ordinary) (words : List ℕ) (ks : List Call) (m : List ℕ) (came : Made way words ks m) where
   book : Book
   book = bookSaid way words
+
+  -- the state is that of the ordinary way
+  as-after : afterIn (wayIn way) (bookSaid way words .rows) ks ≡ after (bookSaid way words .rows) ks
+  as-after = ap (λ (w : Way). afterIn w (bookSaid way words .rows) ks) plain
+
+  verdict-is : (i : ℕ) → verdictOf m i ≡ verdictIn book (after (book .rows) ks) i
+  unfolding book
+  verdict-is i = made-verdict came i ∙ ap (λ (st : State). verdictIn (bookSaid way words) st i) as-after
 
   -- 1. the original has made the accepted ones of them without a panic
   pub code-never-panics : (o : PmtlOracle) × (replayed (bookSaid way words) ks ≡ done o)
@@ -69,7 +79,7 @@ module _ (way : Loading) (words : List ℕ) (ks : List Call) (m : List ℕ) (cam
   unfolding book
   by-place f g e = sym (map-append f (book .assumes) (book .guarantees))
       ∙ map-listed f (length (book .rows)) (properties book)
-      ∙ listed-agree _ _ (length (properties book)) (λ i h. e i ∙ ap g (sym (made-verdict came i)))
+      ∙ listed-agree _ _ (length (properties book)) (λ i h. e i ∙ ap g (sym (verdict-is i)))
       ∙ ap (λ (b : Book). listed (λ i. g (verdictOf m i)) (length (properties b))) (sym (made-book came))
 
   module _ (o : PmtlOracle) (made-them : replayed (bookSaid way words) ks ≡ done o) where
@@ -92,7 +102,7 @@ module _ (way : Loading) (words : List ℕ) (ks : List Call) (m : List ℕ) (cam
     pub code-answers : Answers m o
     unfolding stateOf book
     code-answers = record {
-      time = agreed .clock ∙ sym (ap (λ (st : State). st .now .clock) (made-state came));
+      time = agreed .clock ∙ sym (ap (λ (st : State). st .now .clock) (made-state came ∙ as-after));
       of-properties = listed-answers;
       of-answers = λ out h. listed-answers ∙ sym (ap (λ vs. done (map earlyIn vs, map valueIn vs)) (records-first m out h)
           ∙ ap₂ (λ x y. done (x, y)) (listed-map earlyIn (verdictOf m) (propertiesIn m)) (listed-map valueIn (verdictOf m) (propertiesIn m)));
@@ -102,7 +112,9 @@ module _ (way : Loading) (words : List ℕ) (ks : List Call) (m : List ℕ) (cam
   panics-as : (k : Call) (n : ℕ) {m′ : List ℕ} {r : ℕ} → Called k m m′ r
       → ((replayed (bookSaid way words) ks >>= λ o. made o k) ≡ panic) ↔ (call (bookSaid way words .rows) (after (bookSaid way words .rows) ks) k .number ≡ n)
       → ((replayed (bookSaid way words) ks >>= λ o. made o k) ≡ panic) ↔ (r ≡ n)
-  panics-as k n c e = (λ p. made-number came c ∙ e .0 p, λ p. e .1 (sym (made-number came c) ∙ p))
+  panics-as k n {m′} {r} c e =
+      let q : r ≡ call (bookSaid way words .rows) (after (bookSaid way words .rows) ks) k .number = made-number came c ∙ ap (λ (st : State). call (bookSaid way words .rows) st k .number) as-after in
+      (λ p. q ∙ e .0 p, λ p. e .1 (sym q ∙ p))
 
   -- a time call hands back 7 exactly where the original's assertion on time panics
   pub code-7 : (t : ℕ) → t ≤ LAST-TIME → {m′ : List ℕ} {r : ℕ} → Called (time t) m m′ r → ((replayed (bookSaid way words) ks >>= λ o. made o (time t)) ≡ panic) ↔ (r ≡ 7)
@@ -114,6 +126,6 @@ module _ (way : Loading) (words : List ℕ) (ks : List Call) (m : List ℕ) (cam
   code-9 bytes k c = panics-as (state bytes) 9 c (panics-as-9 (bookSaid way words) (said-proper way words) ks bytes k)
 
 -- 4. ALSO BEFORE THE FIRST CALL: what a monitor just loaded answers is what the original just made answers
-pub code-before-the-first-call : (way : Loading) (words m : List ℕ) → Made way words [] m → Answers m (oracleOf (bookSaid way words))
+pub code-before-the-first-call : (way : Loading) → wayIn way ≡ ordinary → (words m : List ℕ) → Made way words [] m → Answers m (oracleOf (bookSaid way words))
 unfolding replayed
-code-before-the-first-call way words m came = code-answers way words [] m came (oracleOf (bookSaid way words)) refl
+code-before-the-first-call way plain words m came = code-answers way plain words [] m came (oracleOf (bookSaid way words)) refl

@@ -11,8 +11,8 @@ use Rattle.numset.specs.Runs.{Runs, has, covers}
 use Rattle.pmtl.specs.declared.Answer.the-variants.{Open}
 use Rattle.pmtl.specs.Book.{Row, mapRow, Rows, rowAt, Ordered, table, answer}
 use Rattle.pmtl.specs.Book.Row.{never}
-use Rattle.pmtl.specs.Sets.{gone, Renew, renewed, setRuleBy, setRule}
-use Rattle.pmtl.specs.Monitor.{Snap, State, setAt, valueRule, Cell, setIn, valueIn, noCell, cellRuleBy, cellRule, stepBy, step, value}
+use Rattle.pmtl.specs.Sets.{gone, Renew, renewed, ordinary, renewedIn, setRuleBy, setRule}
+use Rattle.pmtl.specs.Monitor.{Snap, State, setAt, valueRule, Cell, setIn, valueIn, noCell, cellRuleBy, cellRule, stepBy, stepIn, step, value}
 use Rattle.pmtl.specs.Early.{earlyRule, early}
 use Rattle.pmtl.specs.Settled.{settledRule, settled}
 use Rattle.pmtl.proofs.Table.{answer-in, answer-out, answer-made, answer-fix, answer-only, mapRow-mapRow, mapRow-local, table-length, table-local, by-rows}
@@ -68,7 +68,11 @@ module _ (renew : Renew) (b : Rows) (st : State) (now : Snap) where
   unfolding stepBy
   step-begun-by = refl
 
--- as the monitor does it
+  pub step-way-by : stepBy renew b st now .way ≡ st .way
+  unfolding stepBy
+  step-way-by = refl
+
+-- in the ordinary way
 module _ (b : Rows) (st : State) (now : Snap) where
   pub step-sets : length (step b st now .sets) ≡ length b
   step-sets = step-sets-by renewed b st now
@@ -79,16 +83,24 @@ module _ (b : Rows) (st : State) (now : Snap) where
   pub step-begun : step b st now .begun ≡ true
   step-begun = step-begun-by renewed b st now
 
--- a step looks at the sets before it only through what the rule makes of them
-module _ (b : Rows) (st st′ : State) (now : Snap)
-    (same : (r : ℕ) → r < length b → (f : ℕ → Bool) → setRule (now .clock) (setAt st r) (mapRow f (rowAt b r)) ≡ setRule (now .clock) (setAt st′ r) (mapRow f (rowAt b r))) where
-  same-cell : (r : ℕ) → r < length b → (f : ℕ → Cell) → cellRule st now r (mapRow f (rowAt b r)) ≡ cellRule st′ now r (mapRow f (rowAt b r))
+  pub step-way : step b st now .way ≡ st .way
+  step-way = step-way-by renewed b st now
+
+  -- it is the step of a monitor in the ordinary way
+  pub step-ordinary : st .way ≡ ordinary → stepIn b st now ≡ step b st now
+  step-ordinary e = ap (λ w. stepBy (renewedIn w (st .now .clock)) b st now) e
+
+-- a step looks at the sets before it, and at how sets are renewed, only through what the rule makes of them
+module _ (renew renew′ : Renew) (b : Rows) (st st′ : State) (now : Snap) (one-way : st .way ≡ st′ .way)
+    (same : (r : ℕ) → r < length b → (f : ℕ → Bool)
+    → setRuleBy renew (now .clock) (setAt st r) (mapRow f (rowAt b r)) ≡ setRuleBy renew′ (now .clock) (setAt st′ r) (mapRow f (rowAt b r))) where
+  same-cell : (r : ℕ) → r < length b → (f : ℕ → Cell) → cellRuleBy renew st now r (mapRow f (rowAt b r)) ≡ cellRuleBy renew′ st′ now r (mapRow f (rowAt b r))
   same-cell r h f = ap (λ (s : Runs). record { set = s; value = valueRule (now .atoms) (has s (now .clock)) (mapRow valueIn (mapRow f (rowAt b r))) })
       (rw (mapRow-mapRow valueIn f (rowAt b r)) (same r h (λ o. f o .value)))
 
-  pub step-same : step b st now ≡ step b st′ now
+  pub step-same : stepBy renew b st now ≡ stepBy renew′ b st′ now
   unfolding stepBy
-  step-same = ap (λ t. record { begun = true; now = now; sets = map setIn t }) (table-local b noCell (cellRule st now) (cellRule st′ now) (length b) same-cell)
+  step-same = ap₂ (λ w t. record { way = w; begun = true; now = now; sets = map setIn t }) one-way (table-local b noCell (cellRuleBy renew st now) (cellRuleBy renew′ st′ now) (length b) same-cell)
 
 module _ (b : Rows) (w : Ordered b) where
   module _ (st : State) where

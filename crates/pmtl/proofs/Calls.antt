@@ -9,15 +9,17 @@ use lib.Dec.{ltb, eqb}
 use borrow.Author.Tests.{ltb-false, eqb-true, eqb-false, eq-eqb, ne-eqb}
 use Rattle.numbers.specs.Limits.{LAST-TIME, MOST-ATOMS}
 use Rattle.pmtl.specs.Book.{Rows, widthOf, some}
-use Rattle.pmtl.specs.Monitor.{Snap, State, step}
-use Rattle.pmtl.specs.Calls.{Call, time, state, stamped, turns, timeRefusal, stateRefusal, firstOf, refusal, crowds, Outcome, play, call, after, History, nowOf, onto, accepted}
+use Rattle.pmtl.specs.Sets.{Way, ordinary}
+use Rattle.pmtl.specs.Monitor.{Snap, State, stepIn}
+use Rattle.pmtl.specs.Calls.{Call, time, state, stamped, turns, timeRefusal, stateRefusal, firstOf, refusal, crowds, Outcome, play, call, afterIn, after, History, nowOf, onto, accepted}
 use Rattle.pmtl.specs.Past.{runBy, run}
-use Rattle.pmtl.proofs.History.{Legal, now-run, small-clock}
+use Rattle.pmtl.proofs.Answers.{step-ordinary}
+use Rattle.pmtl.proofs.History.{Legal, now-run, way-run, small-clock}
 
 -- the state after snapshots in turn
 unfoldable pub steps : Rows → State → List Snap → State
 steps b st [] = st
-steps b st (n ∷ ns) = steps b (step b st n) ns
+steps b st (n ∷ ns) = steps b (stepIn b st n) ns
 
 -- an outcome: a number other than 0 and the old state, or 0 and the new one
 data Either (old new : State) (o : Outcome) : Type 0 where
@@ -27,10 +29,10 @@ data Either (old new : State) (o : Outcome) : Type 0 where
 played : (b : Rows) (old st : State) (ns : List Snap) → Either old (steps b st ns) (play b old st ns)
 unfolding play steps
 played b old st [] = moved refl refl
-played b old st (n ∷ ns) = go (crowds b st n) (played b old (step b st n) ns)
+played b old st (n ∷ ns) = go (crowds b st n) (played b old (stepIn b st n) ns)
   where
-    go : (z : Bool) → Either old (steps b (step b st n) ns) (play b old (step b st n) ns)
-        → Either old (steps b (step b st n) ns) (elim z [ true ↦ record { number = 11; state = old } | false ↦ play b old (step b st n) ns ])
+    go : (z : Bool) → Either old (steps b (stepIn b st n) ns) (play b old (stepIn b st n) ns)
+        → Either old (steps b (stepIn b st n) ns) (elim z [ true ↦ record { number = 11; state = old } | false ↦ play b old (stepIn b st n) ns ])
     go true ih = stayed refl refl
     go false ih = ih
 
@@ -58,11 +60,11 @@ refused-stays b st k n = go (called b st k .either)
     go (stayed z e) = e
     go (moved z e) = absurd (n (eqb-true (call b st k .number) 0 z))
 
--- steps go on along the history
+-- steps in the ordinary way go on along the history
 steps-run : (b : Rows) (ns : List Snap) (h : History) → steps b (run b h) ns ≡ run b (onto ns h)
 unfolding steps onto runBy
 steps-run b [] h = refl
-steps-run b (n ∷ ns) h = steps-run b ns (n ∷ h)
+steps-run b (n ∷ ns) h = ap (λ st. steps b st ns) (step-ordinary b (run b h) n (way-run b h)) ∙ steps-run b ns (n ∷ h)
 
 -- a number that does not refuse
 pub first-zero : (a : Bool) (n m : ℕ) → cond a (suc n) m ≡ 0 → (a ≡ false) × (m ≡ 0)
@@ -106,7 +108,7 @@ pub record Trail (b : Rows) (ks : List Call) (h : History) : Type 0 where
   pub legal : Legal b h
 
 pub trail : (b : Rows) (ks : List Call) → Trail b ks (accepted b ks)
-unfolding after accepted runBy
+unfolding afterIn accepted runBy
 trail b [] = record { is = refl; legal = tt }
 trail b (k ∷ ks) = go (trail b ks) (called b (after b ks) k .either) (called b (after b ks) k .sound)
   where
@@ -139,23 +141,25 @@ further b (k ∷ more) ks = go (eqb (call b (after b (more ++ ks)) k .number) 0)
     go true ih = (onto ns (ih .0), ap (onto ns) (ih .1) ∙ onto-append ns (ih .0) (accepted b ks))
     go false ih = ih
 
--- after a refused call, further calls leave the state and the history that they leave without it
-module _ (b : Rows) (k : Call) (calls : List Call) (n : ¬ (call b (after b calls) k .number ≡ 0)) where
-  pub after-refused : (more : List Call) → after b (more ++ k ∷ calls) ≡ after b (more ++ calls)
-  unfolding after
-  after-refused [] = refused-stays b (after b calls) k n
-  after-refused (m ∷ more) = ap (λ st. call b st m .state) (after-refused more)
+-- after a refused call, further calls leave the state that they leave without it
+pub after-refused : (way : Way) (b : Rows) (k : Call) (calls : List Call) → ¬ (call b (afterIn way b calls) k .number ≡ 0)
+    → (more : List Call) → afterIn way b (more ++ k ∷ calls) ≡ afterIn way b (more ++ calls)
+unfolding afterIn
+after-refused way b k calls n [] = refused-stays b (afterIn way b calls) k n
+after-refused way b k calls n (m ∷ more) = ap (λ st. call b st m .state) (after-refused way b k calls n more)
 
+-- and the history
+module _ (b : Rows) (k : Call) (calls : List Call) (n : ¬ (call b (after b calls) k .number ≡ 0)) where
   pub accepted-refused : (more : List Call) → accepted b (more ++ k ∷ calls) ≡ accepted b (more ++ calls)
   unfolding accepted
   accepted-refused [] = rw (ne-eqb (call b (after b calls) k .number) 0 n)
-  accepted-refused (m ∷ more) = ap₂ (λ st h. cond (eqb (call b st m .number) 0) (onto (turns (st .now) m) h) h) (after-refused more) (accepted-refused more)
+  accepted-refused (m ∷ more) = ap₂ (λ st h. cond (eqb (call b st m .number) 0) (onto (turns (st .now) m) h) h) (after-refused ordinary b k calls n more) (accepted-refused more)
 
 -- ---- when a call is accepted, and what it leaves then
 -- there is room for each snapshot in turn
 abbrev pub Roomy : Rows → State → List Snap → Type 0
 Roomy b st [] = Unit {0}
-Roomy b st (n ∷ ns) = (crowds b st n ≡ false) × Roomy b (step b st n) ns
+Roomy b st (n ∷ ns) = (crowds b st n ≡ false) × Roomy b (stepIn b st n) ns
 
 pub record Accepts (b : Rows) (st : State) (k : Call) : Type 0 where
   pub fine : refusal b (st .now) k ≡ 0
@@ -164,18 +168,18 @@ pub record Accepts (b : Rows) (st : State) (k : Call) : Type 0 where
 play-roomy : (b : Rows) (old st : State) (ns : List Snap) → play b old st ns .number ≡ 0 → Roomy b st ns
 unfolding play
 play-roomy b old st [] e = tt
-play-roomy b old st (n ∷ ns) e = go (crowds b st n) refl e (play-roomy b old (step b st n) ns)
+play-roomy b old st (n ∷ ns) e = go (crowds b st n) refl e (play-roomy b old (stepIn b st n) ns)
   where
     go : (z : Bool) → crowds b st n ≡ z
-        → (elim z as (λ x. Outcome) [ true ↦ record { number = 11; state = old } | false ↦ play b old (step b st n) ns ]) .number ≡ 0
-        → (play b old (step b st n) ns .number ≡ 0 → Roomy b (step b st n) ns) → Roomy b st (n ∷ ns)
+        → (elim z as (λ x. Outcome) [ true ↦ record { number = 11; state = old } | false ↦ play b old (stepIn b st n) ns ]) .number ≡ 0
+        → (play b old (stepIn b st n) ns .number ≡ 0 → Roomy b (stepIn b st n) ns) → Roomy b st (n ∷ ns)
     go true z q ih = absurd (omega arith)
     go false z q ih = (z, ih q)
 
 roomy-play : (b : Rows) (old st : State) (ns : List Snap) → Roomy b st ns → play b old st ns ≡ record { number = 0; state = steps b st ns }
 unfolding play steps
 roomy-play b old st [] r = refl
-roomy-play b old st (n ∷ ns) r = rw (r .0, play) (roomy-play b old (step b st n) ns (r .1))
+roomy-play b old st (n ∷ ns) r = rw (r .0, play) (roomy-play b old (stepIn b st n) ns (r .1))
 
 pub call-accepts : (b : Rows) (st : State) (k : Call) → call b st k .number ≡ 0 → Accepts b st k
 unfolding call

@@ -65,3 +65,11 @@ module _ (n c : ℕ) (f : ℕ → Bool) (s : Runs) (ok : Canonical s) (none : No
   more-length m =
       let e : m .runs ≡ cut c s = unique (m .runs) (cut c s) (m .longest) (cut-canonical c s none ok) (λ t. m .members t ∙ sym (cut-has t)) in
       omega (arith, cut-length c s, ap length e, m .more)
+
+-- two such sets with the same instants from c on have as many runs
+pub same-count : (c : ℕ) (s s′ : Runs) → Canonical s → Canonical s′ → NoneBefore c s → NoneBefore c s′
+    → ((t : ℕ) → c ≤ t → has s t ≡ has s′ t) → length s ≡ length s′
+same-count c s s′ ok ok′ none none′ same =
+    let e : cut c s ≡ cut c s′ = unique (cut c s) (cut c s′) (cut-canonical c s none ok) (cut-canonical c s′ none′ ok′)
+    (λ t. cut-has 0 c (has s′) s ok none same t ∙ sym (cut-has 0 c (has s′) s′ ok′ none′ (λ u l. refl) t)) in
+    sym (cut-length c s) ∙ ap length e ∙ cut-length c s′

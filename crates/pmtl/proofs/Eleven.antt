@@ -12,10 +12,10 @@ use Rattle.numbers.specs.Limits.{LAST-TIME, MOST-ATOMS, MOST-RUNS}
 use Rattle.numset.specs.Runs.{Runs, has, Canonical}
 use Rattle.lists.proofs.Tests.{or-elim, or-left, or-right}
 use Rattle.pmtl.specs.Book.{mapRow, Rows, rowAt, widthOf, some}
-use Rattle.pmtl.specs.Monitor.{Snap, State, setAt, step}
+use Rattle.pmtl.specs.Monitor.{Snap, State, setAt, stepIn}
 use Rattle.pmtl.specs.Calls.{Call, time, state, stamped, turns, timeRefusal, stateRefusal, firstOf, refusal, crowded, crowds, Outcome, play, call, History, nowOf}
 use Rattle.pmtl.specs.Meaning.{instants, meaning}
-use Rattle.pmtl.specs.Kept.{NoneBefore, Full, FullIn}
+use Rattle.pmtl.specs.Kept.{NoneBefore, Full, FullBy}
 use Rattle.pmtl.proofs.Cut.{length-more, more-length}
 
 module _ {A : Type 0} (p : A → Bool) (d : A) where
@@ -75,31 +75,32 @@ not-eleven b now (state bytes) = state-not-eleven b bytes
 not-eleven b now (stamped t bytes) =
     first-eleven (eqb (timeRefusal now t) 0) (stateRefusal b bytes) (timeRefusal now t) (state-not-eleven b bytes) (time-not-eleven now t)
 
-module _ (b : Rows) where
+-- in any way of monitoring: `put` says which calls the history gets before each snapshot
+module _ (put : History → Snap → History) (b : Rows) where
   -- each step crowds exactly if the history is full after it
   abbrev pub Told : State → History → List Snap → Type 0
   Told st h [] = Unit {0}
-  Told st h (n ∷ ns) = ((crowds b st n ≡ true) ↔ Full b (n ∷ h)) × Told (step b st n) (n ∷ h) ns
+  Told st h (n ∷ ns) = ((crowds b st n ≡ true) ↔ Full b (n ∷ put h n)) × Told (stepIn b st n) (n ∷ put h n) ns
 
-  play-full : (old st : State) (h : History) (ns : List Snap) → Told st h ns → play b old st ns .number ≡ 11 → FullIn b h ns
+  play-full : (old st : State) (h : History) (ns : List Snap) → Told st h ns → play b old st ns .number ≡ 11 → FullBy put b h ns
   unfolding play
   play-full old st h [] t e = omega arith
-  play-full old st h (n ∷ ns) t e = go (crowds b st n) refl e (play-full old (step b st n) (n ∷ h) ns (t .1))
+  play-full old st h (n ∷ ns) t e = go (crowds b st n) refl e (play-full old (stepIn b st n) (n ∷ put h n) ns (t .1))
     where
       go : (z : Bool) → crowds b st n ≡ z
-          → (elim z as (λ x. Outcome) [ true ↦ record { number = 11; state = old } | false ↦ play b old (step b st n) ns ]) .number ≡ 11
-          → (play b old (step b st n) ns .number ≡ 11 → FullIn b (n ∷ h) ns) → FullIn b h (n ∷ ns)
+          → (elim z as (λ x. Outcome) [ true ↦ record { number = 11; state = old } | false ↦ play b old (stepIn b st n) ns ]) .number ≡ 11
+          → (play b old (stepIn b st n) ns .number ≡ 11 → FullBy put b (n ∷ put h n) ns) → FullBy put b h (n ∷ ns)
       go true z q ih = inl (t .0 .0 z)
       go false z q ih = inr (ih q)
 
-  full-play : (old st : State) (h : History) (ns : List Snap) → Told st h ns → FullIn b h ns → play b old st ns .number ≡ 11
+  full-play : (old st : State) (h : History) (ns : List Snap) → Told st h ns → FullBy put b h ns → play b old st ns .number ≡ 11
   unfolding play
   full-play old st h [] t f = absurd f
-  full-play old st h (n ∷ ns) t f = go (crowds b st n) refl f (full-play old (step b st n) (n ∷ h) ns (t .1))
+  full-play old st h (n ∷ ns) t f = go (crowds b st n) refl f (full-play old (stepIn b st n) (n ∷ put h n) ns (t .1))
     where
-      go : (z : Bool) → crowds b st n ≡ z → FullIn b h (n ∷ ns)
-          → (FullIn b (n ∷ h) ns → play b old (step b st n) ns .number ≡ 11)
-          → (elim z as (λ x. Outcome) [ true ↦ record { number = 11; state = old } | false ↦ play b old (step b st n) ns ]) .number ≡ 11
+      go : (z : Bool) → crowds b st n ≡ z → FullBy put b h (n ∷ ns)
+          → (FullBy put b (n ∷ put h n) ns → play b old (stepIn b st n) ns .number ≡ 11)
+          → (elim z as (λ x. Outcome) [ true ↦ record { number = 11; state = old } | false ↦ play b old (stepIn b st n) ns ]) .number ≡ 11
       go true z q ih = refl
       go false z (inl q) ih = absurd (true≢false (sym (t .0 .1 q) ∙ z))
       go false z (inr q) ih = ih q
@@ -107,7 +108,7 @@ module _ (b : Rows) where
   -- 11 exactly when the call is not refused for what it is, and the history is full after one of its snapshots
   module _ (st : State) (h : History) (k : Call) (told : refusal b (st .now) k ≡ 0 → Told st h (turns (st .now) k)) where
     abbrev Eleven : Type 0
-    Eleven = (refusal b (st .now) k ≡ 0) × FullIn b h (turns (st .now) k)
+    Eleven = (refusal b (st .now) k ≡ 0) × FullBy put b h (turns (st .now) k)
 
     call-full : call b st k .number ≡ 11 → Eleven
     unfolding call
@@ -124,5 +125,5 @@ module _ (b : Rows) where
     unfolding call
     full-call f = rw (eq-eqb (refusal b (st .now) k) 0 (f .0), call) (full-play st st h (turns (st .now) k) (told (f .0)) (f .1))
 
-    pub eleven-iff : (call b st k .number ≡ 11) ↔ ((refusal b (st .now) k ≡ 0) × FullIn b h (turns (st .now) k))
+    pub eleven-iff : (call b st k .number ≡ 11) ↔ ((refusal b (st .now) k ≡ 0) × FullBy put b h (turns (st .now) k))
     eleven-iff = (call-full, full-call)

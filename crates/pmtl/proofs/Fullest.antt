@@ -1,7 +1,7 @@
 -- How full the fullest set of a monitor is: no set has more runs, it is 0 for a fresh monitor, and it never passes the limit. Assumes nothing.
 use Prim.Native.Nat.{ℕ, zero, suc, _≤_, _<_}
 use native.Mathlib.Omega.{arith}
-use mathlib.Core.Path.{_≡_, refl, sym, _∙_}
+use mathlib.Core.Path.{_≡_, refl, sym, ap, _∙_}
 use mathlib.Core.Bool.{Bool, true, false}
 use mathlib.Core.Logic.{⊎-elim}
 use mathlib.Core.List.{List, [], _∷_}
@@ -9,11 +9,12 @@ use lib.ListN.{length, getD, replicate}
 use lib.Dec.{ltb, eqb}
 use borrow.Author.Tests.{lt-ltb, le-ltb}
 use Rattle.numbers.specs.Limits.{MOST-RUNS}
-use Rattle.lists.proofs.Tests.{lt-or-ge, clash, fails-by, or-left, or-right}
+use Rattle.lists.proofs.Tests.{either, lt-or-ge, clash, fails-by, or-left, or-right}
 use Rattle.numset.specs.Runs.{Runs}
 use Rattle.pmtl.specs.Book.{Rows, some}
-use Rattle.pmtl.specs.Monitor.{Snap, State, mostRuns, fullest, initial, step}
-use Rattle.pmtl.specs.Calls.{Call, turns, refusal, crowded, Outcome, play, call, after}
+use Rattle.pmtl.specs.Sets.{Way}
+use Rattle.pmtl.specs.Monitor.{Snap, State, mostRuns, fullest, initialIn, stepIn}
+use Rattle.pmtl.specs.Calls.{Call, turns, refusal, crowded, Outcome, play, call, afterIn}
 
 -- no set has more runs
 pub most-at : (ss : List Runs) (r : ℕ) → length (getD ss r []) ≤ mostRuns ss
@@ -37,9 +38,9 @@ none-most zero = refl
 none-most (suc n) = rw (none-most n)
 
 -- a fresh monitor has no runs
-pub fresh-none : (b : Rows) → fullest (initial b) ≡ 0
-unfolding initial
-fresh-none b = none-most (length b)
+pub fresh-none : (way : Way) (b : Rows) → fullest (initialIn way b) ≡ 0
+unfolding initialIn
+fresh-none way b = none-most (length b)
 
 -- ---- the limit
 module _ (c : ℕ) where
@@ -69,16 +70,28 @@ roomy : (st : State) → crowded st ≡ false → fullest st ≤ MOST-RUNS
 unfolding crowded
 roomy st e = few MOST-RUNS (st .sets) e
 
+-- so a monitor is crowded exactly where its fullest set passes the limit, and one whose fullest has as many runs is, too
+crowded-most : (st : State) → crowded st ≡ ltb MOST-RUNS (fullest st)
+unfolding crowded
+crowded-most st =
+    ⊎-elim
+    (λ l. ⊎-elim (λ t. t) (λ f. absurd (omega (arith, l, few MOST-RUNS (st .sets) f))) (either (some (crowd MOST-RUNS) (st .sets))) ∙ sym (lt-ltb MOST-RUNS (fullest st) l))
+    (λ g. few-back MOST-RUNS (st .sets) g ∙ sym (le-ltb MOST-RUNS (fullest st) g))
+    (lt-or-ge MOST-RUNS (fullest st))
+
+pub same-crowd : (st st′ : State) → fullest st ≡ fullest st′ → crowded st ≡ crowded st′
+same-crowd st st′ e = crowded-most st ∙ ap (ltb MOST-RUNS) e ∙ sym (crowded-most st′)
+
 abbrev Few : Outcome → Type 0
 Few o = fullest (o .state) ≤ MOST-RUNS
 
 play-few : (b : Rows) (old st : State) (ns : List Snap) → fullest old ≤ MOST-RUNS → fullest st ≤ MOST-RUNS → Few (play b old st ns)
 unfolding play
 play-few b old st [] h k = k
-play-few b old st (n ∷ ns) h k = go (crowded (step b st n)) (λ e. play-few b old (step b st n) ns h (roomy (step b st n) e)) refl
+play-few b old st (n ∷ ns) h k = go (crowded (stepIn b st n)) (λ e. play-few b old (stepIn b st n) ns h (roomy (stepIn b st n) e)) refl
   where
-    go : (x : Bool) → (crowded (step b st n) ≡ false → Few (play b old (step b st n) ns)) → crowded (step b st n) ≡ x
-        → Few (elim x [ true ↦ record { number = 11; state = old } | false ↦ play b old (step b st n) ns ])
+    go : (x : Bool) → (crowded (stepIn b st n) ≡ false → Few (play b old (stepIn b st n) ns)) → crowded (stepIn b st n) ≡ x
+        → Few (elim x [ true ↦ record { number = 11; state = old } | false ↦ play b old (stepIn b st n) ns ])
     go true ih e = h
     go false ih e = ih e
 
@@ -92,7 +105,7 @@ call-few b st k h = go (eqb (refusal b (st .now) k) 0)
     go false = h
 
 -- the count never passes the limit, after any calls
-pub fullest-few : (b : Rows) (calls : List Call) → fullest (after b calls) ≤ MOST-RUNS
-unfolding after
-fullest-few b [] = rw (fresh-none b) (omega arith)
-fullest-few b (k ∷ ks) = call-few b (after b ks) k (fullest-few b ks)
+pub fullest-few : (way : Way) (b : Rows) (calls : List Call) → fullest (afterIn way b calls) ≤ MOST-RUNS
+unfolding afterIn
+fullest-few way b [] = rw (fresh-none way b) (omega arith)
+fullest-few way b (k ∷ ks) = call-few b (afterIn way b ks) k (fullest-few way b ks)

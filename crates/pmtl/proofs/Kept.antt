@@ -8,7 +8,7 @@ use mathlib.Core.Bool.{true}
 use mathlib.Core.List.{List, [], _∷_}
 use Rattle.numset.specs.Runs.{has}
 use Rattle.pmtl.specs.Book.{mapRow, Rows, rowAt, Ordered}
-use Rattle.pmtl.specs.Sets.{renewed, renewedAll}
+use Rattle.pmtl.specs.Sets.{renewed, renewedAll, ordinary}
 use Rattle.pmtl.specs.Monitor.{Snap, State, setAt, value}
 use Rattle.pmtl.specs.Early.{early}
 use Rattle.pmtl.specs.Settled.{settled}
@@ -16,9 +16,9 @@ use Rattle.pmtl.specs.Calls.{Call, turns, refusal, crowds, call, after, 
 use Rattle.pmtl.specs.Meaning.{instants, meaning}
 use Rattle.pmtl.specs.Past.{runBy, run}
 use Rattle.pmtl.specs.Kept.{AllRuns, NoneBefore, keepsAll, Full, FullIn}
-use Rattle.pmtl.proofs.Answers.{set-made-by}
+use Rattle.pmtl.proofs.Answers.{set-made-by, step-ordinary}
 use Rattle.pmtl.proofs.Renewed.{rule-any, renewed-lawful, all-lawful}
-use Rattle.pmtl.proofs.History.{Legal, now-run, initial-set, run-canonical}
+use Rattle.pmtl.proofs.History.{Legal, now-run, way-run, initial-set, run-canonical}
 use Rattle.pmtl.proofs.Values.{sets-mean, sets-mean-by}
 use Rattle.pmtl.proofs.Calls.{trail, legal-call}
 use Rattle.pmtl.proofs.EachRun.{renewed-none-before}
@@ -26,9 +26,13 @@ use Rattle.pmtl.proofs.Alike.{Alike, value-alike, early-alike, settled-
 use Rattle.pmtl.proofs.Eleven.{crowded-is, Told, eleven-iff}
 
 -- ---- along a history
+-- in the ordinary way nothing is put in
+abbrev none-put : History → Snap → History
+none-put h n = h
+
 pub run-none-before : (b : Rows) (h : History) → Legal b h → (r : ℕ) → NoneBefore (nowOf b h .clock) (setAt (run b h) r)
 unfolding runBy AllRuns
-run-none-before b [] l r = rw (initial-set b r) tt
+run-none-before b [] l r = rw (initial-set ordinary b r) tt
 run-none-before b (s ∷ h) l r =
     let m = set-made-by renewed b (run b h) s r in
     let old = setAt (run b h) r in
@@ -42,12 +46,15 @@ legal-first b (n ∷ ns) h l = legal-first b ns (n ∷ h) l .2
 module _ (b : Rows) (w : Ordered b) where
   run-crowds : (n : Snap) (h : History) → Legal b (n ∷ h) → (crowds b (run b h) n ≡ true) ↔ Full b (n ∷ h)
   unfolding runBy
-  run-crowds n h l = crowded-is b (run b (n ∷ h)) (n ∷ h) (run-canonical b (n ∷ h)) (run-none-before b (n ∷ h) l) (λ r. sets-mean b w r (n ∷ h) l)
+  run-crowds n h l = rw (step-ordinary b (run b h) n (way-run b h)) (crowded-is b (run b (n ∷ h)) (n ∷ h) (run-canonical b (n ∷ h)) (run-none-before b (n ∷ h) l) (λ r. sets-mean b w r (n ∷ h) l))
 
-  told-run : (ns : List Snap) (h : History) → Legal b (onto ns h) → Told b (run b h) h ns
+  told-run : (ns : List Snap) (h : History) → Legal b (onto ns h) → Told none-put b (run b h) h ns
   unfolding onto runBy
   told-run [] h l = tt
-  told-run (n ∷ ns) h l = (run-crowds n h (legal-first b ns (n ∷ h) l), told-run ns (n ∷ h) l)
+  told-run (n ∷ ns) h l = (
+    run-crowds n h (legal-first b ns (n ∷ h) l),
+    rw (step-ordinary b (run b h) n (way-run b h)) (told-run ns (n ∷ h) l),
+  )
 
   pub legal-now : (h : History) → Legal b h → (k : Call) → refusal b (run b h .now) k ≡ 0 → Legal b (onto (turns (run b h .now) k) h)
   legal-now h l k = rw (now-run b h) (legal-call b h l k)
@@ -82,5 +89,5 @@ module _ (b : Rows) (calls : List Call) where
     -- 11 exactly when the call is not refused for what it is, and the instants of some row at or after the new clock form more than 64 runs
     pub eleven-is : (k : Call) → (call b (after b calls) k .number ≡ 11)
         ↔ ((refusal b (after b calls .now) k ≡ 0) × FullIn b (accepted b calls) (turns (after b calls .now) k))
-    eleven-is k = rw (trail b calls .is) (eleven-iff b (run b (accepted b calls)) (accepted b calls) k
+    eleven-is k = rw (trail b calls .is) (eleven-iff none-put b (run b (accepted b calls)) (accepted b calls) k
         (λ e. told-run b w (turns (run b (accepted b calls) .now) k) (accepted b calls) (legal-now b w (accepted b calls) (trail b calls .legal) k e)))

@@ -1,5 +1,7 @@
 pub mod Table
 pub mod Answers
+pub mod Still
+pub mod Flat
 pub mod Seams
 pub mod Renewed
 pub mod History

@@ -1,15 +1,15 @@
 -- Sets as calls renew them: canonical, and which instants they hold. Assumes nothing.
-use Prim.Native.Nat.{ℕ, _≤_}
+use Prim.Native.Nat.{ℕ, _+_, _≤_, min}
 use native.Mathlib.Omega.{arith}
 use mathlib.Core.Path.{_≡_, refl, ap, _∙_}
 use mathlib.Core.List.{[]}
 use mathlib.Core.Bool.{Bool, true, false, not, _&&_, _||_, true≢false}
-use Rattle.numset.specs.Runs.{Runs, has, kept, Canonical}
+use Rattle.numset.specs.Runs.{Runs, has, within, kept, Canonical}
 use Rattle.numset.proofs.Union.{union-has, union-canonical}
 use Rattle.numset.proofs.Kept.{kept-canonical, kept-has}
-use Rattle.pmtl.specs.Book.{Range, inRange, Row}
+use Rattle.pmtl.specs.Book.{Range, start, stop, inRange, Row}
 use Rattle.pmtl.specs.Book.Row.{never, always, atom, conj, disj, neg, implies, historically, once, since}
-use Rattle.pmtl.specs.Sets.{gone, staysIf, addedIf, Renew, renewed, renewedAll, setRuleBy}
+use Rattle.pmtl.specs.Sets.{gone, staysIf, addedIf, Renew, renewed, renewedAll, firstly, lasted, Way, ordinary, lasting, renewedIn, setRuleBy}
 use Rattle.pmtl.proofs.Seams.{gone-none, kept-gone}
 
 -- the set stays or is dropped
@@ -23,27 +23,67 @@ unfolding staysIf has
 stays-has true s t = refl
 stays-has false s t = refl
 
--- the range is added or is not
-added-canonical : (x : Bool) (g : Range) (c : ℕ) (s : Runs) → Canonical s → Canonical (addedIf x g c s)
+-- the ranges are added or are not
+added-canonical : (x : Bool) (g : Range) (from c : ℕ) (s : Runs) → Canonical s → Canonical (addedIf x g from c s)
 unfolding addedIf
-added-canonical true g c s h = union-canonical _ _ s h
-added-canonical false g c s h = h
+added-canonical true g from c s h = union-canonical _ _ s h
+added-canonical false g from c s h = h
 
-added-has : (x : Bool) (g : Range) (c : ℕ) (s : Runs) → Canonical s → (t : ℕ) → has (addedIf x g c s) t ≡ (x && inRange g c t || has s t)
+added-has : (x : Bool) (g : Range) (from c : ℕ) (s : Runs) → Canonical s → (t : ℕ)
+    → has (addedIf x g from c s) t ≡ (x && within (start g from) (stop g c) t || has s t)
 unfolding addedIf
-added-has true g c s h t = union-has _ _ s t h
-added-has false g c s h t = refl
+added-has true g from c s h t = union-has _ _ s t h
+added-has false g from c s h t = refl
 
+-- a set that a call changes, counting from any instant: its instants are those of the ranges if they are added, and those of the set if it stays
+module _ (k x : Bool) (g : Range) (from c : ℕ) (s : Runs) (h : Canonical s) where
+  pub changed-canonical : Canonical (addedIf x g from c (staysIf k (kept c s)))
+  changed-canonical = added-canonical x g from c _ (stays-canonical k _ (kept-canonical c s h))
+
+  changed-has : (t : ℕ) → c ≤ t → has (addedIf x g from c (staysIf k (kept c s))) t ≡ (x && within (start g from) (stop g c) t || k && has s t)
+  changed-has t l = added-has x g from c _ (stays-canonical k _ (kept-canonical c s h)) t
+      ∙ ap (λ y. x && within (start g from) (stop g c) t || y) (stays-has k (kept c s) t ∙ ap (λ y. k && y) (kept-has c t s l))
+
+-- in the ordinary way
 pub renewed-canonical : (k x : Bool) (g : Range) (c : ℕ) (s : Runs) → Canonical s → Canonical (renewed k x g c s)
 unfolding renewed
-renewed-canonical k x g c s h = added-canonical x g c _ (stays-canonical k _ (kept-canonical c s h))
+renewed-canonical k x g c s = changed-canonical k x g c c s
 
--- the instants: those of the range if it is added, and those of the set if it stays
 pub renewed-has : (k x : Bool) (g : Range) (c : ℕ) (s : Runs) → Canonical s → (t : ℕ) → c ≤ t
     → has (renewed k x g c s) t ≡ (x && inRange g c t || k && has s t)
 unfolding renewed
-renewed-has k x g c s h t l = added-has x g c _ (stays-canonical k _ (kept-canonical c s h)) t
-    ∙ ap (λ y. x && inRange g c t || y) (stays-has k (kept c s) t ∙ ap (λ y. k && y) (kept-has c t s l))
+renewed-has k x g c s = changed-has k x g c c s
+
+-- where a state lasts
+pub lasted-canonical : (before : ℕ) (k x : Bool) (g : Range) (c : ℕ) (s : Runs) → Canonical s → Canonical (lasted before k x g c s)
+unfolding lasted
+lasted-canonical before k x g c s = changed-canonical k x g (firstly before k c) c s
+
+pub lasted-has : (before : ℕ) (k x : Bool) (g : Range) (c : ℕ) (s : Runs) → Canonical s → (t : ℕ) → c ≤ t
+    → has (lasted before k x g c s) t ≡ (x && within (start g (firstly before k c)) (stop g c) t || k && has s t)
+unfolding lasted
+lasted-has before k x g c s = changed-has k x g (firstly before k c) c s
+
+-- where no time passes the two ways are one
+pub lasted-now : (before : ℕ) (k x : Bool) (g : Range) (c : ℕ) (s : Runs) → c ≤ before → lasted before k x g c s ≡ renewed k x g c s
+unfolding lasted renewed
+lasted-now before true x g c s l = let e : min (before + 1) c ≡ c = omega arith in ap (λ from. addedIf x g from c (staysIf true (kept c s))) e
+lasted-now before false x g c s l = refl
+
+-- by any row's rule
+pub renewed-now : (way : Way) (before c : ℕ) (s : Runs) → c ≤ before → (row : Row Bool) → setRuleBy (renewedIn way before) c s row ≡ setRuleBy renewed c s row
+unfolding setRuleBy
+renewed-now ordinary before c s l row = refl
+renewed-now lasting before c s l never = refl
+renewed-now lasting before c s l always = refl
+renewed-now lasting before c s l (atom a) = refl
+renewed-now lasting before c s l (conj vs) = refl
+renewed-now lasting before c s l (disj vs) = refl
+renewed-now lasting before c s l (neg v) = refl
+renewed-now lasting before c s l (implies u v) = refl
+renewed-now lasting before c s l (historically g v) = lasted-now before true (not v) g c s l
+renewed-now lasting before c s l (once g v) = lasted-now before true v g c s l
+renewed-now lasting before c s l (since g u v) = lasted-now before u v g c s l
 
 -- a set that is gone stays so where nothing is added
 pub renewed-gone : (k x : Bool) (g : Range) (c : ℕ) (s : Runs) → Canonical s → x ≡ false → gone c s ≡ true → gone c (renewed k x g c s) ≡ true
@@ -69,8 +109,8 @@ renewed-lawful = record { canonical = renewed-canonical; members = renewed-has; 
 pub all-lawful : Lawful renewedAll (λ c. 0)
 unfolding renewedAll
 all-lawful = record {
-  canonical = λ k x g c s h. added-canonical x g c _ (stays-canonical k s h);
-  members = λ k x g c s h t l. added-has x g c _ (stays-canonical k s h) t ∙ ap (λ y. x && inRange g c t || y) (stays-has k s t);
+  canonical = λ k x g c s h. added-canonical x g c c _ (stays-canonical k s h);
+  members = λ k x g c s h t l. added-has x g c c _ (stays-canonical k s h) t ∙ ap (λ y. x && inRange g c t || y) (stays-has k s t);
   now = λ c. omega arith;
   later = λ c d h. omega arith;
 }

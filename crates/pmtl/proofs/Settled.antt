@@ -19,7 +19,7 @@ use Rattle.pmtl.specs.Answer.{isTrue, isFalse, known, decided}
 use Rattle.pmtl.specs.Book.{Range, start, stop, inRange, Row, mapRow, Rows, rowAt, AllBelow, Below, Ordered, every, some, itself}
 use Rattle.pmtl.specs.Book.Row.{never, always, atom, conj, disj, neg, implies, historically, once, since}
 use Rattle.pmtl.specs.Sets.{gone, renewed, setRuleBy, setRule}
-use Rattle.pmtl.specs.Monitor.{Snap, State, setAt, valueRule, initial, stepBy, step, value}
+use Rattle.pmtl.specs.Monitor.{Snap, State, setAt, valueRule, initialIn, initial, stepBy, step, value}
 use Rattle.pmtl.specs.Early.{fromNow}
 use Rattle.pmtl.specs.Settled.{settledTrue, settledFalse, settled}
 use Rattle.pmtl.specs.Calls.{History}
@@ -279,7 +279,7 @@ module _ (b : Rows) (w : Ordered b) where
   to-stays a Open false h e = absurd (false≢true (h .1 (ap isFalse e)))
 
   not-yet : (r : ℕ) (x : Bool) → settled b (run b []) r ≡ known x → ⊥
-  unfolding runBy initial
+  unfolding runBy initialIn
   not-yet r true e = false≢true (ap isTrue (sym (settled-before b (initial b) refl r) ∙ e))
   not-yet r false e = false≢true (ap isFalse (sym (settled-before b (initial b) refl r) ∙ e))
 

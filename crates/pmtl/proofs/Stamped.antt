@@ -8,8 +8,8 @@ use lib.ListN.{drop}
 use lib.Dec.{eqb}
 use borrow.Author.Tests.{eq-eqb, eqb-true, eqb-false}
 use Rattle.pmtl.specs.Book.{Rows}
-use Rattle.pmtl.specs.Monitor.{Snap, State, value, stepBy, step}
-use Rattle.pmtl.specs.Calls.{Call, time, state, stamped, timed, stated, turns, timeRefusal, stateRefusal, firstOf, refusal, crowds, Outcome, play, call, after, History, onto, accepted}
+use Rattle.pmtl.specs.Monitor.{Snap, State, value, stepBy, stepIn}
+use Rattle.pmtl.specs.Calls.{Call, time, state, stamped, timed, stated, turns, timeRefusal, stateRefusal, firstOf, refusal, crowds, Outcome, play, call, afterIn, after, History, onto, accepted}
 use Rattle.pmtl.specs.Past.{parts, halves, held}
 use Rattle.pmtl.proofs.Calls.{steps, Accepts, call-accepts, accepts-call, firsts-zero, refused-stays, trail}
 
@@ -17,11 +17,11 @@ use Rattle.pmtl.proofs.Calls.{steps, Accepts, call-accepts, accepts-cal
 same-number : (b : Rows) (old old′ st : State) (ns : List Snap) → play b old st ns .number ≡ play b old′ st ns .number
 unfolding play
 same-number b old old′ st [] = refl
-same-number b old old′ st (n ∷ ns) = go (crowds b st n) (same-number b old old′ (step b st n) ns)
+same-number b old old′ st (n ∷ ns) = go (crowds b st n) (same-number b old old′ (stepIn b st n) ns)
   where
-    go : (z : Bool) → play b old (step b st n) ns .number ≡ play b old′ (step b st n) ns .number
-        → (elim z as (λ x. Outcome) [ true ↦ record { number = 11; state = old } | false ↦ play b old (step b st n) ns ]) .number
-        ≡ (elim z as (λ x. Outcome) [ true ↦ record { number = 11; state = old′ } | false ↦ play b old′ (step b st n) ns ]) .number
+    go : (z : Bool) → play b old (stepIn b st n) ns .number ≡ play b old′ (stepIn b st n) ns .number
+        → (elim z as (λ x. Outcome) [ true ↦ record { number = 11; state = old } | false ↦ play b old (stepIn b st n) ns ]) .number
+        ≡ (elim z as (λ x. Outcome) [ true ↦ record { number = 11; state = old′ } | false ↦ play b old′ (stepIn b st n) ns ]) .number
     go true ih = refl
     go false ih = ih
 
@@ -34,7 +34,7 @@ module _ (b : Rows) (st : State) (t : ℕ) (bytes : List ℕ) where
   abbrev first : Snap
   first = timed (st .now) t
 
-  time-leaves : Accepts b st (time t) → call b st (time t) ≡ record { number = 0; state = step b st first }
+  time-leaves : Accepts b st (time t) → call b st (time t) ≡ record { number = 0; state = stepIn b st first }
   unfolding steps
   time-leaves a = accepts-call b st (time t) a
 
@@ -49,11 +49,11 @@ module _ (b : Rows) (st : State) (t : ℕ) (bytes : List ℕ) where
   unfolding refusal
   time-part a = record { fine = firsts-zero _ _ (a .fine) .0; room = (a .room .0, tt) }
 
-  state-part : Accepts b st (stamped t bytes) → Accepts b (step b st first) (state bytes)
+  state-part : Accepts b st (stamped t bytes) → Accepts b (stepIn b st first) (state bytes)
   unfolding refusal stepBy
   state-part a = record { fine = firsts-zero (timeRefusal (st .now) t) _ (a .fine) .1; room = (a .room .1 .0, tt) }
 
-  both-parts : Accepts b st (time t) → Accepts b (step b st first) (state bytes) → Accepts b st (stamped t bytes)
+  both-parts : Accepts b st (time t) → Accepts b (stepIn b st first) (state bytes) → Accepts b st (stamped t bytes)
   unfolding refusal firstOf stepBy
   both-parts a c = record { fine = rw (eq-eqb (timeRefusal (st .now) t) 0 (a .fine)) (c .fine); room = (a .room .0, (c .room .0, tt)) }
 
@@ -64,10 +64,10 @@ module _ (b : Rows) (st : State) (t : ℕ) (bytes : List ℕ) where
   stamped-accepted = (
     λ e. let a = call-accepts b st (stamped t bytes) e in
         let q = time-leaves (time-part a) in
-        (ap number-of q, rw (ap state-of q) (ap number-of (accepts-call b (step b st first) (state bytes) (state-part a)))),
+        (ap number-of q, rw (ap state-of q) (ap number-of (accepts-call b (stepIn b st first) (state bytes) (state-part a)))),
     λ p. let a = call-accepts b st (time t) (p .0) in
         let q = ap state-of (time-leaves a) in
-        ap number-of (accepts-call b st (stamped t bytes) (both-parts a (call-accepts b (step b st first) (state bytes) (rw q at (p .1))))),
+        ap number-of (accepts-call b st (stamped t bytes) (both-parts a (call-accepts b (stepIn b st first) (state bytes) (rw q at (p .1))))),
   )
 
   -- and then leaves exactly what they leave
@@ -78,7 +78,7 @@ module _ (b : Rows) (st : State) (t : ℕ) (bytes : List ℕ) where
       let a = call-accepts b st (stamped t bytes) e in
       ap state-of (accepts-call b st (stamped t bytes) a)
       ∙ sym (ap (λ (s : State). call b s (state bytes) .state) (ap state-of (time-leaves (time-part a)))
-      ∙ ap state-of (accepts-call b (step b st first) (state bytes) (state-part a)))
+      ∙ ap state-of (accepts-call b (stepIn b st first) (state bytes) (state-part a)))
 
   time-now : call b st (stamped t bytes) .number ≡ 0 → timeState .now ≡ first
   unfolding state-of stepBy
@@ -99,7 +99,7 @@ module _ (b : Rows) (st : State) (t : ℕ) (bytes : List ℕ) where
       ≡ firstOf (play b st st (first ∷ []) .number) (call b (play b st st (first ∷ []) .state) (state bytes) .number)
   unfolding play firstOf stepBy refusal number-of
   in-turn y true z = rw (z, play)
-  in-turn y false z = rw (z, play) (same-number b st (step b st first) (step b st first) (stated first bytes ∷ []) ∙ sym (ap number-of (fine (step b st first) (state bytes) y)))
+  in-turn y false z = rw (z, play) (same-number b st (stepIn b st first) (stepIn b st first) (stated first bytes ∷ []) ∙ sym (ap number-of (fine (stepIn b st first) (state bytes) y)))
 
   number-in-turn : timeRefusal (st .now) t ≡ 0 → stateRefusal b bytes ≡ 0
       → call b st (stamped t bytes) .number ≡ firstOf (call b st (time t) .number) (call b timeState (state bytes) .number)
@@ -131,7 +131,7 @@ record Matches (b : Rows) (js : List Call) (st : State) (h : History) : Type 0 w
 
 one-more : (b : Rows) (js : List Call) (st : State) (h : History) → Matches b js st h → (c : Call) (s : Snap) → turns (st .now) c ≡ s ∷ []
     → call b st c .number ≡ 0 → Matches b (c ∷ js) (call b st c .state) (s ∷ h)
-unfolding after accepted onto
+unfolding afterIn accepted onto
 one-more b js st h m c s t e = record { is = ap (λ (q : State). call b q c .state) (m .is); all = at }
   where
     at : (k : ℕ) → accepted b (drop k (c ∷ js)) ≡ drop k (s ∷ h)
@@ -155,7 +155,7 @@ drop-none zero = refl
 drop-none (suc k) = refl
 
 halves-match : (b : Rows) (ks : List Call) → Matches b (halves b ks) (after b ks) (accepted b ks)
-unfolding halves after accepted
+unfolding halves afterIn accepted
 halves-match b [] = record { is = refl; all = λ k. ap (accepted b) (drop-none k) ∙ sym (drop-none k) }
 halves-match b (k ∷ ks) = go (eqb (call b (after b ks) k .number) 0) refl (halves-match b ks)
   where

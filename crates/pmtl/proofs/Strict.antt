@@ -15,7 +15,7 @@ use Rattle.numset.specs.Runs.{run, Runs, Under, Canonical}
 use Rattle.numset.proofs.Laws.{canonical-older}
 use Rattle.pmtl.specs.Book.{Range, start, stop, Row, mapRow, Rows, rowAt, Ordered}
 use Rattle.pmtl.specs.Book.Row.{never, always, atom, conj, disj, neg, implies, historically, once, since}
-use Rattle.pmtl.specs.Sets.{renewed, setRuleBy, setRule}
+use Rattle.pmtl.specs.Sets.{renewed, ordinary, setRuleBy, setRule}
 use Rattle.pmtl.specs.Monitor.{Snap, setAt, value}
 use Rattle.pmtl.specs.Calls.{Call, turns, refusal, call, after, History, nowOf, onto, accepted}
 use Rattle.pmtl.specs.Past.{runBy, run as ran}
@@ -163,7 +163,7 @@ held-few (since g x y) c s w f h = few-runs g c s w f h
 module _ (b : Rows) (w : Ordered b) where
   run-held : (h : History) → Legal b h → (r : ℕ) → Held (rowAt b r) (nowOf b h .clock) (setAt (ran b h) r)
   unfolding runBy
-  run-held [] l r = rw (initial-set b r) (held-first (rowAt b r) 0)
+  run-held [] l r = rw (initial-set ordinary b r) (held-first (rowAt b r) 0)
   run-held (s ∷ h) l r = rw (set-fix b w (ran b h) s r)
       (held-on (rowAt b r) (value b (ran b (s ∷ h))) (nowOf b h .clock) (s .clock) (l .0) (setAt (ran b h) r) (run-held h (l .2) r))
 
@@ -176,7 +176,8 @@ module _ (b : Rows) (w : Ordered b) where
 
   -- ---- a strict book
   module _ (strict : Strict b) where
-    never-full : (h : History) → Legal b h → Full b h → ⊥
+    -- no calls can fill it
+    pub never-full : (h : History) → Legal b h → Full b h → ⊥
     never-full h l f =
         let r = f .0 in
         let m = more-length MOST-RUNS (nowOf b h .clock) _ (setAt (ran b h) r) (run-canonical b h r) (run-none-before b h l r) (sets-mean b w r h l) (f .1) in

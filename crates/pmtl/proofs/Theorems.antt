@@ -15,7 +15,7 @@ use Rattle.pmtl.specs.Answer.{isTrue, isFalse, known, reversed}
 use Rattle.pmtl.specs.Early.{fromNow, earlyRule}
 use Rattle.pmtl.specs.Book.{Range, Row, mapRow, Rows, rowAt, Ordered}
 use Rattle.pmtl.specs.Book.Row.{historically, once, since}
-use Rattle.pmtl.specs.Sets.{gone, setRuleBy, setRule}
+use Rattle.pmtl.specs.Sets.{gone, ordinary, setRuleBy, setRule}
 use Rattle.pmtl.specs.Monitor.{Snap, State, setAt, valueRule, value}
 use Rattle.pmtl.specs.Settled.{settledTrue, settledFalse, settled}
 use Rattle.pmtl.specs.Calls.{Call, call, after, accepted, nowOf}
@@ -85,7 +85,7 @@ refused-changes-nothing b st k n = refused-stays b st k n
 -- and no later answer: further calls leave the state, and the history, that they leave without it
 pub refused-leaves-no-trace : (b : Rows) (calls more : List Call) (k : Call) → ¬ (call b (after b calls) k .number ≡ 0)
     → (after b (more ++ k ∷ calls) ≡ after b (more ++ calls)) × (accepted b (more ++ k ∷ calls) ≡ accepted b (more ++ calls))
-refused-leaves-no-trace b calls more k n = (after-refused b k calls n more, accepted-refused b k calls n more)
+refused-leaves-no-trace b calls more k n = (after-refused ordinary b k calls n more, accepted-refused b k calls n more)
 
 -- "covers" means that every instant from the clock to MAX is in the set
 pub covers-is : (b : Rows) (calls : List Call) (r : ℕ)

@@ -7,7 +7,7 @@ use mathlib.Core.List.{List, [], _∷_, map}
 use Rattle.numset.specs.Runs.{Runs, has, Canonical}
 use Rattle.pmtl.specs.Book.{Range, inRange, Row, mapRow, Rows, rowAt, AllBelow, Below, Ordered, every, some, itself}
 use Rattle.pmtl.specs.Book.Row.{never, always, atom, conj, disj, neg, implies, historically, once, since}
-use Rattle.pmtl.specs.Sets.{Renew, renewed, setRuleBy}
+use Rattle.pmtl.specs.Sets.{Renew, renewed, ordinary, setRuleBy}
 use Rattle.pmtl.specs.Monitor.{Snap, setAt, valueRule, value}
 use Rattle.pmtl.specs.Calls.{History, nowOf}
 use Rattle.pmtl.specs.Meaning.{Fact, sinceSome, instants, meaningRule, meaning}
@@ -17,7 +17,7 @@ use Rattle.pmtl.proofs.Answers.{value-fix, set-fix-by}
 use Rattle.pmtl.proofs.Renewed.{Lawful, renewed-lawful}
 use Rattle.pmtl.proofs.History.{Legal, now-run-by, initial-set, run-canonical-by}
 
-meaning-fix : (b : Rows) → Ordered b → (r : ℕ) → meaning b r ≡ meaningRule b r (mapRow (meaning b) (rowAt b r))
+pub meaning-fix : (b : Rows) → Ordered b → (r : ℕ) → meaning b r ≡ meaningRule b r (mapRow (meaning b) (rowAt b r))
 unfolding meaning meaningRule
 meaning-fix b w r = answer-fix b (λ h. false) (meaningRule b) w r refl
 
@@ -34,7 +34,7 @@ module _ (r : ℕ) (v : ℕ → Bool) (m : ℕ → Fact) (h : History) (below : 
   some-same (o ∷ os) w = ap₂ _||_ (below o (w .0)) (some-same os (w .1))
 
   -- a row's value, if its set is as REFERENCE 3.5 defines it
-  row-value : (b : Rows) (row : Row ℕ) → Below r row → (x : Bool) → x ≡ instants (mapRow m row) h (nowOf b h .clock)
+  pub row-value : (b : Rows) (row : Row ℕ) → Below r row → (x : Bool) → x ≡ instants (mapRow m row) h (nowOf b h .clock)
       → valueRule (nowOf b h .atoms) x (mapRow v row) ≡ meaningRule b r (mapRow m row) h
   unfolding valueRule meaningRule
   row-value b never w x e = refl
@@ -48,7 +48,7 @@ module _ (r : ℕ) (v : ℕ → Bool) (m : ℕ → Fact) (h : History) (below : 
   row-value b (once g o) w x e = e
   row-value b (since g p q) w x e = e
 
-instants-none : (row : Row Fact) (t : ℕ) → instants row [] t ≡ false
+pub instants-none : (row : Row Fact) (t : ℕ) → instants row [] t ≡ false
 unfolding instants sinceSome
 instants-none never t = refl
 instants-none always t = refl
@@ -97,7 +97,7 @@ module _ (renew : Renew) (horizon : ℕ → ℕ) (lw : Lawful renew horizon) whe
       set-instants : (h : History) → Legal b h → (t : ℕ) → horizon (nowOf b h .clock) ≤ t
           → has (setAt (runBy renew b h) r) t ≡ instants (mapRow m (rowAt b r)) h t
       unfolding runBy has
-      set-instants [] l t n = ap (λ (s : Runs). has s t) (initial-set b r) ∙ sym (instants-none (mapRow m (rowAt b r)) t)
+      set-instants [] l t n = ap (λ (s : Runs). has s t) (initial-set ordinary b r) ∙ sym (instants-none (mapRow m (rowAt b r)) t)
       set-instants (s ∷ h) l t n = ap (λ (x : Runs). has x t) (set-fix-by b w renew (runBy renew b h) s r)
           ∙ row-set r (value b (runBy renew b (s ∷ h))) m s h (λ o k. below o k (s ∷ h) l) (setAt (runBy renew b h) r) (run-canonical-by renew lw b h r) t n (rowAt b r) (w r)
           (set-instants h (l .2) t (omega (arith, lw .later (nowOf b h .clock) (s .clock) (l .0))))

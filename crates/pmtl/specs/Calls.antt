@@ -8,8 +8,8 @@ use Rattle.numset.specs.Runs.{Runs}
 use Rattle.numbers.specs.Limits.{LAST-TIME, MOST-ATOMS, MOST-RUNS}
 use Rattle.numbers.specs.Refusals.{ACCEPTED, PAST-LIMIT, TOO-EARLY, TOO-LATE, TOO-NARROW, NOT-A-BIT, NO-ROOM, TOO-WIDE}
 use Rattle.pmtl.specs.Book.{Rows, widthOf, some}
-use Rattle.pmtl.specs.Sets.{renewed}
-use Rattle.pmtl.specs.Monitor.{Snap, State, fresh, initial, stepBy, step}
+use Rattle.pmtl.specs.Sets.{Way, ordinary}
+use Rattle.pmtl.specs.Monitor.{Snap, State, fresh, initialIn, stepIn}
 
 -- a time call, a state call, and a stamped call: a time and a state together
 pub data Call : Type 0 where
@@ -58,7 +58,7 @@ crowded st = some (λ (s : Runs). ltb MOST-RUNS (length s)) (st .sets)
 
 -- it has after the snapshot n, once old runs are dropped
 abbrev pub crowds : Rows → State → Snap → Bool
-crowds b st n = crowded (stepBy renewed b st n)
+crowds b st n = crowded (stepIn b st n)
 
 -- what a call hands back and leaves
 pub record Outcome : Type 0 where
@@ -69,7 +69,7 @@ pub record Outcome : Type 0 where
 unfoldable pub play : Rows → State → State → List Snap → Outcome
 play b old st [] = record { number = ACCEPTED; state = st }
 play b old st (n ∷ ns) =
-    elim (crowds b st n) [ true ↦ record { number = NO-ROOM; state = old } | false ↦ play b old (step b st n) ns ]
+    elim (crowds b st n) [ true ↦ record { number = NO-ROOM; state = old } | false ↦ play b old (stepIn b st n) ns ]
 
 -- a call: refused, and the state unchanged; or its snapshots in turn
 unfoldable pub call : Rows → State → Call → Outcome
@@ -79,9 +79,13 @@ call b st k = elim (eqb (refusal b (st .now) k) ACCEPTED) [
 ]
 
 -- the state after calls, the newest first, refused ones among them
-unfoldable pub after : Rows → List Call → State
-after b [] = initial b
-after b (k ∷ ks) = call b (after b ks) k .state
+unfoldable pub afterIn : Way → Rows → List Call → State
+afterIn way b [] = initialIn way b
+afterIn way b (k ∷ ks) = call b (afterIn way b ks) k .state
+
+-- in the ordinary way
+abbrev pub after : Rows → List Call → State
+after = afterIn ordinary
 
 -- a history: what each accepted call left, the newest first; a stamped call leaves two snapshots
 abbrev pub History : Type 0

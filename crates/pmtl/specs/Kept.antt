@@ -40,7 +40,11 @@ pub record MoreRuns (n c : ℕ) (f : ℕ → Bool) : Type 0 where
 abbrev pub Full : Rows → History → Type 0
 Full b h = (r : ℕ) × MoreRuns MOST-RUNS (nowOf b h .clock) (instants (mapRow (meaning b) (rowAt b r)) h)
 
--- so it is after one of the snapshots ns, made in turn after the calls of h
+-- so it is after one of the snapshots ns, made in turn after the calls of h; before each of them the history may have got calls that were put in
+abbrev pub FullBy : (History → Snap → History) → Rows → History → List Snap → Type 0
+FullBy put b h [] = ⊥
+FullBy put b h (n ∷ ns) = Full b (n ∷ put h n) ⊎ FullBy put b (n ∷ put h n) ns
+
+-- in the ordinary way nothing is put in
 abbrev pub FullIn : Rows → History → List Snap → Type 0
-FullIn b h [] = ⊥
-FullIn b h (n ∷ ns) = Full b (n ∷ h) ⊎ FullIn b (n ∷ h) ns
+FullIn = FullBy (λ h n. h)

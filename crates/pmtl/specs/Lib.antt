@@ -1,5 +1,6 @@
 pub mod Book
 pub mod Answer
+pub mod Flat
 pub mod Sets
 pub mod Monitor
 pub mod Early

@@ -6,15 +6,16 @@ use lib.ListN.{length, getD, replicate}
 use Rattle.numset.specs.Runs.{Runs, has}
 use Rattle.pmtl.specs.Book.{Row, mapRow, Rows, widthOf, table, answer, every, some, itself}
 use Rattle.pmtl.specs.Book.Row.{never, always, atom, conj, disj, neg, implies, historically, once, since}
-use Rattle.pmtl.specs.Sets.{Renew, renewed, setRuleBy}
+use Rattle.pmtl.specs.Sets.{Renew, renewed, Way, ordinary, renewedIn, setRuleBy}
 
 -- what a call leaves: the clock, and the atoms that the book names
 pub record Snap : Type 0 where
   pub clock : ℕ
   pub atoms : List Bool
 
--- whether a call was accepted yet, the clock and atoms, and the set of each row (empty where the row is not temporal)
+-- its way, whether a call was accepted yet, the clock and atoms, and the set of each row (empty where the row is not temporal)
 pub record State : Type 0 where
+  pub way : Way
   pub begun : Bool
   pub now : Snap
   pub sets : List Runs
@@ -35,8 +36,11 @@ fullest st = mostRuns (st .sets)
 abbrev pub fresh : Rows → Snap
 fresh b = record { clock = 0; atoms = replicate (widthOf b) false }
 
-unfoldable pub initial : Rows → State
-initial b = record { begun = false; now = fresh b; sets = replicate (length b) [] }
+unfoldable pub initialIn : Way → Rows → State
+initialIn way b = record { way = way; begun = false; now = fresh b; sets = replicate (length b) [] }
+
+abbrev pub initial : Rows → State
+initial = initialIn ordinary
 
 -- a row's value, from the atoms, whether its set contains the clock, and its operands' values
 unfoldable pub valueRule : List Bool → Bool → Row Bool → Bool
@@ -77,9 +81,13 @@ cellRuleBy renew st now r row =
 
 -- a call re-evaluates every row, from row 0 upward, at the clock and atoms that it leaves
 unfoldable pub stepBy : Renew → Rows → State → Snap → State
-stepBy renew b st now = record { begun = true; now = now; sets = map setIn (table b noCell (cellRuleBy renew st now) (length b)) }
+stepBy renew b st now = record { way = st .way; begun = true; now = now; sets = map setIn (table b noCell (cellRuleBy renew st now) (length b)) }
 
--- as the monitor does it
+-- in the monitor's own way
+abbrev pub stepIn : Rows → State → Snap → State
+stepIn b st now = stepBy (renewedIn (st .way) (st .now .clock)) b st now
+
+-- in the ordinary way
 abbrev pub cellRule : State → Snap → ℕ → Row Cell → Cell
 cellRule = cellRuleBy renewed
 

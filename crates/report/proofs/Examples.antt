@@ -5,15 +5,15 @@ use mathlib.Core.List.{List, [], _∷_}
 use Rattle.numset.specs.Runs.{has, covers, kept, insert, union}
 use Rattle.pmtl.specs.Book.{stop, widthOf, table, answer, every, some}
 use Rattle.pmtl.specs.Sets.{gone, staysIf, addedIf, renewed, setRuleBy}
-use Rattle.pmtl.specs.Monitor.{mostRuns, initial, valueRule, value, stepBy}
+use Rattle.pmtl.specs.Monitor.{mostRuns, initialIn, valueRule, value, stepBy}
 use Rattle.pmtl.specs.Early.{earlyRule, early}
 use Rattle.pmtl.specs.Settled.{settledTrue, settledFalse, settled}
 use Rattle.pmtl.specs.Calls.{refusal, crowded, play, call}
 use Rattle.book.specs.Rows.{rowFrom, countOf}
 use Rattle.lists.specs.Lists.{listed}
 use Rattle.book.specs.Reading.{section, next, sections}
-use Rattle.book.specs.declared.strict.Loading.{Loading}
-use Rattle.book.specs.declared.strict.Loading.the-variants.{Ordinary, Strict}
+use Rattle.book.specs.declared.loading.Loading.{Loading}
+use Rattle.book.specs.declared.loading.Loading.the-variants.{Ordinary, Strict}
 use Rattle.book.specs.Judging.{temporalsIn, startIn, firstTo, allTo, argGood, formGood, rangeGood, rowNumber, operandsGood, linksGood, timesIn, usedOnce, judged, rowIn, bookIn, loadedFrom}
 use Rattle.pmtl.specs.Strict.{needed, neededBy, firstOver}
 use Rattle.book.specs.Strict.{excessIn}
@@ -25,7 +25,7 @@ use Rattle.report.specs.Report.{excessWords, bookLine, stopLine, endLine
 
 -- the report, by what every definition says
 unfoldable pub reportOf : Loading → List ℕ → List ℕ
-unfolding has covers insert union stop widthOf table answer every some kept gone staysIf addedIf renewed setRuleBy mostRuns initial valueRule value stepBy earlyRule early settledTrue settledFalse settled refusal crowded play call rowFrom countOf listed section next sections temporalsIn startIn firstTo allTo argGood formGood rangeGood rowNumber operandsGood linksGood timesIn usedOnce judged rowIn bookIn loadedFrom needed neededBy firstOver excessIn verdictIn pick parts digit letters allDigits said plain good begun writtenWords supplied supply digitsBefore decimal timeFrom stateFrom stampedFrom callFrom orStop endingOf callsFrom callsAfter lineOf linesOf linesFrom callLines bookThen bookLines lines excessWords bookLine stopLine endLine lastLine propertyWord propertyWords restWords callLine line written report
+unfolding has covers insert union stop widthOf table answer every some kept gone staysIf addedIf renewed setRuleBy mostRuns initialIn valueRule value stepBy earlyRule early settledTrue settledFalse settled refusal crowded play call rowFrom countOf listed section next sections temporalsIn startIn firstTo allTo argGood formGood rangeGood rowNumber operandsGood linksGood timesIn usedOnce judged rowIn bookIn loadedFrom needed neededBy firstOver excessIn verdictIn pick parts digit letters allDigits said plain good begun writtenWords supplied supply digitsBefore decimal timeFrom stateFrom stampedFrom callFrom orStop endingOf callsFrom callsAfter lineOf linesOf linesFrom callLines bookThen bookLines lines excessWords bookLine stopLine endLine lastLine propertyWord propertyWords restWords callLine line written report
 reportOf way s = report way s
 
 pub opened : (way : Loading) (s : List ℕ) → report way s ≡ reportOf way s

@@ -1,6 +1,6 @@
 -- Laws of a report's calls, one after the other, and of the whole report. Assumes nothing.
 use Prim.Native.Nat.{ℕ, zero, suc, _+_, _-_, _≤_, _<_}
-use mathlib.Core.Path.{_≡_, refl, sym, ap, _∙_}
+use mathlib.Core.Path.{_≡_, refl, sym, ap, ap₂, _∙_}
 use mathlib.Core.List.{List, _++_, append-nil}
 use native.Mathlib.Omega.{arith}
 use native.Mathlib.Numerals.{add-one}
@@ -9,16 +9,18 @@ use borrow.Author.Tests.{eq-eqb, ne-eqb, lt-ltb, le-ltb}
 use Rattle.text.specs.Words.{nextWord, supplyFrom}
 use Rattle.text.specs.declared.words.Read.the-variants.{Word, Refused}
 use Rattle.text.proofs.Supplies.{word, refused as ended}
-use Rattle.pmtl.specs.Book.{Book}
-use Rattle.pmtl.specs.Monitor.{State, initial}
+use Rattle.pmtl.specs.Book.{Rows, Book}
+use Rattle.pmtl.specs.Sets.{Way}
+use Rattle.pmtl.specs.Monitor.{State, initialIn}
 use Rattle.pmtl.specs.Calls.{Outcome, call}
 use Rattle.memory.specs.Memory.{bookOf, stateOf}
 use Rattle.book.specs.Reading.{got, refused}
-use Rattle.book.specs.declared.strict.Loading.{Loading}
+use Rattle.book.specs.declared.loading.Loading.{Loading}
 use Rattle.book.specs.declared.strict.Excess.{Excess}
 use Rattle.book.specs.declared.strict.Excess.the-variants.{Within}
-use Rattle.book.specs.Strict.{excessBy, admitted}
-use Rattle.book.proofs.Excess.{accepted-within}
+use Rattle.book.specs.Strict.{excessBy}
+use Rattle.book.specs.Loading.{wayIn, admitted}
+use Rattle.book.proofs.Admitted.{accepted-within}
 use Rattle.book.specs.Judging.{Loaded, whole as wholeBook, loaded}
 use Rattle.memory.specs.Kept.{Kept}
 use Rattle.text_reader.specs.declared.Part as reader
@@ -102,25 +104,33 @@ module _ {input : List ℕ} {from count : ℕ} {m₀ out₀ : List ℕ} {start :
   go-end {h} l p = let q = rw (g .on) at p in q ∙ sym (ap (finish out at) (none (omega arith))) ∙ g .owed
 
 -- ---- the calls after their count
-module _ (input : List ℕ) (cursor : ℕ) (out : List ℕ) (at : ℕ) (b : Book) where
-  pub no-count : {h : Handed} {r n : ℕ} → nextWord input cursor ≡ Refused r → n ≡ r → h ≡ finish out at (stopLine n) → h ≡ finish out at (written (callLines b (supplyFrom input cursor .ending) (supplyFrom input cursor .words)))
+module _ (input : List ℕ) (cursor : ℕ) (out : List ℕ) (at : ℕ) (way : Way) (b : Book) where
+  pub no-count : {h : Handed} {r n : ℕ} → nextWord input cursor ≡ Refused r → n ≡ r → h ≡ finish out at (stopLine n) → h ≡ finish out at (written (callLines way b (supplyFrom input cursor .ending) (supplyFrom input cursor .words)))
   unfolding written line lastLine linesFrom linesOf callLines callsAfter
   no-count {h} e f p = let s = ended input cursor e in p ∙ rw (s, f, append-nil)
 
-  pub after-count : {h : Handed} {count from : ℕ} {st : State} → nextWord input cursor ≡ Word count from → st ≡ initial (b .rows) → h ≡ finish out at (written (linesFrom b 0 st (callsFrom (supplyFrom input from .ending) count (supplyFrom input from .words)))) → h ≡ finish out at (written (callLines b (supplyFrom input cursor .ending) (supplyFrom input cursor .words)))
+  pub after-count : {h : Handed} {count from : ℕ} {st : State} → nextWord input cursor ≡ Word count from → st ≡ initialIn way (b .rows) → h ≡ finish out at (written (linesFrom b 0 st (callsFrom (supplyFrom input from .ending) count (supplyFrom input from .words)))) → h ≡ finish out at (written (callLines way b (supplyFrom input cursor .ending) (supplyFrom input cursor .words)))
   unfolding callLines callsAfter
   after-count {h} e f p = let s = word input cursor e .gave in p ∙ rw (s, f)
 
 -- ---- the book, and what follows it
+-- a fresh monitor is in the way that its book was loaded for
+pub way-loaded : {st : State} (way : Way) (b : Rows) → st ≡ initialIn way b → st .way ≡ way
+unfolding initialIn
+way-loaded way b e = ap (λ (st : State). st .way) e
+
+pub fresh-in : {st : State} (way : Way) {b b′ : Book} → b′ ≡ b → st ≡ initialIn way (b .rows) → st ≡ initialIn (st .way) (b′ .rows)
+fresh-in way {b} f e = e ∙ ap₂ (λ (way : Way) (b : Book). initialIn way (b .rows)) (sym (way-loaded way (b .rows) e)) (sym f)
+
 module _ (way : Loading) (l : Loaded) (ending : ℕ) (ws : List ℕ) where
-  pub book-accepted : {out out₁ : List ℕ} {at n : ℕ} {h : Handed} {b : Book} → Wrote out 0 (bookLine n Within) out₁ at → n ≡ 0 → n ≡ admitted way l .number → b ≡ admitted way l .book
-      → h ≡ finish out₁ at (written (callLines b ending ws)) → h ≡ finish out 0 (written (bookThen way l ending ws))
+  pub book-accepted : {out out₁ : List ℕ} {at n : ℕ} {h : Handed} {w : Way} {b : Book} → Wrote out 0 (bookLine n Within) out₁ at → n ≡ 0 → n ≡ admitted way l .number → b ≡ admitted way l .book → w ≡ wayIn way
+      → h ≡ finish out₁ at (written (callLines w b ending ws)) → h ≡ finish out 0 (written (bookThen way l ending ws))
   unfolding written line bookThen
-  book-accepted {out} w z e f p =
+  book-accepted {out} w z e f g p =
       let y : admitted way l .number ≡ 0 = sym e ∙ z in
-      p ∙ sym (w .same (written (callLines _ ending ws)))
-      ∙ rw (eq-eqb (admitted way l .number) 0 y, e, f)
-      (ap (λ (x : Excess). finish out 0 (bookLine (admitted way l .number) x ++ written (callLines (admitted way l .book) ending ws))) (sym (accepted-within way l y)))
+      p ∙ sym (w .same (written (callLines _ _ ending ws)))
+      ∙ rw (eq-eqb (admitted way l .number) 0 y, e, f, g)
+      (ap (λ (x : Excess). finish out 0 (bookLine (admitted way l .number) x ++ written (callLines (wayIn way) (admitted way l .book) ending ws))) (sym (accepted-within way l y)))
 
   pub book-refused : (out : List ℕ) {n : ℕ} {x : Excess} {h : Handed} → (n ≡ 0 → ⊥) → n ≡ admitted way l .number → x ≡ excessBy way (l .book .rows)
       → h ≡ finish out 0 (bookLine n x) → h ≡ finish out 0 (written (bookThen way l ending ws))

@@ -9,16 +9,18 @@ use Rattle.text.specs.Words.{supply}
 use Rattle.numbers.specs.Refusals.{BAD-WORD, ACCEPTED, PAST-LIMIT, WRONG-LENGTH}
 use Rattle.pmtl.specs.Book.{Book, properties}
 use Rattle.pmtl.specs.Answer.{bitOf, digitOf}
-use Rattle.pmtl.specs.Monitor.{State, fullest, initial}
+use Rattle.pmtl.specs.Sets.{Way}
+use Rattle.pmtl.specs.Monitor.{State, fullest, initialIn}
 use Rattle.numbers.specs.Limits.{MOST-ATOMS, LONGEST-INPUT}
 use Rattle.pmtl.specs.Calls.{Call, Outcome, call}
 use Rattle.pmtl.specs.Calls.Call.{time, state, stamped}
 use Rattle.book.specs.Reading.{Read, section, next, Sections, sections}
 use Rattle.book.specs.Reading.Read.{got, refused}
-use Rattle.book.specs.declared.strict.Loading.{Loading}
+use Rattle.book.specs.declared.loading.Loading.{Loading}
 use Rattle.book.specs.declared.strict.Excess.{Excess}
 use Rattle.book.specs.declared.strict.Excess.the-variants.{Within}
-use Rattle.book.specs.Strict.{excessBy, admitted}
+use Rattle.book.specs.Strict.{excessBy}
+use Rattle.book.specs.Loading.{wayIn, admitted}
 use Rattle.book.specs.Judging.{Loaded, loadedFrom}
 use Rattle.property_answers.specs.declared.Verdict.{Verdict}
 use Rattle.property_answers.specs.Verdict.{verdictIn}
@@ -134,15 +136,15 @@ linesOf b done st (k ∷ ks) = lineOf b (suc done) (call (b .rows) st k) ∷ lin
 unfoldable pub linesFrom : Book → ℕ → State → CallsRead → List Line
 linesFrom b done st r = map called (linesOf b done st (r .calls)) ++ last (r .ends) ∷ []
 
--- those of the calls on a fresh monitor
-unfoldable pub callLines : Book → ℕ → List ℕ → List Line
-callLines b ending ws = linesFrom b 0 (initial (b .rows)) (callsAfter ending ws)
+-- those of the calls on a fresh monitor, in a way of monitoring
+unfoldable pub callLines : Way → Book → ℕ → List ℕ → List Line
+callLines way b ending ws = linesFrom b 0 (initialIn way (b .rows)) (callsAfter ending ws)
 
 -- a book, loaded or refused in this way of loading: nothing follows a refused book
 unfoldable pub bookThen : Loading → Loaded → ℕ → List ℕ → List Line
 bookThen way l ending ws =
     let a = admitted way l in
-    book (a .number) (excessBy way (l .book .rows)) ∷ cond (eqb (a .number) ACCEPTED) (callLines (a .book) ending ws) []
+    book (a .number) (excessBy way (l .book .rows)) ∷ cond (eqb (a .number) ACCEPTED) (callLines (wayIn way) (a .book) ending ws) []
 
 unfoldable pub bookLines : Loading → Read Sections → ℕ → List Line
 bookLines way (got s ws) ending = bookThen way (loadedFrom s) ending ws

@@ -3,7 +3,7 @@ use Prim.Native.Nat.{ℕ, _+_}
 use mathlib.Core.List.{List, [], _∷_, _++_}
 use Rattle.text.specs.Words.{space, lineFeed, digit0}
 use Rattle.text.specs.Decimals.{decimal}
-use Rattle.book.specs.declared.strict.Loading.{Loading}
+use Rattle.book.specs.declared.loading.Loading.{Loading}
 use Rattle.book.specs.declared.strict.Excess.{Excess}
 use Rattle.book.specs.declared.strict.Excess.the-variants.{Within, Over}
 use Rattle.report.specs.Lines.{PropertyWord, Rest, nothing, told, CallLine, Ending, end, stop, Line, book, called, last, lines}

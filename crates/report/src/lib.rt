@@ -5,15 +5,15 @@ mod text_calls;
 ghost use mathlib.Core.Path.{_≡_};
 ghost use Rattle.text.specs.Words.{supplyFrom};
 ghost use Rattle.memory.specs.Memory.{bookOf, stateOf};
-ghost use Rattle.pmtl.specs.Monitor.{initial};
+ghost use Rattle.pmtl.specs.Monitor.{initialIn};
 ghost use Rattle.book.specs.Judging.{loaded};
 ghost use Rattle.memory.specs.Kept.{Kept};
 ghost use Rattle.buffer_writer.specs.Buffer.{handed, inBuffer};
 ghost use Rattle.buffer_writer.specs.Finish.{finish};
 ghost use Rattle.report.specs.Lines.{callsFrom, linesFrom, callLines, bookThen};
 ghost use Rattle.report.specs.Report.{bookLine, written, report};
+use book::loading::Loading;
 use book::strict::Excess;
-use book::strict::Loading;
 use book::strict::first_excess;
 use memory::SIZE;
 use numbers::ACCEPTED;
@@ -64,8 +64,8 @@ fn counted_calls(
     out: &mut [u8],
     at: usize,
 ) -> u64
-    requires { ⌜ Kept (now monitor) × (stateOf (now monitor) ≡ initial (bookOf (now monitor) .rows)) ⌝ }
-    ensures { λ r. ⌜ handed r (now (out .exit)) ≡ finish (now (out .entry)) at (written (callLines (bookOf (now (monitor .entry))) (supplyFrom (now (input .entry)) cursor .ending) (supplyFrom (now (input .entry)) cursor .words))) ⌝ }
+    requires { ⌜ Kept (now monitor) × (stateOf (now monitor) ≡ initialIn (stateOf (now monitor) .way) (bookOf (now monitor) .rows)) ⌝ }
+    ensures { λ r. ⌜ handed r (now (out .exit)) ≡ finish (now (out .entry)) at (written (callLines (stateOf (now (monitor .entry)) .way) (bookOf (now (monitor .entry))) (supplyFrom (now (input .entry)) cursor .ending) (supplyFrom (now (input .entry)) cursor .words))) ⌝ }
 {
     let r = text::next_word(input, cursor);
     let Read::Word(count, from) = r else {
@@ -125,4 +125,20 @@ pub extern "C" fn binefdar_report_strict(input: &[u8], out: &mut [u8]) -> u64
     ensures { λ r. ⌜ handed r (now (out .exit)) ≡ inBuffer (now (out .entry)) (report Loading.Strict (now (input .entry))) ⌝ }
 {
     report_by(Loading::Strict, input, out)
+}
+
+// For C: a book is loaded for the lasting way, in which a state lasts until the next call.
+#[no_mangle]
+pub extern "C" fn binefdar_report_lasting(input: &[u8], out: &mut [u8]) -> u64
+    ensures { λ r. ⌜ handed r (now (out .exit)) ≡ inBuffer (now (out .entry)) (report Loading.Lasting (now (input .entry))) ⌝ }
+{
+    report_by(Loading::Lasting, input, out)
+}
+
+// For C: for that way, and strictly.
+#[no_mangle]
+pub extern "C" fn binefdar_report_lasting_strict(input: &[u8], out: &mut [u8]) -> u64
+    ensures { λ r. ⌜ handed r (now (out .exit)) ≡ inBuffer (now (out .entry)) (report Loading.LastingStrict (now (input .entry))) ⌝ }
+{
+    report_by(Loading::LastingStrict, input, out)
 }

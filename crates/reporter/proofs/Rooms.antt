@@ -9,7 +9,7 @@ use lib.ListN.{length, replicate, length-replicate}
 use borrow.Author.Tests.{le-leb, leb-true, eq-eqb, ne-eqb}
 use Rattle.numbers.specs.Limits.{MAX, LONGEST-REPORT}
 use Rattle.buffer_writer.specs.Buffer.{Handed, handed, inBuffer}
-use Rattle.book.specs.declared.strict.Loading.{Loading}
+use Rattle.book.specs.declared.loading.Loading.{Loading}
 use Rattle.report.specs.Report.{report}
 use Rattle.slip.proofs.Theorems.{no-longer, always-room}
 use Rattle.reporter.specs.Rooms.{SHORT, SHORT-REPORT, SHORT-INPUT, holds, oneHolds}

@@ -5,7 +5,7 @@ ghost use Prim.Native.Nat.{_<_};
 ghost use lib.ListN.{length};
 ghost use Rattle.numbers.specs.Limits.{MAX};
 ghost use Rattle.reporter.specs.Rooms.{SHORT-REPORT, holds, oneHolds};
-use book::strict::Loading;
+use book::loading::Loading;
 use console::Came;
 use numbers::LONGEST_INPUT;
 use numbers::LONGEST_REPORT;

@@ -1,8 +1,8 @@
 -- The laws of `changed`: it is what the definitions say of a set, and what the code asks and does, arm by arm. Assumes nothing.
-use Prim.Native.Nat.{ℕ, zero, suc, _+_, _*_, _-_, _≤_, _<_}
-use mathlib.Core.Path.{_≡_, refl, sym, ap, _∙_, subst⁻¹}
+use Prim.Native.Nat.{ℕ, zero, suc, _+_, _*_, _≤_, _<_, min}
+use mathlib.Core.Path.{_≡_, refl, sym, ap, _∙_}
 use mathlib.Core.Logic.{⊎-elim}
-use mathlib.Core.Bool.{Bool, true, false, not, _||_, or-false}
+use mathlib.Core.Bool.{Bool, true, false, cond, not, _||_, or-false, true≢false}
 use mathlib.Core.List.{List, []}
 use native.Mathlib.Omega.{arith}
 use lib.ListN.{length, getD}
@@ -14,31 +14,52 @@ use Rattle.numset.proofs.Words.{length-runs}
 use Rattle.numset.proofs.Packs.{length-pack, runs-pack}
 use Rattle.numset.proofs.Kept.{kept-under, kept-canonical, kept-has, kept-length}
 use Rattle.numset.proofs.Changes.{added-words}
-use Rattle.pmtl.specs.Book.{Range, start, stop}
+use Rattle.pmtl.specs.Book.{Range, start, stop, Row}
 use Rattle.pmtl.specs.Book.Row.{historically, once, since}
-use Rattle.pmtl.specs.Sets.{staysIf, addedIf, renewed, setRuleBy, setRule}
-use Rattle.set_change.specs.Change.{modeOf, changed, modeIn}
+use Rattle.pmtl.specs.Sets.{staysIf, addedIf, renewed, lasted, ordinary, lasting, renewedIn, setRuleBy}
+use Rattle.set_change.specs.Change.{modeOf, changed, growing, spanned, spannedIf, countedFrom, modeIn}
 
--- ---- what the definitions say of a set
-pub mode-renewed : (stays adds : Bool) (g : Range) (c : ℕ) (s : Runs) → renewed stays adds g c s ≡ changed (modeOf stays adds) (start g c) (stop g c) c s
+-- ---- what the definitions say of a set: in a step that counts the stretch since the clock before, or in one that counts from the clock alone
+mode-lasted : (before : ℕ) (stays adds : Bool) (g : Range) (c : ℕ) (s : Runs)
+    → let k = spanned (modeOf stays adds) in lasted before stays adds g c s ≡ changed k (start g (countedFrom (min (before + 1) c) c k)) (stop g c) c s
+unfolding lasted addedIf staysIf changed
+mode-lasted before true true g c s = refl
+mode-lasted before true false g c s = refl
+mode-lasted before false true g c s = refl
+mode-lasted before false false g c s = refl
+
+mode-renewed : (first : ℕ) (stays adds : Bool) (g : Range) (c : ℕ) (s : Runs)
+    → let k = modeOf stays adds in renewed stays adds g c s ≡ changed k (start g (countedFrom first c k)) (stop g c) c s
 unfolding renewed addedIf staysIf changed
-mode-renewed true true g c s = refl
-mode-renewed true false g c s = refl
-mode-renewed false true g c s = refl
-mode-renewed false false g c s = refl
+mode-renewed first true true g c s = refl
+mode-renewed first true false g c s = refl
+mode-renewed first false true g c s = refl
+mode-renewed first false false g c s = refl
 
-module _ (c : ℕ) (s : Runs) (g : Range) where
-  pub set-historically : (v : Bool) → setRule c s (historically g v) ≡ changed (modeIn (historically g v)) (start g c) (stop g c) c s
-  unfolding setRuleBy modeIn
-  set-historically v = mode-renewed true (not v) g c s
+mode-in : (spans : Bool) (before : ℕ) (stays adds : Bool) (g : Range) (c : ℕ) (s : Runs)
+    → let k = spannedIf spans (modeOf stays adds) in
+    renewedIn (cond spans lasting ordinary) before stays adds g c s ≡ changed k (start g (countedFrom (min (before + 1) c) c k)) (stop g c) c s
+mode-in true before stays adds g c s = mode-lasted before stays adds g c s
+mode-in false before stays adds g c s = mode-renewed (min (before + 1) c) stays adds g c s
 
-  pub set-once : (v : Bool) → setRule c s (once g v) ≡ changed (modeIn (once g v)) (start g c) (stop g c) c s
-  unfolding setRuleBy modeIn
-  set-once v = mode-renewed true v g c s
+module _ (spans : Bool) (before c : ℕ) (s : Runs) (g : Range) where
+  abbrev in-mode : ℕ → Runs
+  in-mode k = changed k (start g (countedFrom (min (before + 1) c) c k)) (stop g c) c s
 
-  pub set-since : (l r : Bool) → setRule c s (since g l r) ≡ changed (modeIn (since g l r)) (start g c) (stop g c) c s
+  abbrev by-rule : Row Bool → Runs
+  by-rule row = setRuleBy (renewedIn (cond spans lasting ordinary) before) c s row
+
+  pub set-historically : (v : Bool) → by-rule (historically g v) ≡ in-mode (spannedIf spans (modeIn (historically g v)))
   unfolding setRuleBy modeIn
-  set-since l r = mode-renewed l r g c s
+  set-historically v = mode-in spans before true (not v) g c s
+
+  pub set-once : (v : Bool) → by-rule (once g v) ≡ in-mode (spannedIf spans (modeIn (once g v)))
+  unfolding setRuleBy modeIn
+  set-once v = mode-in spans before true v g c s
+
+  pub set-since : (l r : Bool) → by-rule (since g l r) ≡ in-mode (spannedIf spans (modeIn (since g l r)))
+  unfolding setRuleBy modeIn
+  set-since l r = mode-in spans before l r g c s
 
 -- ---- change by change
 module _ (l u c : ℕ) (rs : Runs) where
@@ -46,19 +67,37 @@ module _ (l u c : ℕ) (rs : Runs) where
   unfolding changed
   changed-0 k e = rw e
 
-  pub changed-1 : (k : ℕ) → k ≡ 1 → changed k l u c rs ≡ union l u (kept c rs)
+  pub changed-1 : (k : ℕ) → growing k ≡ true → changed k l u c rs ≡ union l u (kept c rs)
   unfolding changed
-  changed-1 k e = rw e
+  changed-1 zero e = absurd (true≢false (sym e))
+  changed-1 (suc zero) e = refl
+  changed-1 (suc (suc zero)) e = absurd (true≢false (sym e))
+  changed-1 (suc (suc (suc zero))) e = absurd (true≢false (sym e))
+  changed-1 (suc (suc (suc (suc k)))) e = refl
 
   pub changed-2 : (k : ℕ) → k ≡ 2 → changed k l u c rs ≡ []
   unfolding changed
   changed-2 k e = rw e
 
-  pub changed-3 : (k : ℕ) → 2 < k → changed k l u c rs ≡ union l u []
+  pub changed-3 : (k : ℕ) → k ≡ 3 → changed k l u c rs ≡ union l u []
   unfolding changed
-  changed-3 k h =
-      let e : k ≡ suc (suc (suc (k - 3))) = omega arith in
-      subst⁻¹ (λ (j : ℕ). changed j l u c rs ≡ union l u []) e refl
+  changed-3 k e = rw e
+
+-- a change that is none of three
+pub grows-rest : (k : ℕ) → (k ≡ 0 → ⊥) → (k ≡ 2 → ⊥) → (k ≡ 3 → ⊥) → growing k ≡ true
+grows-rest zero x y z = absurd (x refl)
+grows-rest (suc zero) x y z = refl
+grows-rest (suc (suc zero)) x y z = absurd (y refl)
+grows-rest (suc (suc (suc zero))) x y z = absurd (z refl)
+grows-rest (suc (suc (suc (suc k)))) x y z = refl
+
+-- and one that is left when the set is not to stay, nor to be dropped
+pub drops-rest : (k : ℕ) → (k ≡ 0 → ⊥) → growing k ≡ false → (k ≡ 2 → ⊥) → k ≡ 3
+drops-rest zero x f y = absurd (x refl)
+drops-rest (suc zero) x f y = absurd (true≢false f)
+drops-rest (suc (suc zero)) x f y = absurd (y refl)
+drops-rest (suc (suc (suc zero))) x f y = refl
+drops-rest (suc (suc (suc (suc k)))) x f y = absurd (true≢false f)
 
 -- ---- room
 one-run : (l u : ℕ) → length (union l u []) ≤ 1
@@ -68,13 +107,14 @@ one-run l u = ⊎-elim (λ p. rw (union-none l u [] p) (omega arith)) (λ p. rw 
 kept-fits : {m : List ℕ} (c : ℕ) → Good m → fits (length m) (kept c (runs m)) ≡ true
 kept-fits {m} c g = lt-ltb (2 * length (kept c (runs m))) (length m) (omega (arith, g .room, kept-length c (runs m), length-runs m (getD m 0 0)))
 
--- every change but one has room
-pub room-else : {m : List ℕ} (k l u c : ℕ) → Good m → 2 < length m → (k ≡ 1 → ⊥) → true ≡ fits (length m) (changed k l u c (runs m))
+-- every change has room but one that makes the set grow
+pub room-else : {m : List ℕ} (k l u c : ℕ) → Good m → 2 < length m → growing k ≡ false → true ≡ fits (length m) (changed k l u c (runs m))
 unfolding changed
-room-else {m} zero l u c g h ne = sym (kept-fits c g)
-room-else {m} (suc zero) l u c g h ne = absurd (ne refl)
-room-else {m} (suc (suc zero)) l u c g h ne = sym (lt-ltb 0 (length m) (omega arith))
-room-else {m} (suc (suc (suc k))) l u c g h ne = sym (lt-ltb _ (length m) (omega (arith, one-run l u)))
+room-else {m} zero l u c g h f = sym (kept-fits c g)
+room-else {m} (suc zero) l u c g h f = absurd (true≢false f)
+room-else {m} (suc (suc zero)) l u c g h f = sym (lt-ltb 0 (length m) (omega arith))
+room-else {m} (suc (suc (suc zero))) l u c g h f = sym (lt-ltb _ (length m) (omega (arith, one-run l u)))
+room-else {m} (suc (suc (suc (suc k)))) l u c g h f = absurd (true≢false f)
 
 -- a change keeps runs in order
 pub changed-under : (top k l u c : ℕ) (rs : Runs) → Under top rs → u + 1 < top → Under top (changed k l u c rs)
@@ -82,7 +122,8 @@ unfolding changed Under
 changed-under top zero l u c rs w f = kept-under c top rs w
 changed-under top (suc zero) l u c rs w f = union-under top l u (kept c rs) (kept-under c top rs w) f
 changed-under top (suc (suc zero)) l u c rs w f = tt
-changed-under top (suc (suc (suc k))) l u c rs w f = union-under top l u [] tt f
+changed-under top (suc (suc (suc zero))) l u c rs w f = union-under top l u [] tt f
+changed-under top (suc (suc (suc (suc k)))) l u c rs w f = union-under top l u (kept c rs) (kept-under c top rs w) f
 
 -- ---- `will_have`, arm by arm
 none-has : (l u t : ℕ) → has (union l u []) t ≡ within l u t
@@ -94,23 +135,23 @@ module _ (k l u c : ℕ) (rs : Runs) where
   here-same : has (kept c rs) c ≡ has rs c
   here-same = kept-has c c rs (omega arith)
 
-  added-has : Canonical rs → k ≡ 1 → has (changed k l u c rs) c ≡ within l u c || has rs c
+  added-has : Canonical rs → growing k ≡ true → has (changed k l u c rs) c ≡ within l u c || has rs c
   added-has w q = ap (λ (s : Runs). has s c) (changed-1 l u c rs k q) ∙ union-has l u (kept c rs) c (kept-canonical c rs w) ∙ rw here-same
 
   pub will-0 : {b : Bool} → b ≡ has rs c → k ≡ 0 → b ≡ has (changed k l u c rs) c
   will-0 e q = e ∙ sym (ap (λ (s : Runs). has s c) (changed-0 l u c rs k q) ∙ here-same)
 
-  pub will-in : {b : Bool} → b ≡ within l u c → b ≡ true → Canonical rs → k ≡ 1 → true ≡ has (changed k l u c rs) c
+  pub will-in : {b : Bool} → b ≡ within l u c → b ≡ true → Canonical rs → growing k ≡ true → true ≡ has (changed k l u c rs) c
   will-in e y w q = sym (added-has w q ∙ rw (← e, y))
 
-  pub will-out : {b d : Bool} → b ≡ within l u c → b ≡ false → d ≡ has rs c → Canonical rs → k ≡ 1 → d ≡ has (changed k l u c rs) c
+  pub will-out : {b d : Bool} → b ≡ within l u c → b ≡ false → d ≡ has rs c → Canonical rs → growing k ≡ true → d ≡ has (changed k l u c rs) c
   will-out e y f w q = f ∙ sym (added-has w q ∙ rw (← e, y))
 
   pub will-2 : k ≡ 2 → false ≡ has (changed k l u c rs) c
   unfolding has
   will-2 q = sym (ap (λ (s : Runs). has s c) (changed-2 l u c rs k q))
 
-  pub will-3 : {b : Bool} → b ≡ within l u c → 2 < k → b ≡ has (changed k l u c rs) c
+  pub will-3 : {b : Bool} → b ≡ within l u c → k ≡ 3 → b ≡ has (changed k l u c rs) c
   will-3 e q = e ∙ sym (ap (λ (s : Runs). has s c) (changed-3 l u c rs k q) ∙ none-has l u c)
 
 -- ---- `change`, arm by arm
@@ -118,7 +159,7 @@ module _ {m : List ℕ} (k l u c : ℕ) (g : Good m) (f : fits (length m) (chang
   pub change-0 : {m′ : List ℕ} → m′ ≡ pack (length m) (kept c (runs m)) → k ≡ 0 → m′ ≡ pack (length m) (changed k l u c (runs m))
   change-0 a q = a ∙ sym (ap (pack (length m)) (changed-0 l u c (runs m) k q))
 
-  pub change-1 : {m₁ m′ : List ℕ} → m₁ ≡ pack (length m) (kept c (runs m)) → m′ ≡ addWords m₁ l u → k ≡ 1 → m′ ≡ pack (length m) (changed k l u c (runs m))
+  pub change-1 : {m₁ m′ : List ℕ} → m₁ ≡ pack (length m) (kept c (runs m)) → m′ ≡ addWords m₁ l u → growing k ≡ true → m′ ≡ pack (length m) (changed k l u c (runs m))
   change-1 {m₁} d a q =
       let e = changed-1 l u c (runs m) k q in
       let n : length m₁ ≡ length m = ap length d ∙ length-pack (length m) (kept c (runs m)) (ltb-true _ _ (kept-fits c g)) in
@@ -129,6 +170,6 @@ module _ {m : List ℕ} (k l u c : ℕ) (g : Good m) (f : fits (length m) (chang
   pub change-2 : {m′ : List ℕ} → m′ ≡ pack (length m) [] → k ≡ 2 → m′ ≡ pack (length m) (changed k l u c (runs m))
   change-2 a q = a ∙ sym (ap (pack (length m)) (changed-2 l u c (runs m) k q))
 
-  pub change-3 : {m′ : List ℕ} → m′ ≡ setToWords m l u → 2 < k → m′ ≡ pack (length m) (changed k l u c (runs m))
+  pub change-3 : {m′ : List ℕ} → m′ ≡ setToWords m l u → k ≡ 3 → m′ ≡ pack (length m) (changed k l u c (runs m))
   unfolding setToWords
   change-3 a q = let e = changed-3 l u c (runs m) k q in a ∙ rw (← e, f)

@@ -6,9 +6,10 @@ ghost use mathlib.Core.Bool.{true};
 ghost use Prim.Native.Nat.{_<_};
 ghost use lib.ListN.{length};
 ghost use Rattle.numset.specs.Runs.{Good, runs, has, fits, pack, within};
-ghost use Rattle.set_change.specs.Change.{modeOf, changed, adding, bothOf};
+ghost use Rattle.set_change.specs.Change.{modeOf, changed, growing, spanned, spannedIf, adding, bothOf};
 
-// The changes: the set stays, or is dropped; the range is added, or is not.
+// The changes: the set stays, or is dropped; the range is added, or is not. To a set that stays the ranges of a stretch of instants
+// may be added, as one interval.
 pub const STAYS: u8 = 0;
 
 pub const STAYS_AND_ADDS: u8 = 1;
@@ -16,6 +17,8 @@ pub const STAYS_AND_ADDS: u8 = 1;
 pub const DROPPED: u8 = 2;
 
 pub const DROPPED_AND_ADDS: u8 = 3;
+
+pub const STAYS_AND_SPANS: u8 = 4;
 
 // The change of a set.
 pub fn mode(stays: bool, adds: bool) -> u8
@@ -28,29 +31,63 @@ pub fn mode(stays: bool, adds: bool) -> u8
     }
 }
 
+// The same change, where a state lasts: what is added to a set that stays counts from every instant of the stretch.
+fn spanning(mode: u8) -> u8
+    ensures { λ r. ⌜ r ≡ spanned mode ⌝ }
+{
+    if mode == STAYS_AND_ADDS {
+        return STAYS_AND_SPANS;
+    }
+    mode
+}
+
+// Whether the set stays and something is added.
+fn grows(mode: u8) -> bool
+    ensures { λ r. ⌜ r ≡ growing mode ⌝ }
+{
+    if mode == STAYS_AND_ADDS {
+        return true;
+    }
+    STAYS_AND_SPANS <= mode
+}
+
 // A change that adds the range, too.
 fn with_range(mode: u8) -> u8
     ensures { λ r. ⌜ r ≡ adding mode ⌝ }
 {
     if mode < DROPPED {
-        STAYS_AND_ADDS
-    } else {
-        DROPPED_AND_ADDS
+        return STAYS_AND_ADDS;
     }
+    if mode < STAYS_AND_SPANS {
+        return DROPPED_AND_ADDS;
+    }
+    STAYS_AND_SPANS
 }
 
 // Two changes at one clock, as one: the range is the same, and what the first dropped for its age is gone. So the room after the
 // second step, and what the set will then hold, are asked of the set as it is before both.
-pub fn both(first: u8, second: u8) -> u8
+fn both(first: u8, second: u8) -> u8
     ensures { λ r. ⌜ r ≡ bothOf first second ⌝ }
 {
     if second == STAYS {
         return first;
     }
-    if second == STAYS_AND_ADDS {
+    if grows(second) {
         return with_range(first);
     }
     second
+}
+
+// The change that a step makes of a set which the steps before it in the same call are to change as `before` says. Where it counts a
+// stretch of instants it is the first of its call: no time passes after it.
+pub fn next(before: u8, mode: u8, spans: bool) -> u8
+    ensures { λ r. ⌜ r ≡ spannedIf spans (bothOf before mode) ⌝ }
+{
+    let joined = both(before, mode);
+    if spans {
+        return spanning(joined);
+    }
+    joined
 }
 
 fn inside(lower: u64, upper: u64, t: u64) -> bool
@@ -68,7 +105,7 @@ pub fn room_for(set: &[u64], mode: u8, lower: u64, upper: u64, clock: u64) -> bo
     requires { ⌜ 2 < length (now set) ⌝ }
     ensures { λ r. ⌜ r ≡ fits (length (now (set .entry))) (changed mode lower upper clock (runs (now (set .entry)))) ⌝ }
 {
-    if mode == STAYS_AND_ADDS {
+    if grows(mode) {
         return numset::will_have_room(set, clock, lower, upper);
     }
     true
@@ -81,14 +118,14 @@ pub fn will_have(set: &[u64], mode: u8, lower: u64, upper: u64, clock: u64) -> b
 {
     match mode {
         STAYS => numset::contains_from_oldest(set, clock),
-        STAYS_AND_ADDS => {
+        DROPPED => false,
+        DROPPED_AND_ADDS => inside(lower, upper, clock),
+        _ => {
             if inside(lower, upper, clock) {
                 return true;
             }
             numset::contains_from_oldest(set, clock)
         }
-        DROPPED => false,
-        _ => inside(lower, upper, clock),
     }
 }
 
@@ -102,7 +139,7 @@ pub fn change(set: &mut [u64], mode: u8, lower: u64, upper: u64, clock: u64)
         numset::drop_before(set, clock);
         return;
     }
-    if mode == STAYS_AND_ADDS {
+    if grows(mode) {
         numset::drop_before(set, clock);
         numset::add(set, lower, upper);
         return;

@@ -7,7 +7,7 @@ use lib.ListN.{length, getD}
 use Rattle.text.specs.Words.{pick, parts, digit, letters, allDigits, said, plain, good, begun, writtenWords, supplied, supply}
 use Rattle.pmtl.specs.Calls.Call.{time}
 use Rattle.book.specs.Reading.{section, next, sections}
-use Rattle.book.specs.declared.strict.Loading.the-variants.{Ordinary}
+use Rattle.book.specs.declared.loading.Loading.the-variants.{Ordinary}
 use Rattle.report.specs.Lines.{nothing, told, called, lines}
 use Rattle.report.specs.Report.{report}
 use Rattle.report.proofs.Examples.{reportOf, opened, caseInput, whole}

@@ -16,16 +16,18 @@ use Rattle.text.specs.Words.{supply}
 use Rattle.text.specs.Decimals.{decimal}
 use Rattle.text.proofs.Digits.{at-most, at-most-20}
 use Rattle.pmtl.specs.Book.{Rows, Book, properties, widthOf, some}
-use Rattle.pmtl.specs.Monitor.{Snap, State, fullest, initial, step}
+use Rattle.pmtl.specs.Monitor.{Snap, State, fullest, initialIn, stepIn}
 use Rattle.pmtl.specs.Calls.{Call, time, state, stamped, turns, timeRefusal, stateRefusal, firstOf as firstNumber, refusal, crowded, Outcome, play, call}
 use Rattle.pmtl.proofs.Fullest.{fresh-none, call-few}
 use Rattle.book.specs.Rows.{temporal}
 use Rattle.book.specs.Reading.{Read, got, refused, Sections}
-use Rattle.book.specs.declared.strict.Loading.{Loading}
+use Rattle.book.specs.declared.loading.Loading.{Loading}
 use Rattle.book.specs.declared.strict.Excess.{Excess}
 use Rattle.book.specs.declared.strict.Excess.the-variants.{Within, Over}
-use Rattle.book.specs.Strict.{excessBy, unless, admitted}
+use Rattle.book.specs.Strict.{excessBy}
+use Rattle.book.specs.Loading.{wayIn, admitted}
 use Rattle.book.proofs.Excess.{excess-small}
+use Rattle.book.proofs.Admitted.{admitted-all}
 use Rattle.book.specs.Judging.{Loaded, firstOf, firstTo, formGood, rangeGood, kindIn, argIn, lowerIn, upperIn, temporalsIn, rowsIn, rowNumber, linksGood, usedOnce, judged, bookIn, refusedWith, loadedFrom}
 use Rattle.property_answers.specs.Verdict.{verdictIn}
 use Rattle.report.specs.Lines.{PropertyWord, nothing, told, CallLine, Ending, end, stop, book, called, last, wordOf, callsFrom, callsAfter, restOf, lineOf, linesOf, linesFrom, lines}
@@ -61,10 +63,10 @@ small-refusal b now (stamped t bytes) = either-small (eqb (timeRefusal now t) 0)
 small-play : (b : Rows) (old st : State) (ns : List Snap) → play b old st ns .number < 100
 unfolding play
 small-play b old st [] = omega arith
-small-play b old st (n ∷ ns) = go (crowded (step b st n)) (small-play b old (step b st n) ns)
+small-play b old st (n ∷ ns) = go (crowded (stepIn b st n)) (small-play b old (stepIn b st n) ns)
   where
-    go : (z : Bool) → play b old (step b st n) ns .number < 100
-        → elim z as (λ x. Outcome) [ true ↦ record { number = 11; state = old } | false ↦ play b old (step b st n) ns ] .number < 100
+    go : (z : Bool) → play b old (stepIn b st n) ns .number < 100
+        → elim z as (λ x. Outcome) [ true ↦ record { number = 11; state = old } | false ↦ play b old (stepIn b st n) ns ] .number < 100
     go true h = omega arith
     go false h = h
 
@@ -195,11 +197,7 @@ lone-book n room h = simp length-append (omega (arith, book-length n h))
 
 -- a book that is loaded in a way
 loads-by : (way : Loading) (s : Sections) → Few s → Loads (admitted way (loadedFrom s))
-loads-by way s f = go (excessBy way (loadedFrom s .book .rows))
-  where
-    go : (e : Excess) → Loads (unless e (loadedFrom s))
-    go Within = loads s f
-    go (Over r n) = record { small = omega arith; few = omega arith }
+loads-by way s f = admitted-all Loads (record { small = omega arith; few = omega arith }) (record { small = omega arith; few = omega arith }) way (loadedFrom s) (loads s f)
 
 module _ (way : Loading) (input : List ℕ) where
   whole-length : {s : Sections} {ws : List ℕ} → length input ≤ LONGEST-INPUT → sectionsSaid input ≡ got s ws → admitted way (loadedFrom s) .number ≡ ACCEPTED
@@ -212,7 +210,7 @@ module _ (way : Loading) (input : List ℕ) where
       let b = admitted way (loadedFrom s) .book in
       let ks = callsAfter ending ws .calls in
       let few : 4 * length ks ≤ length input - 9 = omega (arith, g .1, c .1, few-words input) in
-      let l = lines-length b (callsAfter ending ws .ends) (loads-by way s (g .0) .few) (c .0) ks 0 (initial (b .rows)) (omega (arith, fresh-none (b .rows))) (omega arith) in
+      let l = lines-length b (callsAfter ending ws .ends) (loads-by way s (g .0) .few) (c .0) ks 0 (initialIn (wayIn way) (b .rows)) (omega (arith, fresh-none (wayIn way) (b .rows))) (omega arith) in
       let n = first-length in
       rw (lines-loaded way input f e z) (simp length-append (omega arith))
 

@@ -10,14 +10,16 @@ use Rattle.numbers.specs.Limits.{LONGEST-INPUT}
 use Rattle.numbers.specs.Refusals.{ACCEPTED}
 use Rattle.text.specs.Words.{supply}
 use Rattle.pmtl.specs.Book.{Book}
-use Rattle.pmtl.specs.Monitor.{State, initial}
-use Rattle.pmtl.specs.Calls.{Call, Outcome, call, after}
+use Rattle.pmtl.specs.Sets.{Way}
+use Rattle.pmtl.specs.Monitor.{State, initialIn}
+use Rattle.pmtl.specs.Calls.{Call, Outcome, call, afterIn}
 use Rattle.book.specs.Reading.{Read, got, refused, Sections}
-use Rattle.book.specs.declared.strict.Loading.{Loading}
+use Rattle.book.specs.declared.loading.Loading.{Loading}
 use Rattle.book.specs.declared.strict.Excess.{Excess}
 use Rattle.book.specs.declared.strict.Excess.the-variants.{Within}
-use Rattle.book.specs.Strict.{excessBy, admitted}
-use Rattle.book.proofs.Excess.{accepted-within}
+use Rattle.book.specs.Strict.{excessBy}
+use Rattle.book.specs.Loading.{wayIn, admitted}
+use Rattle.book.proofs.Admitted.{accepted-within}
 use Rattle.book.specs.Judging.{Loaded, loadedFrom}
 use Rattle.report.specs.Lines.{CallLine, Ending, Line, book, called, last, CallsRead, callsAfter, lineOf, linesOf, linesFrom, callLines, bookThen, bookLines, lines}
 use Rattle.slip.specs.Says.{sectionsSaid, loadedOf, excessOf, bookSaid, wordsAfter, readSaid, callsSaid, endSaid, noLine, noCallLine, missingCall, Whole, Shape}
@@ -49,21 +51,21 @@ unfolding linesOf
 lines-length b done st [] = refl
 lines-length b done st (k ∷ ks) = ap suc (lines-length b (suc done) (call (b .rows) st k .state) ks)
 
-pub lines-at : (b : Book) (done : ℕ) (past ks : List Call) (i : ℕ) → i < length ks → getD (linesOf b done (after (b .rows) past) ks) i noCallLine
-    ≡ lineOf b (suc (done + i)) (call (b .rows) (after (b .rows) (reverseAux (take i ks) past)) (getD ks i missingCall))
-unfolding linesOf after
-lines-at b done past [] i h = absurd (omega arith)
-lines-at b done past (k ∷ ks) zero h = let e : done + 0 ≡ done = omega arith in rw e
-lines-at b done past (k ∷ ks) (suc i) h =
-    let e : done + suc i ≡ suc done + i = omega arith in rw e (lines-at b (suc done) (k ∷ past) ks i (omega arith))
+pub lines-at : (w : Way) (b : Book) (done : ℕ) (past ks : List Call) (i : ℕ) → i < length ks → getD (linesOf b done (afterIn w (b .rows) past) ks) i noCallLine
+    ≡ lineOf b (suc (done + i)) (call (b .rows) (afterIn w (b .rows) (reverseAux (take i ks) past)) (getD ks i missingCall))
+unfolding linesOf afterIn
+lines-at w b done past [] i h = absurd (omega arith)
+lines-at w b done past (k ∷ ks) zero h = let e : done + 0 ≡ done = omega arith in rw e
+lines-at w b done past (k ∷ ks) (suc i) h =
+    let e : done + suc i ≡ suc done + i = omega arith in rw e (lines-at w b (suc done) (k ∷ past) ks i (omega arith))
 
--- line i of calls, on a fresh monitor
-abbrev pub sayings : ℕ → Book → List Call → CallLine
-sayings i b ks = lineOf b (suc i) (call (b .rows) (after (b .rows) (reverse (take i ks))) (getD ks i missingCall))
+-- line i of calls, on a fresh monitor in a way of monitoring
+abbrev pub sayings : Way → ℕ → Book → List Call → CallLine
+sayings w i b ks = lineOf b (suc i) (call (b .rows) (afterIn w (b .rows) (reverse (take i ks))) (getD ks i missingCall))
 
-said-at : (b : Book) (ks : List Call) (i : ℕ) → i < length ks → getD (linesOf b 0 (initial (b .rows)) ks) i noCallLine ≡ sayings i b ks
-unfolding after
-said-at b ks i h = let e : 0 + i ≡ i = omega arith in rw e at (lines-at b 0 [] ks i h)
+said-at : (w : Way) (b : Book) (ks : List Call) (i : ℕ) → i < length ks → getD (linesOf b 0 (initialIn w (b .rows)) ks) i noCallLine ≡ sayings w i b ks
+unfolding afterIn
+said-at w b ks i h = let e : 0 + i ≡ i = omega arith in rw e at (lines-at w b 0 [] ks i h)
 
 number-of : (b : Book) (i : ℕ) (o : Outcome) → lineOf b i o .number ≡ i
 unfolding lineOf
@@ -88,11 +90,11 @@ module _ (way : Loading) (input : List ℕ) {s : Sections} {ws : List ℕ} (e : 
 module _ (way : Loading) (input : List ℕ) (fits : length input ≤ LONGEST-INPUT) where
   -- of a loaded book
   pub lines-loaded : {s : Sections} {ws : List ℕ} → sectionsSaid input ≡ got s ws → admitted way (loadedFrom s) .number ≡ ACCEPTED
-      → lines way input ≡ book ACCEPTED Within ∷ linesFrom (admitted way (loadedFrom s) .book) 0 (initial (admitted way (loadedFrom s) .book .rows)) (callsAfter (supply input .ending) ws)
+      → lines way input ≡ book ACCEPTED Within ∷ linesFrom (admitted way (loadedFrom s) .book) 0 (initialIn (wayIn way) (admitted way (loadedFrom s) .book .rows)) (callsAfter (supply input .ending) ws)
   unfolding lines bookLines bookThen callLines
   lines-loaded {s} {ws} e z =
       rw (le-ltb LONGEST-INPUT (length input) fits, e, eq-eqb (admitted way (loadedFrom s) .number) ACCEPTED z)
-      (ap₂ (λ n x. book n x ∷ linesFrom (admitted way (loadedFrom s) .book) 0 (initial (admitted way (loadedFrom s) .book .rows)) (callsAfter (supply input .ending) ws)) z
+      (ap₂ (λ n x. book n x ∷ linesFrom (admitted way (loadedFrom s) .book) 0 (initialIn (wayIn way) (admitted way (loadedFrom s) .book .rows)) (callsAfter (supply input .ending) ws)) z
       (accepted-within way (loadedFrom s) z))
 
   pub lines-refused : {s : Sections} {ws : List ℕ} → sectionsSaid input ≡ got s ws → ¬ (admitted way (loadedFrom s) .number ≡ ACCEPTED) → lines way input ≡ book (admitted way (loadedFrom s) .number) (excessBy way (loadedFrom s .book .rows)) ∷ []
@@ -108,15 +110,15 @@ module _ (way : Loading) (input : List ℕ) (fits : length input ≤ LONGEST-INP
   whole-of {s} {ws} e z =
       let b = admitted way (loadedFrom s) .book in
       let ks = callsAfter (supply input .ending) ws .calls in
-      let n = lines-length b 0 (initial (b .rows)) ks in
+      let n = lines-length b 0 (initialIn (wayIn way) (b .rows)) ks in
       let said : ks ≡ callsSaid input = ap (λ (r : CallsRead). r .calls) (sym (read-as way input e)) in
       record {
-        calls = linesOf b 0 (initial (b .rows)) ks;
+        calls = linesOf b 0 (initialIn (wayIn way) (b .rows)) ks;
         loads = rw (loads-as way input e) z;
-        all = lines-loaded e z ∙ ap (λ x. book ACCEPTED Within ∷ map called (linesOf b 0 (initial (b .rows)) ks) ++ last x ∷ []) (ap (λ (r : CallsRead). r .ends) (sym (read-as way input e)));
+        all = lines-loaded e z ∙ ap (λ x. book ACCEPTED Within ∷ map called (linesOf b 0 (initialIn (wayIn way) (b .rows)) ks) ++ last x ∷ []) (ap (λ (r : CallsRead). r .ends) (sym (read-as way input e)));
         each = n ∙ ap length said;
-        numbered = λ i h. ap (λ (l : CallLine). l .number) (said-at b ks i (omega arith)) ∙ number-of b (suc i) _;
-        in-order = λ i h. said-at b ks i (omega arith) ∙ ap₂ (sayings i) (sym (ap (λ (l : Loaded). l .book) (loads-as way input e))) said;
+        numbered = λ i h. ap (λ (l : CallLine). l .number) (said-at (wayIn way) b ks i (omega arith)) ∙ number-of b (suc i) _;
+        in-order = λ i h. said-at (wayIn way) b ks i (omega arith) ∙ ap₂ (sayings (wayIn way) i) (sym (ap (λ (l : Loaded). l .book) (loads-as way input e))) said;
       }
 
 pub shape : (way : Loading) (input : List ℕ) → Shape way input
@@ -145,7 +147,7 @@ pub record CalledLine (way : Loading) (input : List ℕ) (i : ℕ) (l : CallLine
   pub others : ℕ
   pub place : i ≡ suc others
   pub said : others < length (callsSaid input)
-  pub is : sayings others (bookSaid way input) (callsSaid input) ≡ l
+  pub is : sayings (wayIn way) others (bookSaid way input) (callsSaid input) ≡ l
 
 in-whole : (way : Loading) (input : List ℕ) → length input ≤ LONGEST-INPUT → (w : Whole way input) (i : ℕ) (l : CallLine) → getD (book ACCEPTED Within ∷ map called (w .calls) ++ last (endSaid input) ∷ []) i noLine ≡ called l → CalledLine way input i l
 in-whole way input f w zero l h = absurd (not-book h)

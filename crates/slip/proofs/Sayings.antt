@@ -2,47 +2,30 @@
 use Prim.Native.Nat.{ℕ, suc, _+_, _-_, _≤_, _<_}
 use native.Mathlib.Omega.{arith}
 use mathlib.Core.Path.{_≡_, refl, sym, ap, subst, _∙_}
-use mathlib.Core.Bool.{Bool, true, false}
 use mathlib.Core.List.{List, [], _++_, reverse, reverse-append}
-use lib.Dec.{eqb}
 use lib.ListN.{length, getD, take, drop}
 use lib.Seq.{take-add}
-use borrow.Author.Tests.{eq-eqb, ne-eqb, eqb-true}
+use borrow.Author.Tests.{eq-eqb, ne-eqb}
 use Rattle.numbers.specs.Refusals.{ACCEPTED}
 use Rattle.lists.proofs.Listed.{listed-length, listed-at}
-use Rattle.pmtl.specs.Book.{Book, Ordered, properties}
+use Rattle.pmtl.specs.Book.{Book, properties}
 use Rattle.pmtl.specs.Monitor.{fullest}
-use Rattle.pmtl.specs.Calls.{Call, Outcome, call, after}
+use Rattle.pmtl.specs.Calls.{Call, Outcome, call, afterIn}
 use Rattle.book.specs.Reading.{Read, got, refused, Sections}
-use Rattle.book.specs.declared.strict.Loading.{Loading}
-use Rattle.book.specs.declared.strict.Excess.{Excess}
-use Rattle.book.specs.declared.strict.Excess.the-variants.{Within, Over}
-use Rattle.book.specs.Strict.{excessBy, unless}
-use Rattle.book.specs.Judging.{Loaded, judged, bookIn, refusedWith, loadedFrom}
-use Rattle.book.proofs.Ordered.{book-ordered}
+use Rattle.book.specs.declared.loading.Loading.{Loading}
+use Rattle.book.specs.Loading.{wayIn}
+use Rattle.lasts.specs.Flat.{Fit}
+use Rattle.lasts.proofs.Loaded.{sections-fit, empty-fit}
 use Rattle.property_answers.specs.Verdict.{verdictIn}
 use Rattle.report.specs.Lines.{PropertyWord, nothing, wordsIn, countIn, CallLine, book, wordOf, lineOf, lines}
 use Rattle.slip.specs.Says.{loadedOf, bookSaid, callsSaid, firstCalls, noWord, missingCall, Says}
 use Rattle.slip.proofs.Places.{one-more, CalledLine, called-line}
 
--- ---- the book that a text says is ordered
-loaded-ordered : (s : Sections) → Ordered (loadedFrom s .book .rows)
-unfolding loadedFrom
-loaded-ordered s = go (eqb (judged s) ACCEPTED) refl
-  where
-    go : (z : Bool) → eqb (judged s) ACCEPTED ≡ z
-        → Ordered (elim z as (λ x. Loaded) [ true ↦ record { number = ACCEPTED; book = bookIn s } | false ↦ refusedWith (judged s) ] .book .rows)
-    go true e = book-ordered s (eqb-true (judged s) ACCEPTED e)
-    go false e = λ r. tt
-
-unless-ordered : (e : Excess) (l : Loaded) → Ordered (l .book .rows) → Ordered (unless e l .book .rows)
-unless-ordered Within l w = w
-unless-ordered (Over r n) l w = λ q. tt
-
-pub ordered : (way : Loading) (r : Read Sections) → Ordered (loadedOf way r .book .rows)
+-- ---- the book that a text says has what is asked of one
+pub fit : (way : Loading) (r : Read Sections) → Fit (wayIn way) (loadedOf way r .book .rows)
 unfolding loadedOf
-ordered way (got s ws) = unless-ordered (excessBy way (loadedFrom s .book .rows)) (loadedFrom s) (loaded-ordered s)
-ordered way (refused n) = λ r. tt
+fit way (got s ws) = sections-fit way s
+fit way (refused n) = empty-fit (wayIn way)
 
 -- ---- the words of an accepted call's line
 words-at : (b : Book) (i : ℕ) (o : Outcome) → lineOf b i o .refusal ≡ ACCEPTED → length (wordsIn (lineOf b i o .rest)) ≡ length (properties b)
@@ -65,11 +48,11 @@ none-at b i o n = rw (ne-eqb (o .number) ACCEPTED n)
 
 -- the answers of property p after the first i calls of a text
 abbrev pub answered : Loading → List ℕ → ℕ → ℕ → PropertyWord
-answered way input i p = wordOf (verdictIn (bookSaid way input) (after (bookSaid way input .rows) (firstCalls input i)) p)
+answered way input i p = wordOf (verdictIn (bookSaid way input) (afterIn (wayIn way) (bookSaid way input .rows) (firstCalls input i)) p)
 
 module _ (way : Loading) (input : List ℕ) {i : ℕ} {l : CallLine} (c : CalledLine way input i l) (z : l .refusal ≡ ACCEPTED) where
   abbrev outcome : Outcome
-  outcome = call (bookSaid way input .rows) (after (bookSaid way input .rows) (firstCalls input (c .others))) (getD (callsSaid input) (c .others) missingCall)
+  outcome = call (bookSaid way input .rows) (afterIn (wayIn way) (bookSaid way input .rows) (firstCalls input (c .others))) (getD (callsSaid input) (c .others) missingCall)
 
   accepted : lineOf (bookSaid way input) (suc (c .others)) outcome .refusal ≡ ACCEPTED
   accepted = ap (λ (x : CallLine). x .refusal) (c .is) ∙ z
@@ -80,25 +63,25 @@ module _ (way : Loading) (input : List ℕ) {i : ℕ} {l : CallLine} (c : Called
 
   -- the digits of the answers after the calls up to that line
   word-here : (p : ℕ) → p < length (wordsIn (l .rest)) → getD (wordsIn (l .rest)) p noWord ≡ answered way input i p
-  unfolding after
+  unfolding afterIn
   word-here p h =
       ap (λ (x : CallLine). getD (wordsIn (x .rest)) p noWord) (sym (c .is))
       ∙ word-at (bookSaid way input) (suc (c .others)) outcome p accepted (subst (λ (x : CallLine). p < length (wordsIn (x .rest))) (sym (c .is)) h)
-      ∙ ap (λ ks. wordOf (verdictIn (bookSaid way input) (after (bookSaid way input .rows) ks) p)) (sym (one-more (callsSaid input) [] (c .others) (c .said)))
+      ∙ ap (λ ks. wordOf (verdictIn (bookSaid way input) (afterIn (wayIn way) (bookSaid way input .rows) ks) p)) (sym (one-more (callsSaid input) [] (c .others) (c .said)))
       ∙ ap (λ n. answered way input n p) (sym (c .place))
 
   -- how many runs the fullest set has after the calls up to that line
-  pub count-here : countIn (l .rest) ≡ fullest (after (bookSaid way input .rows) (firstCalls input i))
-  unfolding after
+  pub count-here : countIn (l .rest) ≡ fullest (afterIn (wayIn way) (bookSaid way input .rows) (firstCalls input i))
+  unfolding afterIn
   count-here =
       ap (λ (x : CallLine). countIn (x .rest)) (sym (c .is))
       ∙ count-at (bookSaid way input) (suc (c .others)) outcome accepted
-      ∙ ap (λ ks. fullest (after (bookSaid way input .rows) ks)) (sym (one-more (callsSaid input) [] (c .others) (c .said)))
-      ∙ ap (λ n. fullest (after (bookSaid way input .rows) (firstCalls input n))) (sym (c .place))
+      ∙ ap (λ ks. fullest (afterIn (wayIn way) (bookSaid way input .rows) ks)) (sym (one-more (callsSaid input) [] (c .others) (c .said)))
+      ∙ ap (λ n. fullest (afterIn (wayIn way) (bookSaid way input .rows) (firstCalls input n))) (sym (c .place))
 
 -- the number on a call's line is what the call hands back after those before it
 pub refusal-here : (way : Loading) (input : List ℕ) {i : ℕ} {l : CallLine} (c : CalledLine way input i l)
-    → l .refusal ≡ call (bookSaid way input .rows) (after (bookSaid way input .rows) (firstCalls input (c .others))) (getD (callsSaid input) (c .others) missingCall) .number
+    → l .refusal ≡ call (bookSaid way input .rows) (afterIn (wayIn way) (bookSaid way input .rows) (firstCalls input (c .others))) (getD (callsSaid input) (c .others) missingCall) .number
 unfolding lineOf
 refusal-here way input c = ap (λ (x : CallLine). x .refusal) (sym (c .is))
 

@@ -9,13 +9,14 @@ use Rattle.numbers.specs.Limits.{LONGEST-INPUT}
 use Rattle.numbers.specs.Refusals.{ACCEPTED}
 use Rattle.text.specs.Words.{supply}
 use Rattle.pmtl.specs.Book.{Book}
-use Rattle.pmtl.specs.Monitor.{State, initial}
-use Rattle.pmtl.specs.Calls.{Call, Outcome, call, after}
+use Rattle.pmtl.specs.Sets.{Way}
+use Rattle.pmtl.specs.Monitor.{State, initialIn}
+use Rattle.pmtl.specs.Calls.{Call, Outcome, call, afterIn}
 use Rattle.pmtl.proofs.Theorems.{refused-changes-nothing}
 use Rattle.book.specs.Reading.{Read, got, refused, Sections}
-use Rattle.book.specs.declared.strict.Loading.{Loading}
+use Rattle.book.specs.declared.loading.Loading.{Loading}
 use Rattle.book.specs.declared.strict.Excess.the-variants.{Within}
-use Rattle.book.specs.Strict.{admitted}
+use Rattle.book.specs.Loading.{wayIn, admitted}
 use Rattle.book.specs.Judging.{Loaded, loadedFrom}
 use Rattle.report.specs.Lines.{Rest, CallLine, Ending, Line, book, called, last, CallsRead, callThen, callsFrom, callsAfter, lineOf, linesOf, linesFrom, lines}
 use Rattle.slip.specs.Says.{sectionsSaid, wordsAfter, noLine, missingCall}
@@ -42,11 +43,11 @@ module _ (b : Book) (e : Ending) where
   lower done st (k ∷ ks) = ap₂ (λ x xs. x ∷ xs) (one-lower (suc done) (call (b .rows) st k)) (lower (suc done) (call (b .rows) st k .state) ks)
 
   -- ---- without the line of a refused call
-  cut : (done : ℕ) (past before : List Call) (k : Call) (later : List Call) → ¬ (call (b .rows) (after (b .rows) (reverseAux before past)) k .number ≡ ACCEPTED)
-      → without (length before) (ends (linesOf b done (after (b .rows) past) (before ++ k ∷ later))) ≡ ends (linesOf b done (after (b .rows) past) (before ++ later))
-  unfolding ends linesOf after without
-  cut done past [] k later n = rw (refused-changes-nothing (b .rows) (after (b .rows) past) k n) (lower done (after (b .rows) past) later)
-  cut done past (x ∷ before) k later n = ap (λ ls. called (lineOf b (suc done) (call (b .rows) (after (b .rows) past) x)) ∷ ls) (cut (suc done) (x ∷ past) before k later n)
+  cut : (w : Way) (done : ℕ) (past before : List Call) (k : Call) (later : List Call) → ¬ (call (b .rows) (afterIn w (b .rows) (reverseAux before past)) k .number ≡ ACCEPTED)
+      → without (length before) (ends (linesOf b done (afterIn w (b .rows) past) (before ++ k ∷ later))) ≡ ends (linesOf b done (afterIn w (b .rows) past) (before ++ later))
+  unfolding ends linesOf afterIn without
+  cut w done past [] k later n = rw (refused-changes-nothing (b .rows) (afterIn w (b .rows) past) k n) (lower done (afterIn w (b .rows) past) later)
+  cut w done past (x ∷ before) k later n = ap (λ ls. called (lineOf b (suc done) (call (b .rows) (afterIn w (b .rows) past) x)) ∷ ls) (cut w (suc done) (x ∷ past) before k later n)
 
 -- ---- the calls of the text, and of the text without one
 module _ (way : Loading) {input : List ℕ} {i : ℕ} (c : CallAt input i) where
@@ -77,34 +78,34 @@ module _ (way : Loading) {input : List ℕ} {i : ℕ} (c : CallAt input i) where
     later = onward (supply input .ending)
 
     abbrev outcome : Outcome
-    outcome = call (loaded .rows) (after (loaded .rows) (reverse (c .before))) (c .itself)
+    outcome = call (loaded .rows) (afterIn (wayIn way) (loaded .rows) (reverse (c .before))) (c .itself)
 
-    lines-are : lines way input ≡ book ACCEPTED Within ∷ ends loaded (later .ends) (linesOf loaded 0 (initial (loaded .rows)) (c .before ++ c .itself ∷ later .calls))
+    lines-are : lines way input ≡ book ACCEPTED Within ∷ ends loaded (later .ends) (linesOf loaded 0 (initialIn (wayIn way) (loaded .rows)) (c .before ++ c .itself ∷ later .calls))
     unfolding linesFrom ends
-    lines-are = lines-loaded way input fits (c .words) z ∙ ap (λ r. book ACCEPTED Within ∷ linesFrom loaded 0 (initial (loaded .rows)) r) (with-it (supply input .ending))
+    lines-are = lines-loaded way input fits (c .words) z ∙ ap (λ r. book ACCEPTED Within ∷ linesFrom loaded 0 (initialIn (wayIn way) (loaded .rows)) r) (with-it (supply input .ending))
 
-    others-are : {other : List ℕ} → TakenOut c other → lines way other ≡ book ACCEPTED Within ∷ ends loaded (later .ends) (linesOf loaded 0 (initial (loaded .rows)) (c .before ++ later .calls))
+    others-are : {other : List ℕ} → TakenOut c other → lines way other ≡ book ACCEPTED Within ∷ ends loaded (later .ends) (linesOf loaded 0 (initialIn (wayIn way) (loaded .rows)) (c .before ++ later .calls))
     unfolding linesFrom ends
     others-are {other} t =
         lines-loaded way other (t .short) (t .words) z
-        ∙ ap (λ r. book ACCEPTED Within ∷ linesFrom loaded 0 (initial (loaded .rows)) r)
+        ∙ ap (λ r. book ACCEPTED Within ∷ linesFrom loaded 0 (initialIn (wayIn way) (loaded .rows)) r)
         (ap (λ e. callsAfter e (c .fewer ∷ (allWords (c .before) ++ c .rest))) (t .ending) ∙ without-it (supply input .ending))
 
     -- the line says what came of the call
     its-line : {l : CallLine} → getD (lines way input) i noLine ≡ called l → l .refusal ≡ outcome .number
-    unfolding ends after lineOf
+    unfolding ends afterIn lineOf
     its-line {l} h =
         let ks = c .before ++ c .itself ∷ later .calls in
-        let q = at-place (linesOf loaded 0 (initial (loaded .rows)) ks) (later .ends) (length (c .before)) l (ap₂ (λ ls n. getD ls n noLine) (sym lines-are) (sym (c .place)) ∙ h) in
-        let a = lines-at loaded 0 [] ks (length (c .before)) (omega (arith, q .0, lines-length loaded 0 (initial (loaded .rows)) ks)) in
+        let q = at-place (linesOf loaded 0 (initialIn (wayIn way) (loaded .rows)) ks) (later .ends) (length (c .before)) l (ap₂ (λ ls n. getD ls n noLine) (sym lines-are) (sym (c .place)) ∙ h) in
+        let a = lines-at (wayIn way) loaded 0 [] ks (length (c .before)) (omega (arith, q .0, lines-length loaded 0 (initialIn (wayIn way) (loaded .rows)) ks)) in
         ap (λ (x : CallLine). x .refusal) (sym (q .1) ∙ a)
-        ∙ ap₂ (λ xs k. call (loaded .rows) (after (loaded .rows) (reverse xs)) k .number) (take-append-seam (c .before) (c .itself ∷ later .calls)) (getD-append-seam (c .before) (c .itself) (later .calls) missingCall)
+        ∙ ap₂ (λ xs k. call (loaded .rows) (afterIn (wayIn way) (loaded .rows) (reverse xs)) k .number) (take-append-seam (c .before) (c .itself ∷ later .calls)) (getD-append-seam (c .before) (c .itself) (later .calls) missingCall)
 
     lines-cut : {other : List ℕ} → ¬ (outcome .number ≡ ACCEPTED) → TakenOut c other → lines way other ≡ without i (lines way input)
-    unfolding without after
+    unfolding without afterIn
     lines-cut n t =
         others-are t
-        ∙ ap (λ ls. book ACCEPTED Within ∷ ls) (sym (cut loaded (later .ends) 0 [] (c .before) (c .itself) (later .calls) n))
+        ∙ ap (λ ls. book ACCEPTED Within ∷ ls) (sym (cut loaded (later .ends) (wayIn way) 0 [] (c .before) (c .itself) (later .calls) n))
         ∙ ap₂ without (sym (c .place)) (sym lines-are)
 
   pub no-trace : {l : CallLine} → getD (lines way input) i noLine ≡ called l → ¬ (l .refusal ≡ ACCEPTED) → {other : List ℕ} → TakenOut c other → lines way other ≡ without i (lines way input)

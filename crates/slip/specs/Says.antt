@@ -7,13 +7,14 @@ use Rattle.numbers.specs.Limits.{LONGEST-INPUT}
 use Rattle.numbers.specs.Refusals.{ACCEPTED, PAST-LIMIT}
 use Rattle.text.specs.Words.{supply}
 use Rattle.pmtl.specs.Book.{Book}
-use Rattle.pmtl.specs.Calls.{Call, call, after}
+use Rattle.pmtl.specs.Calls.{Call, call, afterIn}
 use Rattle.pmtl.specs.Calls.Call.{time}
 use Rattle.book.specs.Reading.{Read, got, refused, Sections, sections}
-use Rattle.book.specs.declared.strict.Loading.{Loading}
+use Rattle.book.specs.declared.loading.Loading.{Loading}
 use Rattle.book.specs.declared.strict.Excess.{Excess}
 use Rattle.book.specs.declared.strict.Excess.the-variants.{Within}
-use Rattle.book.specs.Strict.{excessBy, admitted}
+use Rattle.book.specs.Strict.{excessBy}
+use Rattle.book.specs.Loading.{wayIn, admitted}
 use Rattle.book.specs.Judging.{Loaded, refusedWith, loadedFrom}
 use Rattle.report.specs.Lines.{PropertyWord, nothing, wordsIn, CallLine, Ending, end, stop, Line, book, called, last, CallsRead, callsAfter, lineOf, lines}
 
@@ -84,7 +85,7 @@ pub record Whole (way : Loading) (input : List ℕ) : Type 0 where
   pub each : length calls ≡ length (callsSaid input)
   pub numbered : (i : ℕ) → i < length calls → getD calls i noCallLine .number ≡ suc i
   pub in-order : (i : ℕ) → i < length calls → getD calls i noCallLine
-      ≡ lineOf (bookSaid way input) (suc i) (call (bookSaid way input .rows) (after (bookSaid way input .rows) (firstCalls input i)) (getD (callsSaid input) i missingCall))
+      ≡ lineOf (bookSaid way input) (suc i) (call (bookSaid way input .rows) (afterIn (wayIn way) (bookSaid way input .rows) (firstCalls input i)) (getD (callsSaid input) i missingCall))
 
 -- the lines of a report: those; nothing after a refused book; or the one line of an input that is too long
 pub data Shape (way : Loading) (input : List ℕ) : Type 0 where

@@ -1,5 +1,5 @@
 // Reads standard input and prints its report, the book loaded strictly: of one that is accepted no line ever says 11.
-use book::strict::Loading;
+use book::loading::Loading;
 
 fn main() {
     reporter::run(Loading::Strict);

@@ -5,11 +5,10 @@ use mathlib.Core.Path.{_≡_, refl, sym, ap, _∙_, subst⁻¹}
 use mathlib.Core.Bool.{Bool, true, false, not, _||_, Bool·beq}
 use mathlib.Core.List.{List, [], _∷_, map}
 use lib.ListN.{length, getD, take, drop, length-drop}
-use Rattle.pmtl.specs.Book.{mapRow, some, itself}
+use Rattle.pmtl.specs.Book.{mapRow, some, itself, moveRule}
 use Rattle.memory.specs.declared.RowWords.{RowWords}
 use Rattle.memory.specs.Layout.{OPERANDS, MOVES}
 use Rattle.memory.specs.Memory.{rowCount, kindAt, argAt, lowerAt, upperAt, startAt, wordsAt, operandAt, operandsOf, operandsFrom, rowOf}
-use Rattle.memory.specs.Tables.{moveRule}
 use Rattle.memory.specs.Kept.{BookKept, Span, Sound}
 use Rattle.memory.proofs.Rows.{Read, span-rest, walk-cons, first-below}
 use Rattle.book.specs.Rows.{rowFrom, countOf}
@@ -55,12 +54,12 @@ or-nothing : (b : Bool) → (b || false) ≡ b
 or-nothing true = refl
 or-nothing false = refl
 
-one-list : (f : ℕ → Bool) (os : List ℕ) → 1 ≤ length os → f (getD os 0 0) ≡ some itself (map f (take 1 os))
+pub one-list : (f : ℕ → Bool) (os : List ℕ) → 1 ≤ length os → f (getD os 0 0) ≡ some itself (map f (take 1 os))
 unfolding some
 one-list f [] h = absurd (omega arith)
 one-list f (x ∷ os) h = sym (or-nothing (f x))
 
-two-list : (f : ℕ → Bool) (os : List ℕ) → 2 ≤ length os → (f (getD os 0 0) || f (getD os 1 0)) ≡ some itself (map f (take 2 os))
+pub two-list : (f : ℕ → Bool) (os : List ℕ) → 2 ≤ length os → (f (getD os 0 0) || f (getD os 1 0)) ≡ some itself (map f (take 2 os))
 unfolding some
 two-list f [] h = absurd (omega arith)
 two-list f (x ∷ []) h = absurd (omega arith)

@@ -16,14 +16,14 @@ use Rattle.numset.specs.Runs.{runs, held}
 use Rattle.pmtl.specs.declared.Answer.{Answer}
 use Rattle.pmtl.specs.declared.Answer.the-variants.{Open}
 use Rattle.pmtl.specs.Answer.{bitOf, digitOf}
-use Rattle.pmtl.specs.Book.{Row, Rows, rowAt, mapRow, Below}
+use Rattle.pmtl.specs.Book.{Row, Rows, rowAt, mapRow, Below, moveRule, moves}
 use Rattle.pmtl.proofs.Table.{mapRow-local, answer-in}
 use Rattle.pmtl.specs.Monitor.{State, fullest, value}
 use Rattle.pmtl.specs.Early.{early}
 use Rattle.pmtl.specs.Settled.{settled}
 use Rattle.memory.specs.Layout.{VALUES, TOLD, EARLY, SETTLED, MOVES, FULLEST, PROPERTIES}
 use Rattle.memory.specs.Memory.{rowCount, clockOf, temporals, slotWords, propertyRow, valueAt, toldAt, earlyAt, settledAt, movesAt, fullestWord, rowOf, rowsOf, stateOf, isOne}
-use Rattle.memory.specs.Tables.{standing, valueOf, earlyOf, settledOf, propertyCount, moveRule, moves, Valued, Told, Answered, Moving, Counts, Unused, Tables}
+use Rattle.memory.specs.Tables.{standing, valueOf, earlyOf, settledOf, propertyCount, Valued, Told, Answered, Moving, Counts, Unused, Tables}
 use Rattle.memory.specs.Kept.{Sound}
 use Rattle.memory.specs.Alike.{Alike}
 use Rattle.memory.proofs.Bits.{bit-back}

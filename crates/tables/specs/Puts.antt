@@ -12,7 +12,8 @@ use Rattle.pmtl.specs.Answer.{bitOf, digitOf}
 use Rattle.memory.specs.Layout.{VALUES, TOLD, EARLY, SETTLED, MOVES, FULLEST}
 use Rattle.memory.specs.Memory.{rowCount, begunWord, clockOf, temporals, slotWords, propertyRow, toldAt, isOne, rowsOf, stateOf}
 use Rattle.pmtl.specs.Monitor.{fullest}
-use Rattle.memory.specs.Tables.{standing, moves, valueOf, propertyCount}
+use Rattle.pmtl.specs.Book.{moves}
+use Rattle.memory.specs.Tables.{standing, valueOf, propertyCount}
 use Rattle.row_answers.specs.Told.{earlyTold, settledTold}
 
 -- what a table of bits has of row o

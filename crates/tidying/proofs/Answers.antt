@@ -11,7 +11,7 @@ use Rattle.pmtl.specs.Answer.{isTrue, isFalse, isOpen, reversed, known, decided
 use Rattle.pmtl.specs.Book.{Row, mapRow, Rows, rowAt, Ordered, widthOf, every, some}
 use Rattle.pmtl.specs.Book.Row.{historically, once}
 use Rattle.pmtl.specs.Sets.{gone}
-use Rattle.pmtl.specs.Monitor.{Snap, initial}
+use Rattle.pmtl.specs.Monitor.{Snap, initialIn}
 use Rattle.pmtl.specs.Early.{fromNow, earlyRule, early}
 use Rattle.pmtl.specs.Settled.{settledTrue, settledFalse, settledRule, settled}
 use Rattle.pmtl.specs.Calls.{History, nowOf}
@@ -179,7 +179,7 @@ module _ (b : Rows) (w : Ordered b) (s : Step) (fit : fits b s ≡ true)
 
   -- open before the first call
   open-same : (r r′ : ℕ) → settled b (run b []) r ≡ settled b′ (run b′ []) r′
-  unfolding runBy initial
+  unfolding runBy initialIn
   open-same r r′ = settled-before b (run b []) refl r ∙ sym (settled-before b′ (run b′ []) refl r′)
 
   pub settled-same : (h : History) → Legal b h → {r r′ : ℕ} → Says b w s fit good-row b′ w′ r r′ → settled b (run b h) r ≡ settled b′ (run b′ h) r′

@@ -14,7 +14,8 @@ use Rattle.pmtl.specs.Early.{early}
 use Rattle.pmtl.specs.Settled.{settled}
 use Rattle.pmtl.specs.Calls.{Call, time, state, stamped, turns, timeRefusal, stateRefusal, firstOf, refusal, crowded, Outcome, play, call, after, History, onto, accepted}
 use Rattle.pmtl.specs.Past.{runBy, run}
-use Rattle.pmtl.proofs.History.{now-run}
+use Rattle.pmtl.proofs.Answers.{step-ordinary}
+use Rattle.pmtl.proofs.History.{now-run, way-run}
 use Rattle.pmtl.proofs.Calls.{trail}
 use Rattle.book.specs.Reading.{Sections}
 use Rattle.book.specs.Judging.{judged, bookIn}
@@ -28,6 +29,14 @@ use Rattle.tidying.proofs.Saying.{Pairs, pairs-map, Says}
 use Rattle.tidying.proofs.Values.{now-same, values-same}
 use Rattle.tidying.proofs.Answers.{early-same, settled-same}
 use Rattle.tidying.proofs.Totals.{wide, crowded-same, most-same}
+
+-- the first of a call's snapshots, made after a history
+first-played : (b : Rows) (old : State) (n : Snap) (ns : List Snap) (h : History) → play b old (run b h) (n ∷ ns)
+    ≡ elim (crowded (run b (n ∷ h))) as (λ x. Outcome) [ true ↦ record { number = NO-ROOM; state = old } | false ↦ play b old (run b (n ∷ h)) ns ]
+unfolding play runBy
+first-played b old n ns h =
+    ap (λ (st : State). elim (crowded st) as (λ x. Outcome) [ true ↦ record { number = NO-ROOM; state = old } | false ↦ play b old st ns ])
+    (step-ordinary b (run b h) n (way-run b h))
 
 module _ (a a′ : Sections) (ok : judged a ≡ 0) (ok′ : judged a′ ≡ 0) (s : Step) (fit : fits (bookIn a .rows) s ≡ true)
     (good-row : (r : ℕ) → r < length (bookIn a .rows) → HeadGood (headIn (rowAt (bookIn a .rows) r)) (length (partsAt (bookIn a .rows) r)))
@@ -50,14 +59,16 @@ module _ (a a′ : Sections) (ok : judged a ≡ 0) (ok′ : judged a′ ≡ 0) (
   abbrev ps′ : List ℕ
   ps′ = a′ .assumes ++ a′ .guarantees
 
-  width : widthOf b ≡ widthOf b′
+  pub width : widthOf b ≡ widthOf b′
   width = wide a a′ ok ok′ s fit good-row pairs
 
   -- ---- one call, after the same history
   play-same : (old old′ : State) (ns : List Snap) (h : History) → play b old (run b h) ns .number ≡ play b′ old′ (run b′ h) ns .number
-  unfolding play runBy
+  unfolding play
   play-same old old′ [] h = refl
-  play-same old old′ (n ∷ ns) h = by-test (crowded (run b (n ∷ h))) (crowded (run b′ (n ∷ h))) (crowded-same a a′ ok ok′ s fit good-row pairs (n ∷ h)) (play-same old old′ ns (n ∷ h))
+  play-same old old′ (n ∷ ns) h = ap (λ (o : Outcome). o .number) (first-played b old n ns h)
+      ∙ by-test (crowded (run b (n ∷ h))) (crowded (run b′ (n ∷ h))) (crowded-same a a′ ok ok′ s fit good-row pairs (n ∷ h)) (play-same old old′ ns (n ∷ h))
+      ∙ sym (ap (λ (o : Outcome). o .number) (first-played b′ old′ n ns h))
     where
       at : (z : Bool) → play b old (run b (n ∷ h)) ns .number ≡ play b′ old′ (run b′ (n ∷ h)) ns .number
           → (elim z as (λ x. Outcome) [ true ↦ record { number = NO-ROOM; state = old } | false ↦ play b old (run b (n ∷ h)) ns ]) .number
@@ -73,7 +84,7 @@ module _ (a a′ : Sections) (ok : judged a ≡ 0) (ok′ : judged a′ ≡ 0) (
   state-same : (bytes : List ℕ) → stateRefusal b bytes ≡ stateRefusal b′ bytes
   state-same bytes = ap (λ (m : ℕ). cond (ltb MOST-ATOMS (length bytes)) PAST-LIMIT (cond (ltb (length bytes) m) TOO-NARROW (cond (ltb m (length bytes)) TOO-WIDE (cond (some (ltb 1) bytes) NOT-A-BIT ACCEPTED)))) width
 
-  refusal-same : (n : Snap) (k : Call) → refusal b n k ≡ refusal b′ n k
+  pub refusal-same : (n : Snap) (k : Call) → refusal b n k ≡ refusal b′ n k
   unfolding refusal
   refusal-same n (time t) = refl
   refusal-same n (state bytes) = state-same bytes

@@ -7,9 +7,9 @@ use Rattle.numset.specs.Runs.{has, covers, kept, insert, union}
 use Rattle.pmtl.specs.Answer.{digitOf}
 use Rattle.pmtl.specs.Book.{stop, properties, widthOf, table, answer, every, some}
 use Rattle.pmtl.specs.Sets.{gone, staysIf, addedIf, renewed, setRuleBy}
-use Rattle.pmtl.specs.Monitor.{initial, valueRule, value, stepBy}
+use Rattle.pmtl.specs.Monitor.{initialIn, valueRule, value, stepBy}
 use Rattle.pmtl.specs.Early.{earlyRule, early}
-use Rattle.pmtl.specs.Calls.{Call, state, refusal, crowded, play, call, after}
+use Rattle.pmtl.specs.Calls.{Call, state, refusal, crowded, play, call, afterIn, after}
 use Rattle.book.specs.Rows.{rowFrom, countOf}
 use Rattle.lists.specs.Lists.{listed}
 use Rattle.book.specs.Reading.{section, next, sections}
@@ -81,7 +81,7 @@ abbrev pub earlyDigits : List ℕ → List Call → List ℕ
 earlyDigits ws calls = let b = loaded ws .book in map (λ r. digitOf (early (b .rows) (after (b .rows) calls) r)) (properties b)
 
 unfoldable pub earlyOf : List ℕ → List Call → List ℕ
-unfolding has covers insert union stop widthOf table answer every some kept gone staysIf addedIf renewed setRuleBy initial valueRule value stepBy earlyRule early refusal crowded play call after rowFrom countOf listed section next sections temporalsIn startIn firstTo allTo argGood formGood rangeGood rowNumber operandsGood linksGood timesIn usedOnce judged rowIn bookIn loadedFrom whole loaded
+unfolding has covers insert union stop widthOf table answer every some kept gone staysIf addedIf renewed setRuleBy initialIn valueRule value stepBy earlyRule early refusal crowded play call afterIn rowFrom countOf listed section next sections temporalsIn startIn firstTo allTo argGood formGood rangeGood rowNumber operandsGood linksGood timesIn usedOnce judged rowIn bookIn loadedFrom whole loaded
 earlyOf ws calls = earlyDigits ws calls
 
 pub early-opened : (ws : List ℕ) (calls : List Call) → earlyDigits ws calls ≡ earlyOf ws calls

@@ -4,7 +4,9 @@ pub mod Saying
 pub mod Values
 pub mod Answers
 pub mod Totals
+pub mod Flatly
 pub mod Calls
+pub mod Lasting
 pub mod Weighed
 pub mod Accepted
 pub mod Strictly

@@ -16,7 +16,7 @@ use Rattle.pmtl.specs.Answer.{bitOf}
 use Rattle.pmtl.specs.Book.{Range, Row, mapRow, Rows, rowAt, Ordered, atomWidth, widthOf, answer, some}
 use Rattle.pmtl.specs.Book.Row.{never, always, atom, conj, disj, neg, implies, historically, once, since}
 use Rattle.pmtl.specs.Sets.{setRuleBy, setRule}
-use Rattle.pmtl.specs.Monitor.{fullest, initial, value}
+use Rattle.pmtl.specs.Monitor.{fullest, initialIn, value}
 use Rattle.pmtl.specs.Calls.{crowded, History}
 use Rattle.pmtl.specs.Past.{runBy, run}
 use Rattle.pmtl.proofs.Table.{answer-in}
@@ -57,7 +57,7 @@ bit-or true n = sym (lt-ltb 0 (1 + n) (omega arith))
 bit-or false n = let e : 0 + n ≡ n = omega arith in ap (ltb 0) (sym e)
 
 -- a test passes somewhere in a list
-some-sum : {A : Type 0} (p : A → Bool) (d : A) (xs : List A) → some p xs ≡ ltb 0 (sumTo (λ r. bitOf (p (getD xs r d))) (length xs))
+pub some-sum : {A : Type 0} (p : A → Bool) (d : A) (xs : List A) → some p xs ≡ ltb 0 (sumTo (λ r. bitOf (p (getD xs r d))) (length xs))
 unfolding some sumTo
 some-sum p d [] = refl
 some-sum p d (x ∷ xs) = ap (λ (z : Bool). p x || z) (some-sum p d xs) ∙ bit-or (p x) (sumTo (λ r. bitOf (p (getD xs r d))) (length xs)) ∙ ap (ltb 0) (sym (sum-shift (λ r. bitOf (p (getD (x ∷ xs) r d))) (length xs)))
@@ -104,15 +104,15 @@ module _ (a a′ : Sections) (ok : judged a ≡ 0) (ok′ : judged a′ ≡ 0) (
   Say = Says b w s fit good-row b′ w′
 
   -- rows that are the same weigh the same, and so does a Once what its Historically did; And, Or, Not and Implies weigh nothing
-  record Owns (own own′ : ℕ → ℕ) : Type 0 where
-    on-same : {r r′ : ℕ} (row row′ : Row ℕ) → In b r row → In b′ r′ row′ → headIn row ≡ headIn row′ → Pairs Say (partsIn row) (partsIn row′) → own r ≡ own′ r′
-    on-not : {r o : ℕ} → In b r (neg o) → own r ≡ 0
-    on-and : {r : ℕ} {os : List ℕ} → In b r (conj os) → own r ≡ 0
-    on-or : {r : ℕ} {os : List ℕ} → In b r (disj os) → own r ≡ 0
-    on-implies : {r x y : ℕ} → In b r (implies x y) → own r ≡ 0
-    on-not′ : {r o : ℕ} → In b′ r (neg o) → own′ r ≡ 0
-    on-or′ : {r : ℕ} {os : List ℕ} → In b′ r (disj os) → own′ r ≡ 0
-    on-history : {g : Range} {r x n m x′ : ℕ} → In b r (historically g x) → In b′ n (once g m) → In b′ m (neg x′) → Say x x′ → own r ≡ own′ n
+  pub record Owns (own own′ : ℕ → ℕ) : Type 0 where
+    pub on-same : {r r′ : ℕ} (row row′ : Row ℕ) → In b r row → In b′ r′ row′ → headIn row ≡ headIn row′ → Pairs Say (partsIn row) (partsIn row′) → own r ≡ own′ r′
+    pub on-not : {r o : ℕ} → In b r (neg o) → own r ≡ 0
+    pub on-and : {r : ℕ} {os : List ℕ} → In b r (conj os) → own r ≡ 0
+    pub on-or : {r : ℕ} {os : List ℕ} → In b r (disj os) → own r ≡ 0
+    pub on-implies : {r x y : ℕ} → In b r (implies x y) → own r ≡ 0
+    pub on-not′ : {r o : ℕ} → In b′ r (neg o) → own′ r ≡ 0
+    pub on-or′ : {r : ℕ} {os : List ℕ} → In b′ r (disj os) → own′ r ≡ 0
+    pub on-history : {g : Range} {r x n m x′ : ℕ} → In b r (historically g x) → In b′ n (once g m) → In b′ m (neg x′) → Say x x′ → own r ≡ own′ n
 
   module _ (own own′ : ℕ → ℕ) (o : Owns own own′) where
     abbrev f : ℕ → ℕ
@@ -142,7 +142,7 @@ module _ (a a′ : Sections) (ok : judged a ≡ 0) (ok′ : judged a′ ≡ 0) (
     each′ : (r : ℕ) → r < rowsIn a′ → f′ r ≡ own′ r + sumOver f′ (operandsAt a′ ok′ r)
     each′ r h = whole-in b′ w′ own′ (record { there = omega (arith, rows-there a′ ok′); is = refl }) ∙ ap (λ (z : List ℕ). own′ r + sumOver f′ z) (parts-are a′ ok′ r h)
 
-    totals : Pairs Say (a .assumes ++ a .guarantees) (a′ .assumes ++ a′ .guarantees) → sumTo own (length b) ≡ sumTo own′ (length b′)
+    pub totals : Pairs Say (a .assumes ++ a .guarantees) (a′ .assumes ++ a′ .guarantees) → sumTo own (length b) ≡ sumTo own′ (length b′)
     totals p =
         let e = sums-same (a .assumes ++ a .guarantees) (a′ .assumes ++ a′ .guarantees) (said-all b w s fit good-row b′ w′ (λ r r′. f r ≡ f′ r′) whole-laws (a .assumes ++ a .guarantees) (a′ .assumes ++ a′ .guarantees) p) in
         rw (rows-there a ok, rows-there a′ ok′)
@@ -221,7 +221,7 @@ module _ (a a′ : Sections) (ok : judged a ≡ 0) (ok′ : judged a′ ≡ 0) (
     set-empty x v {r} i e (n ∷ h) = ap length (set-in x v n h i ∙ e (n .clock) (setOf x v h r) (value x (run x (n ∷ h))))
 
     sets-long : (x : Rows) (h : History) → length (run x h .sets) ≡ length x
-    unfolding runBy initial
+    unfolding runBy initialIn
     sets-long x [] = length-replicate (length x) []
     sets-long x (n ∷ h) = step-sets x (run x h) n
 

@@ -7,7 +7,7 @@ use lib.ListN.{length, replicate}
 use Rattle.numset.specs.Runs.{Runs, has}
 use Rattle.pmtl.specs.Book.{Range, Row, mapRow, Rows, rowAt, Ordered, widthOf, every, some}
 use Rattle.pmtl.specs.Book.Row.{neg, historically, once}
-use Rattle.pmtl.specs.Sets.{renewed, setRuleBy, setRule}
+use Rattle.pmtl.specs.Sets.{renewed, ordinary, setRuleBy, setRule}
 use Rattle.pmtl.specs.Monitor.{Snap, setAt, value, valueRule}
 use Rattle.pmtl.specs.Calls.{History, nowOf}
 use Rattle.pmtl.specs.Past.{runBy, run}
@@ -36,7 +36,7 @@ module _ (b : Rows) (w : Ordered b) where
 
   pub set-none : (r : ℕ) → setOf [] r ≡ []
   unfolding runBy
-  set-none r = initial-set b r
+  set-none r = initial-set ordinary b r
 
   pub set-in : (s : Snap) (h : History) {r : ℕ} {row : Row ℕ} → In b r row
       → setOf (s ∷ h) r ≡ setRule (s .clock) (setOf h r) (mapRow (vals (s ∷ h)) row)

@@ -7,10 +7,11 @@ use lib.ListN.{length}
 use lib.Dec.{eqb}
 use Rattle.numbers.specs.Refusals.{ACCEPTED, PAST-LIMIT, DOES-NOT-FIT}
 use Rattle.pmtl.specs.Book.{Rows, Book, properties}
+use Rattle.pmtl.specs.Sets.{Way}
 use Rattle.pmtl.specs.Monitor.{fullest, value}
 use Rattle.pmtl.specs.Early.{early}
 use Rattle.pmtl.specs.Settled.{settled}
-use Rattle.pmtl.specs.Calls.{Call, call, after}
+use Rattle.pmtl.specs.Calls.{Call, call, afterIn}
 use Rattle.book.specs.Judging.{loaded}
 use Rattle.tidying.specs.declared.Form.{Form}
 use Rattle.tidying.specs.declared.Form.the-variants.{Nots, Single, Implication, History, Unknown}
@@ -49,21 +50,21 @@ stepsOf (f ∷ r ∷ ws) = record { form = formOf f; row = r } ∷ stepsOf ws
 abbrev pub answersOf : {A : Type 0} → (Rows → List Call → ℕ → A) → Book → List Call → List A
 answersOf f b calls = map (f (b .rows) calls) (properties b)
 
--- two books on every list of calls, the newest first, refused ones among them
-pub record Same (b b′ : Book) : Type 0 where
+-- two books in a way of monitoring, on every list of calls, the newest first, refused ones among them
+pub record Same (way : Way) (b b′ : Book) : Type 0 where
   -- each call has the same number
-  pub refusals : (calls : List Call) (k : Call) → call (b .rows) (after (b .rows) calls) k .number ≡ call (b′ .rows) (after (b′ .rows) calls) k .number
+  pub refusals : (calls : List Call) (k : Call) → call (b .rows) (afterIn way (b .rows) calls) k .number ≡ call (b′ .rows) (afterIn way (b′ .rows) calls) k .number
   -- the fullest sets have as many runs
-  pub counts : (calls : List Call) → fullest (after (b .rows) calls) ≡ fullest (after (b′ .rows) calls)
+  pub counts : (calls : List Call) → fullest (afterIn way (b .rows) calls) ≡ fullest (afterIn way (b′ .rows) calls)
   -- each property the same value and the same settled answer
-  pub values : (calls : List Call) → answersOf (λ b ks. value b (after b ks)) b calls ≡ answersOf (λ b ks. value b (after b ks)) b′ calls
-  pub settleds : (calls : List Call) → answersOf (λ b ks. settled b (after b ks)) b calls ≡ answersOf (λ b ks. settled b (after b ks)) b′ calls
+  pub values : (calls : List Call) → answersOf (λ b ks. value b (afterIn way b ks)) b calls ≡ answersOf (λ b ks. value b (afterIn way b ks)) b′ calls
+  pub settleds : (calls : List Call) → answersOf (λ b ks. settled b (afterIn way b ks)) b calls ≡ answersOf (λ b ks. settled b (afterIn way b ks)) b′ calls
   -- and as many of them are assumes
   pub assumed : length (b .assumes) ≡ length (b′ .assumes)
 
 -- and the same early answers
-abbrev pub SameEarly : Book → Book → Type 0
-SameEarly b b′ = (calls : List Call) → answersOf (λ b ks. early b (after b ks)) b calls ≡ answersOf (λ b ks. early b (after b ks)) b′ calls
+abbrev pub SameEarly : Way → Book → Book → Type 0
+SameEarly way b b′ = (calls : List Call) → answersOf (λ b ks. early b (afterIn way b ks)) b calls ≡ answersOf (λ b ks. early b (afterIn way b ks)) b′ calls
 
 -- no step goes from Implies to Or
 abbrev pub keepsEarly : Form → Bool

@@ -1,7 +1,8 @@
 -- `calls::advance` meets its contract: the sets have room and are changed, or all is as it was. Assumes nothing.
 use Rattle.calls.specs.Private.{atomsFor}
 use Rattle.calls.proofs.Advances.{planned-as, planned-from, planned-sound, fitting, tried-room, tried-full}
-use Rattle.calls.proofs.Ahead.{ahead-none, zeros-at}
+use Rattle.calls.proofs.Ahead.{ahead-none, unplanned}
+use Rattle.numbers.specs.Limits.{MOST-TEMPORALS}
 use borrow.Author.Needs.{needs}
 use Rattle.calls.proofs.advance.Statement.{statement}
 use Rattle.calls.proofs.advance.Tie as tie
@@ -10,7 +11,7 @@ slice-aggregate-plan-call : tie.Need-slice-aggregate-plan-call
 slice-aggregate-plan-call c = search needs
 
 plan-call-requires : tie.Need-plan-call-requires
-plan-call-requires c κs = let s = (c .before .before .before) in ((s .pre .0 .0 .sound, s .pre .0 .1, λ z. s .pre .0 .0), (search needs, s .pre .1))
+plan-call-requires c κs = let s = (c .before .before .before) in ((s .pre .0 .0 .sound, s .pre .0 .1, λ z. (s .pre .0 .0, unplanned (s .args .monitor .now) MOST-TEMPORALS)), (search needs, λ z. s .pre .1 z .0))
 
 commit-requires : tie.Need-commit-requires
 commit-requires c κs = let s = (c .before .before .before .before .before .before .before .before) in fitting (s .pre .0 .0 .sound) (s .pre .0 .1) (planned-as ((c .before .before) .if1 .taken) ((c .before .before .before .before) .plan-call .ensures))
@@ -19,13 +20,13 @@ put-clock-requires : tie.Need-put-clock-requires
 put-clock-requires c κs = (c .before) .commit .ensures .long
 
 returns : tie.Need-returns
-returns c = let s = (c .before .before .before .before .before .before .before .before .before .before .before) in tried-room (s .pre .0 .0 .sound) (s .pre .0 .1) (planned-from (ahead-none (s .pre .0 .0 .sound) (s .pre .0 .1) _ (λ j h. zeros-at 32 j) (atomsFor (s .args .monitor .now) (s .args .fresh) (s .args .atoms .now))) (planned-as ((c .before .before .before .before .before) .if1 .taken) ((c .before .before .before .before .before .before .before) .plan-call .ensures))) ((c .before .before) .commit .ensures) (c .put-clock .ensures)
+returns c = let s = (c .before .before .before .before .before .before .before .before .before .before .before) in tried-room (s .pre .0 .0 .sound) (s .pre .0 .1) (planned-from (ahead-none (s .pre .0 .0 .sound) (s .pre .0 .1) (s .args .fresh) (λ z. s .pre .1 z .1) _ (unplanned (s .args .monitor .now) MOST-TEMPORALS) (atomsFor (s .args .monitor .now) (s .args .fresh) (s .args .atoms .now))) (planned-as ((c .before .before .before .before .before) .if1 .taken) ((c .before .before .before .before .before .before .before) .plan-call .ensures))) ((c .before .before) .commit .ensures) (c .put-clock .ensures)
 
 fill-values-requires : tie.Need-fill-values-requires
 fill-values-requires c κs = planned-sound ((c .before .before .before .before .before .before .before) .pre .0 .0 .sound) ((c .before .before .before) .plan-call .ensures)
 
 returns-2 : tie.Need-returns-2
-returns-2 c = let s = (c .before .before .before .before .before .before .before .before) in tried-full (s .pre .0 .0) (planned-from (ahead-none (s .pre .0 .0 .sound) (s .pre .0 .1) _ (λ j h. zeros-at 32 j) (atomsFor (s .args .monitor .now) (s .args .fresh) (s .args .atoms .now))) (planned-as ((c .before .before) .if1 .left) ((c .before .before .before .before) .plan-call .ensures))) (c .fill-values .ensures)
+returns-2 c = let s = (c .before .before .before .before .before .before .before .before) in tried-full (s .pre .0 .0) (planned-from (ahead-none (s .pre .0 .0 .sound) (s .pre .0 .1) (s .args .fresh) (λ z. s .pre .1 z .1) _ (unplanned (s .args .monitor .now) MOST-TEMPORALS) (atomsFor (s .args .monitor .now) (s .args .fresh) (s .args .atoms .now))) (planned-as ((c .before .before) .if1 .left) ((c .before .before .before .before) .plan-call .ensures))) (c .fill-values .ensures)
 
 pub advance-spec : {M : Type 1} → statement M
 advance-spec =

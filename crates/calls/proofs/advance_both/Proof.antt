@@ -1,9 +1,10 @@
 -- `calls::advance_both` meets its contract: both steps have room and the sets are changed once, or all is as it was. Assumes nothing.
 use mathlib.Core.Path.{sym}
-use mathlib.Core.Bool.{true≢false}
+use mathlib.Core.Bool.{false, true≢false}
 use Rattle.memory.specs.Memory.{atomsOf}
 use Rattle.calls.proofs.Advances.{planned-as, planned-from, planned-sound, fitting, first-sound, first-width, second-from, both-room, both-full, first-full}
-use Rattle.calls.proofs.Ahead.{ahead-none, zeros-at}
+use Rattle.calls.proofs.Ahead.{ahead-none, unplanned}
+use Rattle.numbers.specs.Limits.{MOST-TEMPORALS}
 use borrow.Author.Needs.{needs}
 use Rattle.calls.proofs.advance_both.Statement.{statement}
 use Rattle.calls.proofs.advance_both.Tie as tie
@@ -15,34 +16,34 @@ slice-aggregate-plan-call-2 : tie.Need-slice-aggregate-plan-call-2
 slice-aggregate-plan-call-2 c = search needs
 
 plan-call-requires : tie.Need-plan-call-requires
-plan-call-requires c κs = let s = (c .before .before .before .before) in ((s .pre .0 .sound, s .pre .1, λ z. s .pre .0), (search needs, λ z. absurd (true≢false (sym z))))
+plan-call-requires c κs = let s = (c .before .before .before .before) in ((s .pre .0 .sound, s .pre .1, λ z. (s .pre .0, unplanned (s .args .monitor .now) MOST-TEMPORALS)), (search needs, λ z. absurd (true≢false (sym z))))
 
 slice-aggregate-plan-call-3 : tie.Need-slice-aggregate-plan-call-3
 slice-aggregate-plan-call-3 c = search needs
 
 plan-call-requires-2 : tie.Need-plan-call-requires-2
-plan-call-requires-2 c κs = let s = (c .before .before .before .before .before .before .before .before .before) in let first = planned-from (ahead-none ((c .before .before .before .before .before .before .before .before .before) .pre .0 .sound) ((c .before .before .before .before .before .before .before .before .before) .pre .1) _ (λ j h. zeros-at 32 j) (atomsOf (s .args .monitor .now))) (planned-as ((c .before .before) .if1 .taken) ((c .before .before .before .before) .plan-call .ensures)) in ((first-sound (s .pre .0) (s .pre .1) first, s .pre .1, λ z. absurd (true≢false z)), (search needs, λ z. first-width (s .pre .0) (s .pre .1) first (s .args .state .now) (s .pre .2)))
+plan-call-requires-2 c κs = let s = (c .before .before .before .before .before .before .before .before .before) in let first = planned-from (ahead-none (s .pre .0 .sound) (s .pre .1) false (λ z. absurd (true≢false (sym z))) _ (unplanned (s .args .monitor .now) MOST-TEMPORALS) (atomsOf (s .args .monitor .now))) (planned-as ((c .before .before) .if1 .taken) ((c .before .before .before .before) .plan-call .ensures)) in ((first-sound (s .pre .0) (s .pre .1) first, s .pre .1, λ z. absurd (true≢false z)), (search needs, λ z. first-width (s .pre .0) (s .pre .1) first (s .args .state .now) (s .pre .2)))
 
 commit-requires : tie.Need-commit-requires
-commit-requires c κs = let s = (c .before .before .before .before .before .before .before .before .before .before .before .before .before .before) in let first = planned-from (ahead-none ((c .before .before .before .before .before .before .before .before .before .before .before .before .before .before) .pre .0 .sound) ((c .before .before .before .before .before .before .before .before .before .before .before .before .before .before) .pre .1) _ (λ j h. zeros-at 32 j) (atomsOf (s .args .monitor .now))) (planned-as ((c .before .before .before .before .before .before .before) .if1 .taken) ((c .before .before .before .before .before .before .before .before .before) .plan-call .ensures)) in fitting (first-sound (s .pre .0) (s .pre .1) first) (s .pre .1) (second-from (s .pre .0) (s .pre .1) first (planned-as ((c .before .before) .if2 .taken) ((c .before .before .before .before) .plan-call2 .ensures)))
+commit-requires c κs = let s = (c .before .before .before .before .before .before .before .before .before .before .before .before .before .before) in let first = planned-from (ahead-none (s .pre .0 .sound) (s .pre .1) false (λ z. absurd (true≢false (sym z))) _ (unplanned (s .args .monitor .now) MOST-TEMPORALS) (atomsOf (s .args .monitor .now))) (planned-as ((c .before .before .before .before .before .before .before) .if1 .taken) ((c .before .before .before .before .before .before .before .before .before) .plan-call .ensures)) in fitting (first-sound (s .pre .0) (s .pre .1) first) (s .pre .1) (second-from (s .pre .0) (s .pre .1) first (planned-as ((c .before .before) .if2 .taken) ((c .before .before .before .before) .plan-call2 .ensures)))
 
 put-clock-requires : tie.Need-put-clock-requires
 put-clock-requires c κs = (c .before) .commit .ensures .long
 
 returns : tie.Need-returns
-returns c = let s = (c .before .before .before .before .before .before .before .before .before .before .before .before .before .before .before .before .before) in let first = planned-from (ahead-none ((c .before .before .before .before .before .before .before .before .before .before .before .before .before .before .before .before .before) .pre .0 .sound) ((c .before .before .before .before .before .before .before .before .before .before .before .before .before .before .before .before .before) .pre .1) _ (λ j h. zeros-at 32 j) (atomsOf (s .args .monitor .now))) (planned-as ((c .before .before .before .before .before .before .before .before .before .before) .if1 .taken) ((c .before .before .before .before .before .before .before .before .before .before .before .before) .plan-call .ensures)) in both-room (s .pre .0) (s .pre .1) first (second-from (s .pre .0) (s .pre .1) first (planned-as ((c .before .before .before .before .before) .if2 .taken) ((c .before .before .before .before .before .before .before) .plan-call2 .ensures))) ((c .before .before) .commit .ensures) (c .put-clock .ensures)
+returns c = let s = (c .before .before .before .before .before .before .before .before .before .before .before .before .before .before .before .before .before) in let first = planned-from (ahead-none (s .pre .0 .sound) (s .pre .1) false (λ z. absurd (true≢false (sym z))) _ (unplanned (s .args .monitor .now) MOST-TEMPORALS) (atomsOf (s .args .monitor .now))) (planned-as ((c .before .before .before .before .before .before .before .before .before .before) .if1 .taken) ((c .before .before .before .before .before .before .before .before .before .before .before .before) .plan-call .ensures)) in both-room (s .pre .0) (s .pre .1) first (second-from (s .pre .0) (s .pre .1) first (planned-as ((c .before .before .before .before .before) .if2 .taken) ((c .before .before .before .before .before .before .before) .plan-call2 .ensures))) ((c .before .before) .commit .ensures) (c .put-clock .ensures)
 
 fill-values-requires : tie.Need-fill-values-requires
-fill-values-requires c κs = let s = (c .before .before .before .before .before .before .before .before .before .before .before .before .before) in let first = planned-from (ahead-none ((c .before .before .before .before .before .before .before .before .before .before .before .before .before) .pre .0 .sound) ((c .before .before .before .before .before .before .before .before .before .before .before .before .before) .pre .1) _ (λ j h. zeros-at 32 j) (atomsOf (s .args .monitor .now))) (planned-as ((c .before .before .before .before .before .before) .if1 .taken) ((c .before .before .before .before .before .before .before .before) .plan-call .ensures)) in planned-sound (first-sound (s .pre .0) (s .pre .1) first) ((c .before .before .before) .plan-call2 .ensures)
+fill-values-requires c κs = let s = (c .before .before .before .before .before .before .before .before .before .before .before .before .before) in let first = planned-from (ahead-none (s .pre .0 .sound) (s .pre .1) false (λ z. absurd (true≢false (sym z))) _ (unplanned (s .args .monitor .now) MOST-TEMPORALS) (atomsOf (s .args .monitor .now))) (planned-as ((c .before .before .before .before .before .before) .if1 .taken) ((c .before .before .before .before .before .before .before .before) .plan-call .ensures)) in planned-sound (first-sound (s .pre .0) (s .pre .1) first) ((c .before .before .before) .plan-call2 .ensures)
 
 returns-2 : tie.Need-returns-2
-returns-2 c = let s = (c .before .before .before .before .before .before .before .before .before .before .before .before .before .before) in let first = planned-from (ahead-none ((c .before .before .before .before .before .before .before .before .before .before .before .before .before .before) .pre .0 .sound) ((c .before .before .before .before .before .before .before .before .before .before .before .before .before .before) .pre .1) _ (λ j h. zeros-at 32 j) (atomsOf (s .args .monitor .now))) (planned-as ((c .before .before .before .before .before .before .before) .if1 .taken) ((c .before .before .before .before .before .before .before .before .before) .plan-call .ensures)) in both-full (s .pre .0) (s .pre .1) first (second-from (s .pre .0) (s .pre .1) first (planned-as ((c .before .before) .if2 .left) ((c .before .before .before .before) .plan-call2 .ensures))) (c .fill-values .ensures)
+returns-2 c = let s = (c .before .before .before .before .before .before .before .before .before .before .before .before .before .before) in let first = planned-from (ahead-none (s .pre .0 .sound) (s .pre .1) false (λ z. absurd (true≢false (sym z))) _ (unplanned (s .args .monitor .now) MOST-TEMPORALS) (atomsOf (s .args .monitor .now))) (planned-as ((c .before .before .before .before .before .before .before) .if1 .taken) ((c .before .before .before .before .before .before .before .before .before) .plan-call .ensures)) in both-full (s .pre .0) (s .pre .1) first (second-from (s .pre .0) (s .pre .1) first (planned-as ((c .before .before) .if2 .left) ((c .before .before .before .before) .plan-call2 .ensures))) (c .fill-values .ensures)
 
 fill-values-requires-2 : tie.Need-fill-values-requires-2
 fill-values-requires-2 c κs = let s = (c .before .before .before .before .before .before .before .before) in planned-sound (s .pre .0 .sound) ((c .before .before .before) .plan-call .ensures)
 
 returns-3 : tie.Need-returns-3
-returns-3 c = let s = (c .before .before .before .before .before .before .before .before .before) in first-full (s .pre .0) (planned-from (ahead-none ((c .before .before .before .before .before .before .before .before .before) .pre .0 .sound) ((c .before .before .before .before .before .before .before .before .before) .pre .1) _ (λ j h. zeros-at 32 j) (atomsOf (s .args .monitor .now))) (planned-as ((c .before .before) .if1 .left) ((c .before .before .before .before) .plan-call .ensures))) (c .fill-values2 .ensures) _
+returns-3 c = let s = (c .before .before .before .before .before .before .before .before .before) in first-full (s .pre .0) (planned-from (ahead-none (s .pre .0 .sound) (s .pre .1) false (λ z. absurd (true≢false (sym z))) _ (unplanned (s .args .monitor .now) MOST-TEMPORALS) (atomsOf (s .args .monitor .now))) (planned-as ((c .before .before) .if1 .left) ((c .before .before .before .before) .plan-call .ensures))) (c .fill-values2 .ensures) _
 
 pub advance-both-spec : {M : Type 1} → statement M
 advance-both-spec =

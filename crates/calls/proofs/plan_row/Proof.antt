@@ -2,15 +2,16 @@
 use Rattle.calls.proofs.Plans.{slot-small, slot-row, slot-kind, slot-bounded, slot-good, slot-long, plan-made, plan-stays}
 use mathlib.Core.Path.{ap, _∙_}
 use borrow.Author.Needs.{needs}
-use Rattle.set_change.specs.Change.{bothOf}
+use Prim.Native.Nat.{ℕ}
+use Rattle.set_change.specs.Change.{spannedIf, bothOf}
 use Rattle.calls.proofs.plan_row.Statement.{statement}
 use Rattle.calls.proofs.plan_row.Tie as tie
 
 mode-of-requires : tie.Need-mode-of-requires
 mode-of-requires c κs = let p = c .pre in (p .timely .sound .book, (slot-row p, slot-kind p))
 
-both-requires : tie.Need-both-requires
-both-requires c κs = search needs
+next-requires : tie.Need-next-requires
+next-requires c κs = search needs
 
 set-at-requires : tie.Need-set-at-requires
 set-at-requires c κs = slot-small ((c .before .before) .pre)
@@ -19,7 +20,7 @@ contains-from-oldest-requires : tie.Need-contains-from-oldest-requires
 contains-from-oldest-requires c κs = slot-good ((c .before .before .before .before) .pre) ((c .before) .set-at .ensures)
 
 returns : tie.Need-returns
-returns c = let s = (c .before .before .before .before .before) in plan-stays (s .pre) ((c .before .before) .set-at .ensures) ((c .before) .if1 .taken) (c .contains-from-oldest .ensures) ((c .before .before .before) .both .ensures ∙ ap (bothOf (s .args .before)) ((c .before .before .before .before) .mode-of .ensures))
+returns c = let s = (c .before .before .before .before .before) in plan-stays (s .pre) ((c .before .before) .set-at .ensures) ((c .before) .if1 .taken) (c .contains-from-oldest .ensures) ((c .before .before .before) .next .ensures ∙ ap (λ (k : ℕ). spannedIf (s .args .spans) (bothOf (s .args .before) k)) ((c .before .before .before .before) .mode-of .ensures))
 
 start-of-requires : tie.Need-start-of-requires
 start-of-requires c κs = slot-bounded ((c .before .before .before .before) .pre)
@@ -34,14 +35,14 @@ will-have-requires : tie.Need-will-have-requires
 will-have-requires c κs = slot-good ((c .before .before .before .before .before .before .before) .pre) ((c .before .before .before .before) .set-at .ensures)
 
 returns-2 : tie.Need-returns-2
-returns-2 c = let s = (c .before .before .before .before .before .before .before .before) in plan-made (s .pre) ((c .before .before .before .before .before) .set-at .ensures) ((c .before .before .before) .start-of .ensures) ((c .before .before) .stop-of .ensures) ((c .before) .room-for .ensures) (c .will-have .ensures) ((c .before .before .before .before .before .before) .both .ensures ∙ ap (bothOf (s .args .before)) ((c .before .before .before .before .before .before .before) .mode-of .ensures))
+returns-2 c = let s = (c .before .before .before .before .before .before .before .before) in plan-made (s .pre) ((c .before .before .before .before .before) .set-at .ensures) ((c .before .before .before) .start-of .ensures) ((c .before .before) .stop-of .ensures) ((c .before) .room-for .ensures) (c .will-have .ensures) ((c .before .before .before .before .before .before) .next .ensures ∙ ap (λ (k : ℕ). spannedIf (s .args .spans) (bothOf (s .args .before) k)) ((c .before .before .before .before .before .before .before) .mode-of .ensures))
 
 pub plan-row-spec : {M : Type 1} → statement M
 plan-row-spec =
     tie.close
     (tie.spec
     mode-of-requires
-    both-requires
+    next-requires
     set-at-requires
     contains-from-oldest-requires
     returns

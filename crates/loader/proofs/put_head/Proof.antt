@@ -20,11 +20,17 @@ slice-write-monitor-4 c = search needs
 slice-write-monitor-5 : tie.Need-slice-write-monitor-5
 slice-write-monitor-5 c = simp length-set (omega arith)
 
+way-word-requires : tie.Need-way-word-requires
+way-word-requires c κs = search needs
+
+slice-write-monitor-6 : tie.Need-slice-write-monitor-6
+slice-write-monitor-6 c = simp length-set (omega arith)
+
 same-length : tie.Need-same-length
 same-length c = search needs
 
 returns : tie.Need-returns
-returns c = search needs
+returns c = rw (c .way-word .ensures)
 
 pub put-head-spec : {M : Type 1} → statement M
 put-head-spec =
@@ -35,5 +41,7 @@ put-head-spec =
     slice-write-monitor-3
     slice-write-monitor-4
     slice-write-monitor-5
+    way-word-requires
+    slice-write-monitor-6
     same-length
     returns)

@@ -1,6 +1,7 @@
 -- `loader::store` meets its contract. Assumes nothing.
 use Rattle.loader.proofs.Holds.{rowed, store-holds}
 use Rattle.book.specs.Placing.{sectionsOf}
+use Rattle.book.specs.Loading.{wayIn}
 use native.Mathlib.Omega.{arith}
 use borrow.Author.Needs.{needs}
 use Rattle.loader.proofs.store.Statement.{statement}
@@ -41,7 +42,7 @@ returns : tie.Need-returns
 returns c =
     let s = c .before .before .before .before .before .before .before .before .before .before .before .before .before .before .before .before .before .before .before .before .before .before .before .before .before .before .before .before .before in
     let n = c .before .before .before .before .before .before .put-rows .ensures in
-    store-holds (sectionsOf (s .args .given .now) (s .args .operands .now) (s .args .assumes .now) (s .args .guarantees .now)) (s .pre .0) (s .args .monitor .now) (s .pre .1) (c .before .before .before .before .before .before .before .before .before .before .before .before .before .before .before .before .before .before .before .before .before .before .clear .ensures) (c .before .before .before .before .before .before .before .before .before .before .before .before .before .before .before .before .before .before .copy .ensures) (c .before .before .before .before .before .before .before .before .before .before .before .before .before .before .copy2 .ensures) (c .before .before .before .before .before .before .before .before .before .before .copy3 .ensures) (n .2) (n .0) (n .1) (c .before .before .put-head .ensures)
+    store-holds (wayIn (s .args .way)) (sectionsOf (s .args .given .now) (s .args .operands .now) (s .args .assumes .now) (s .args .guarantees .now)) (s .pre .0) (s .args .monitor .now) (s .pre .1) (c .before .before .before .before .before .before .before .before .before .before .before .before .before .before .before .before .before .before .before .before .before .before .clear .ensures) (c .before .before .before .before .before .before .before .before .before .before .before .before .before .before .before .before .before .before .copy .ensures) (c .before .before .before .before .before .before .before .before .before .before .before .before .before .before .copy2 .ensures) (c .before .before .before .before .before .before .before .before .before .before .copy3 .ensures) (n .2) (n .0) (n .1) (c .before .before .put-head .ensures)
 
 pub store-spec : {M : Type 1} → statement M
 store-spec =

@@ -1,6 +1,8 @@
 -- `loader::store_parts` meets its contract. Assumes nothing.
 use mathlib.Core.Path.{sym, subst}
 use Rattle.book.specs.Reading.{Sections}
+use Rattle.book.specs.Judging.{bookIn}
+use Rattle.book.specs.Loading.{wayIn}
 use Rattle.book.proofs.Sections.{sections-are}
 use Rattle.loader.specs.Private.{Accepted, Holds}
 use borrow.Author.Needs.{needs}
@@ -33,7 +35,7 @@ same-length c = search needs
 
 returns : tie.Need-returns
 returns c =
-    subst (λ (x : Sections). Holds x (c .before .before .store .last .1 .1 .1 .1 .0))
+    subst (λ (x : Sections). Holds (wayIn (c .before .before .before .before .before .before .before .before .before .before .args .way)) (bookIn x) (c .before .before .store .last .1 .1 .1 .1 .1 .0))
     (sections-are (c .before .before .before .before .before .before .before .rows-part .ensures) (c .before .before .before .before .before .before .operands-part .ensures) (c .before .before .before .before .before .assumes-part .ensures) (c .before .before .before .before .guarantees-part .ensures))
     (c .before .before .store .ensures)
 

@@ -25,7 +25,7 @@ same-length : tie.Need-same-length
 same-length c = search needs
 
 returns : tie.Need-returns
-returns c = let e = c .before .before .before .before .before .enum-told .given .1 in no-count _ _ _ _ _ (sym (c .before .before .before .before .before .before .before .next-word .ensures) ∙ e) (c .before .before .before .number-of .ensures ∙ sym (number e)) (c .before .before .stopped .ensures)
+returns c = let e = c .before .before .before .before .before .enum-told .given .1 in no-count _ _ _ _ _ _ (sym (c .before .before .before .before .before .before .before .next-word .ensures) ∙ e) (c .before .before .before .number-of .ensures ∙ sym (number e)) (c .before .before .stopped .ensures)
 
 call-lines-requires : tie.Need-call-lines-requires
 call-lines-requires c κs = search needs
@@ -34,7 +34,7 @@ same-length-2 : tie.Need-same-length-2
 same-length-2 c = search needs
 
 returns-2 : tie.Need-returns-2
-returns-2 c = after-count _ _ _ _ _ (sym (c .before .before .before .before .before .before .before .before .next-word .ensures) ∙ c .before .before .before .before .before .before .r .given .1) (c .before .before .before .before .before .before .before .before .before .before .before .pre .1) (c .before .before .call-lines .ensures)
+returns-2 c = after-count _ _ _ _ _ _ (sym (c .before .before .before .before .before .before .before .before .next-word .ensures) ∙ c .before .before .before .before .before .before .r .given .1) (c .before .before .before .before .before .before .before .before .before .before .before .pre .1) (c .before .before .call-lines .ensures)
 
 pub counted-calls-spec : {M : Type 1} → statement M
 counted-calls-spec =

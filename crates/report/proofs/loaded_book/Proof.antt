@@ -1,8 +1,5 @@
 -- `report::loaded_book` meets its contract. Assumes nothing.
-use Rattle.pmtl.specs.Monitor.{initial}
-use Rattle.pmtl.specs.Book.{Book}
-use mathlib.Core.Path.{_∙_, sym, ap}
-use Rattle.report.proofs.Going.{book-accepted, book-refused}
+use Rattle.report.proofs.Going.{way-loaded, fresh-in, book-accepted, book-refused}
 use borrow.Author.Needs.{needs}
 use Rattle.report.proofs.loaded_book.Statement.{statement}
 use Rattle.report.proofs.loaded_book.Tie as tie
@@ -14,13 +11,13 @@ put-book-requires : tie.Need-put-book-requires
 put-book-requires c κs = search needs
 
 counted-calls-requires : tie.Need-counted-calls-requires
-counted-calls-requires c κs = let l = c .before .before .before .before .before .before .before .load-by .ensures in (l .kept, l .state ∙ ap (λ (b : Book). initial (b .rows)) (sym (l .book)))
+counted-calls-requires c κs = let l = c .before .before .before .before .before .before .before .load-by .ensures in (l .kept, fresh-in _ (l .book) (l .state))
 
 same-length : tie.Need-same-length
 same-length c = search needs
 
 returns : tie.Need-returns
-returns c = let l = c .before .before .before .before .before .before .before .before .before .before .load-by .ensures in book-accepted _ _ _ _ (c .before .before .before .before .before .before .before .put-book .ensures) (c .before .before .before .before .before .before .before .before .before .if1 .taken) (l .number) (l .book) (c .before .before .counted-calls .ensures)
+returns c = let l = c .before .before .before .before .before .before .before .before .before .before .load-by .ensures in book-accepted _ _ _ _ (c .before .before .before .before .before .before .before .put-book .ensures) (c .before .before .before .before .before .before .before .before .before .if1 .taken) (l .number) (l .book) (way-loaded _ _ (l .state)) (c .before .before .counted-calls .ensures)
 
 first-excess-requires : tie.Need-first-excess-requires
 first-excess-requires c κs = search needs

@@ -4,11 +4,11 @@
 
 mod ours;
 
-use compare::inputs::input;
+use compare::inputs::{flat_input, input};
 use compare::shrink::shrink;
 use judge::monitor::{Monitor, ACCEPTED};
-use judge::report::{report, strictly, Call, Watch};
-use ours::Ours;
+use judge::report::{lasting, report, strictly, Call, Gaps, Watch};
+use ours::{Ours, Way};
 use std::collections::BTreeMap;
 use std::path::PathBuf;
 use std::process::ExitCode;
@@ -16,6 +16,9 @@ use std::{env, fs, panic};
 
 /// Accepted calls after which the default run ends.
 const ACCEPTED_CALLS: u64 = 4_000_000;
+
+/// Calls that the judge of the lasting way puts in at most, over a whole input.
+const MOST_PUT_IN: u64 = 20_000;
 
 /// Bytes of an input that are printed at most; its seed and number give it whole.
 const MOST_SHOWN: usize = 4_000;
@@ -69,6 +72,52 @@ struct Tally {
     stops: BTreeMap<u64, u64>,
     /// Books that are refused in strict loading alone.
     over: u64,
+    /// In the lasting way: the inputs whose gaps were walked whole.
+    walked: Lasting,
+    /// Those whose gaps were too long for that, and were walked at their ends.
+    ends: Lasting,
+    /// Those that were left out, since even that is too far.
+    left_out: u64,
+}
+
+/// What was tried in the lasting way.
+#[derive(Default)]
+struct Lasting {
+    inputs: u64,
+    books: BTreeMap<u64, u64>,
+    calls: BTreeMap<u64, u64>,
+}
+
+impl Watch for Lasting {
+    fn book(&mut self, number: u64) {
+        *self.books.entry(number).or_default() += 1;
+    }
+
+    fn call(&mut self, _: &Call, number: u64, _: &Monitor) {
+        *self.calls.entry(number).or_default() += 1;
+    }
+}
+
+impl Lasting {
+    fn add(&mut self, other: Lasting) {
+        self.inputs += 1;
+        for (sum, counts) in [(&mut self.books, other.books), (&mut self.calls, other.calls)] {
+            counts.into_iter().for_each(|(number, count)| *sum.entry(number).or_default() += count);
+        }
+    }
+
+    fn print(&self, what: &str) {
+        let accepted = |counts: &BTreeMap<u64, u64>| counts.get(&ACCEPTED).copied().unwrap_or(0);
+        let (books, calls) = (accepted(&self.books), accepted(&self.calls));
+        println!("in the lasting way, {what}: {} inputs ({books} books and {calls} calls accepted)", self.inputs);
+        for (what, counts) in [("books", &self.books), ("calls", &self.calls)] {
+            println!("  {what} by number: {}", by_number(counts));
+        }
+    }
+}
+
+fn by_number(counts: &BTreeMap<u64, u64>) -> String {
+    counts.iter().map(|(number, count)| format!("{number}: {count}")).collect::<Vec<_>>().join(", ")
 }
 
 impl Watch for Tally {
@@ -104,26 +153,48 @@ impl Tally {
             self.accepted()
         );
         for (what, counts) in [("books", &self.books), ("calls", &self.calls), ("stamped calls", &self.stamped), ("stops", &self.stops)] {
-            let each: Vec<String> = counts.iter().map(|(number, count)| format!("{number}: {count}")).collect();
-            println!("{what} by number: {}", each.join(", "));
+            println!("{what} by number: {}", by_number(counts));
         }
         println!("books that strict loading refuses with 15: {}", self.over);
+        self.walked.print("every instant walked");
+        self.ends.print("too far for that, the ends of gaps walked");
+        println!("in the lasting way, left out: {} inputs", self.left_out);
     }
 }
 
 /// What differs on this input, in words.
 fn difference(ours: &Ours, input: &[u8], tally: &mut Tally) -> Option<String> {
     tally.inputs += 1;
-    let expected = panic::catch_unwind(panic::AssertUnwindSafe(|| report(input, tally)));
-    match expected {
-        Err(_) => Some("the original panics".to_string()),
-        Ok(Err(difference)) => Some(difference),
-        Ok(Ok(expected)) => {
-            let strict = strictly(input, &expected);
-            tally.over += u64::from(strict != expected);
-            ours.held_to(&expected, input).and_then(|()| ours.held_strictly_to(&strict, input)).err()
+    let held = panic::catch_unwind(panic::AssertUnwindSafe(|| held(ours, input, tally).and_then(|()| held_lasting(ours, input, tally))));
+    held.unwrap_or(Err("the original panics, or the judge".to_string())).err()
+}
+
+/// Our reports in the ordinary way are the expected ones.
+fn held(ours: &Ours, input: &[u8], tally: &mut Tally) -> Result<(), String> {
+    let expected = report(input, tally)?;
+    let strict = strictly(input, &expected);
+    tally.over += u64::from(strict != expected);
+    ours.held_to(Way::Ordinary, &expected, input)?;
+    ours.held_to(Way::Strict, &strict, input)
+}
+
+/// So are those in the lasting way, where the judge can put the calls in.
+fn held_lasting(ours: &Ours, input: &[u8], tally: &mut Tally) -> Result<(), String> {
+    if !ours.has_every_way() {
+        return Ok(());
+    }
+    for gaps in [Gaps::Whole, Gaps::Ends] {
+        let mut seen = Lasting::default();
+        if let Some(expected) = lasting(input, gaps, MOST_PUT_IN, &mut seen)? {
+            ours.held_to(Way::Lasting, &expected, input)?;
+            ours.held_to(Way::LastingStrict, &strictly(input, &expected), input)?;
+            let tried = if gaps == Gaps::Whole { &mut tally.walked } else { &mut tally.ends };
+            tried.add(seen);
+            return Ok(());
         }
     }
+    tally.left_out += 1;
+    Ok(())
 }
 
 /// Prints the difference and the smallest input found that still differs.
@@ -148,12 +219,14 @@ fn run() -> Result<bool, String> {
     }
     let mut index = wishes.from;
     while tally.accepted() < wishes.accepted {
-        let text = input(wishes.seed, index);
-        if let Some(what) = difference(&ours, &text, &mut tally) {
-            println!("seed {}, input {index}", wishes.seed);
-            tell(&ours, &text, &what);
-            tally.print();
-            return Ok(false);
+        for (kind, draw) in [("input", input as fn(u64, u64) -> Vec<u8>), ("flat input", flat_input)] {
+            let text = draw(wishes.seed, index);
+            if let Some(what) = difference(&ours, &text, &mut tally) {
+                println!("seed {}, {kind} {index}", wishes.seed);
+                tell(&ours, &text, &what);
+                tally.print();
+                return Ok(false);
+            }
         }
         index += 1;
     }

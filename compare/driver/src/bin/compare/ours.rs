@@ -26,30 +26,56 @@ type Function = unsafe extern "C" fn(input: *const u8, input_len: u64, report: *
 extern "C" {
     fn binefdar_report(input: *const u8, input_len: u64, report: *mut u8, report_len: u64) -> u64;
     fn binefdar_report_strict(input: *const u8, input_len: u64, report: *mut u8, report_len: u64) -> u64;
+    fn binefdar_report_lasting(input: *const u8, input_len: u64, report: *mut u8, report_len: u64) -> u64;
+    fn binefdar_report_lasting_strict(input: *const u8, input_len: u64, report: *mut u8, report_len: u64) -> u64;
+}
+
+/// How a book is loaded.
+#[derive(Clone, Copy)]
+pub enum Way {
+    Ordinary,
+    Strict,
+    Lasting,
+    LastingStrict,
+}
+
+impl Way {
+    #[cfg(archive)]
+    fn function(self) -> Function {
+        match self {
+            Way::Ordinary => binefdar_report,
+            Way::Strict => binefdar_report_strict,
+            Way::Lasting => binefdar_report_lasting,
+            Way::LastingStrict => binefdar_report_lasting_strict,
+        }
+    }
+
+    /// What stands before a difference.
+    fn said(self) -> &'static str {
+        match self {
+            Way::Ordinary => "",
+            Way::Strict => "loaded strictly: ",
+            Way::Lasting => "in the lasting way: ",
+            Way::LastingStrict => "in the lasting way, loaded strictly: ",
+        }
+    }
 }
 
 impl Ours {
-    /// Compares every byte with the expected report; in words, what differs first.
-    pub fn held_to(&self, expected: &[u8], input: &[u8]) -> Result<(), String> {
-        match self {
+    /// A program loads in one way, the ordinary one, and is asked in no other.
+    pub fn has_every_way(&self) -> bool {
+        !matches!(self, Ours::Program(_))
+    }
+
+    /// Compares every byte with the report expected in a way; in words, what differs first.
+    pub fn held_to(&self, way: Way, expected: &[u8], input: &[u8]) -> Result<(), String> {
+        let held = match (self, way) {
             #[cfg(archive)]
-            Ours::Archive => archive_held_to(binefdar_report, expected, input),
-            Ours::Program(path) => same(expected, &program_report(path, input)?),
-        }
-    }
-
-    /// The same where the book is loaded strictly. A program loads in one way, and is not asked.
-    #[cfg(archive)]
-    pub fn held_strictly_to(&self, expected: &[u8], input: &[u8]) -> Result<(), String> {
-        match self {
-            Ours::Archive => archive_held_to(binefdar_report_strict, expected, input).map_err(|what| format!("loaded strictly: {what}")),
-            Ours::Program(_) => Ok(()),
-        }
-    }
-
-    #[cfg(not(archive))]
-    pub fn held_strictly_to(&self, _: &[u8], _: &[u8]) -> Result<(), String> {
-        Ok(())
+            (Ours::Archive, way) => archive_held_to(way.function(), expected, input),
+            (Ours::Program(path), Way::Ordinary) => same(expected, &program_report(path, input)?),
+            (Ours::Program(_), _) => Ok(()),
+        };
+        held.map_err(|what| format!("{}{what}", way.said()))
     }
 }
 

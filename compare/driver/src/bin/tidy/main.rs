@@ -1,17 +1,19 @@
 //! Draws books, calls and steps at random, has the books tidied by our program, and holds each tidied book to the one it was made of: by the
-//! judge, whose values are the original's, both give the same refusals, counts, values and settled answers on the same calls. Which
-//! steps fit is told here by a rule of its own.
+//! judge, whose values are the original's, both give the same refusals, counts, values and settled answers on the same calls, in the
+//! ordinary way and, where it takes them, in the lasting one. Which steps fit is told here by a rule of its own.
 
 use compare::case::{Case, AND, HISTORICALLY, IMPLIES, NOT, OR};
 use compare::chance::Chance;
 use compare::inputs::{at_limits, shallow};
-use judge::report::{report, Nobody};
+use judge::report::{lasting, report, Gaps, Nobody};
 use std::io::Write;
 use std::process::{Command, Stdio};
 
 const FORMS: usize = 4;
 const MOST_ROWS: usize = 128;
 const MOST_STEPS: usize = 6;
+/// Calls that the judge of the lasting way puts in at most, over a whole input.
+const MOST_PUT_IN: u64 = 20_000;
 
 /// What a step comes to: 0, 2 where the book grows too long, or 21 where the step does not fit.
 fn expected(case: &Case, form: usize, row: usize) -> u64 {
@@ -70,18 +72,24 @@ fn answer(program: &str, case: &Case, steps: &[(usize, usize)]) -> String {
     String::from_utf8(child.wait_with_output().expect("it ends").stdout).expect("it answers in ASCII")
 }
 
-/// The lines of a report, without early answers.
-fn lines(case: &Case) -> Vec<String> {
-    let text = report(&case.text(), &mut Nobody).expect("the original keeps to the rules");
-    let without_early = |word: &str| if word.len() == 3 { format!("{}{}", &word[..1], &word[2..]) } else { word.to_string() };
-    String::from_utf8(text).expect("a report is of ASCII").lines().map(|line| line.split(' ').map(without_early).collect::<Vec<_>>().join(" ")).collect()
+/// The lines of the report in the ordinary way, and of that in the lasting way unless its gaps are too long to walk, without early answers.
+fn lines(case: &Case) -> (Vec<String>, Option<Vec<String>>) {
+    let ordinary = report(&case.text(), &mut Nobody).expect("the original keeps to the rules");
+    let lasting = lasting(&case.text(), Gaps::Ends, MOST_PUT_IN, &mut Nobody).expect("the original keeps to the rules");
+    (without_early(ordinary), lasting.map(without_early))
+}
+
+fn without_early(report: Vec<u8>) -> Vec<String> {
+    let cut = |word: &str| if word.len() == 3 { format!("{}{}", &word[..1], &word[2..]) } else { word.to_string() };
+    let lines = String::from_utf8(report).expect("a report is of ASCII");
+    lines.lines().map(|line| line.split(' ').map(cut).collect::<Vec<_>>().join(" ")).collect()
 }
 
 fn main() {
     let words: Vec<String> = std::env::args().skip(1).collect();
     let [program, seed, books] = words.as_slice() else { panic!("tidy PROGRAM SEED BOOKS") };
     let (seed, books): (u64, u64) = (seed.parse().expect("a seed"), books.parse().expect("how many books"));
-    let (mut made, mut refused, mut calls) = (0, 0, 0);
+    let (mut made, mut refused, mut calls, mut flat) = (0, 0, 0, 0);
     for index in 0..books {
         let mut chance = Chance::new(seed, index);
         let case = drawn_case(&mut chance);
@@ -106,10 +114,13 @@ fn main() {
             let all = answer(program, &case, &steps);
             assert_eq!(all.as_bytes(), ["tidy 0\n".as_bytes(), &book_text(&tidy)].concat(), "seed {seed}, book {index}: all steps at once");
         }
-        assert_eq!(lines(&tidy), lines(&case), "seed {seed}, book {index}: {steps:?} on {case:?}");
+        let before = lines(&case);
+        assert_eq!(lines(&tidy), before, "seed {seed}, book {index}: {steps:?} on {case:?}");
         calls += case.calls.len();
+        flat += u64::from(before.1.is_some_and(|lines| lines[0] == "book 0"));
     }
     println!("{books} books, {made} steps made and {refused} refused, {calls} calls: the same refusals, counts, values and settled answers");
+    println!("{flat} of the books in the lasting way, too");
 }
 
 /// A book's text, without the count of its calls.

@@ -7,14 +7,13 @@ use mathlib.Core.Bool.{Bool, true, false, not, _||_, true≢false}
 use mathlib.Core.List.{List, [], _∷_, map}
 use lib.ListN.{length}
 use Rattle.numset.specs.Runs.{has}
-use Rattle.pmtl.specs.Book.{Row, Rows, mapRow, rowAt, AllBelow, Below, Ordered, every, some, itself}
+use Rattle.pmtl.specs.Book.{Row, Rows, mapRow, rowAt, AllBelow, Below, Ordered, every, some, itself, moveRule, moves}
 use Rattle.pmtl.specs.Book.Row.{never, always, atom, conj, disj, neg, implies, historically, once, since}
 use Rattle.pmtl.specs.Monitor.{State, setAt, valueRule, value}
 use Rattle.pmtl.proofs.Table.{by-rows, answer-in}
 use Rattle.pmtl.proofs.Answers.{value-fix, value-out}
-use Rattle.memory.specs.Tables.{moveRule, moves}
 
-neither : (a b : Bool) → (a || b) ≡ false → (a ≡ false) × (b ≡ false)
+pub neither : (a b : Bool) → (a || b) ≡ false → (a ≡ false) × (b ≡ false)
 neither true b e = absurd (true≢false e)
 neither false b e = (refl, e)
 
