@@ -141,7 +141,7 @@ made-unique {way} {words} {ks} {m} {m′} a b =
 -- ---- a call that changes nothing
 -- where the definitions' call leaves their state as it is, the call hands back 0 and leaves the memory, word for word
 pub stays-word-for-word : {way : Loading} {words : List ℕ} {ks : List Call} {m m′ : List ℕ} {k : Call} {r : ℕ} → Made way words ks m → Called k m m′ r
-    → call (bookSaid way words .rows) (after (bookSaid way words .rows) ks) k ≡ unchanged (after (bookSaid way words .rows) ks) → (r ≡ ACCEPTED) × (m′ ≡ m)
+    → call (bookSaid way words .rows) (afterIn (wayIn way) (bookSaid way words .rows) ks) k ≡ unchanged (afterIn (wayIn way) (bookSaid way words .rows) ks) → (r ≡ ACCEPTED) × (m′ ≡ m)
 unfolding afterIn
 stays-word-for-word {m = m} {m′ = m′} {k = k} made c e =
     let state-is = made-state (calls k made c) ∙ ap (λ (o : Outcome). o .state) e ∙ sym (made-state made) in
