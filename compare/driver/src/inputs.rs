@@ -1,7 +1,7 @@
 //! One input for each seed and index.
 
 use crate::books::{self, book};
-use crate::calls::{self, add_calls};
+use crate::calls::{self, add_calls, double_calls};
 use crate::case::{text, Case, Layout};
 use crate::chance::Chance;
 use crate::damage;
@@ -151,7 +151,8 @@ fn add_drawn_calls(chance: &mut Chance, case: &mut Case, count: usize) {
 }
 
 fn laid_out(chance: &mut Chance, draw: &dyn Fn(&mut Chance) -> Case) -> Vec<u8> {
-    let case = draw(chance);
+    let mut case = draw(chance);
+    double_calls(chance, &mut case);
     let layout = chance.among(&[Layout::Lines, Layout::Lines, Layout::OneLine, Layout::Ragged]);
     text(&case.sections(), &case.calls, layout, chance)
 }

@@ -69,6 +69,10 @@ struct Tally {
     calls: BTreeMap<u64, u64>,
     /// Those of the calls that were stamped.
     stamped: BTreeMap<u64, u64>,
+    /// Those that were the call before over again, which was accepted: each is to be accepted, too.
+    doubled: BTreeMap<u64, u64>,
+    /// The call before, where it was accepted.
+    before: Option<Call>,
     stops: BTreeMap<u64, u64>,
     /// Books that are refused in strict loading alone.
     over: u64,
@@ -123,6 +127,7 @@ fn by_number(counts: &BTreeMap<u64, u64>) -> String {
 impl Watch for Tally {
     fn book(&mut self, number: u64) {
         *self.books.entry(number).or_default() += 1;
+        self.before = None;
     }
 
     fn call(&mut self, call: &Call, number: u64, _: &Monitor) {
@@ -130,6 +135,10 @@ impl Watch for Tally {
         if matches!(call, Call::Stamped(..)) {
             *self.stamped.entry(number).or_default() += 1;
         }
+        if self.before.as_ref() == Some(call) {
+            *self.doubled.entry(number).or_default() += 1;
+        }
+        self.before = (number == ACCEPTED).then(|| call.clone());
     }
 
     fn stop(&mut self, number: u64) {
@@ -152,7 +161,14 @@ impl Tally {
             all(&self.calls),
             self.accepted()
         );
-        for (what, counts) in [("books", &self.books), ("calls", &self.calls), ("stamped calls", &self.stamped), ("stops", &self.stops)] {
+        let kinds = [
+            ("books", &self.books),
+            ("calls", &self.calls),
+            ("stamped calls", &self.stamped),
+            ("calls made again at once", &self.doubled),
+            ("stops", &self.stops),
+        ];
+        for (what, counts) in kinds {
             println!("{what} by number: {}", by_number(counts));
         }
         println!("books that strict loading refuses with 15: {}", self.over);
