@@ -105,15 +105,38 @@ pub fn add_calls(chance: &mut Chance, case: &mut Case, style: &Style) {
     let mut bytes = case.text().len();
     for _ in 0..style.count {
         let call = drawing.call();
-        bytes += match &call {
-            Call::Time(_) => 23,
-            Call::State(state) => 6 + 2 * state.len(),
-            Call::Stamped(_, state) => 27 + 2 * state.len(),
-        };
+        bytes += most_bytes(&call);
         if bytes > LONGEST_TEXT {
             break;
         }
         case.calls.push(call);
+    }
+}
+
+/// Makes some calls of a case again at once, with the same content: none, each, or one in so many.
+pub fn double_calls(chance: &mut Chance, case: &mut Case) {
+    let doubled_in = chance.among(&[0, 0, 0, 1, 2, 8]);
+    if doubled_in == 0 {
+        return;
+    }
+    let mut bytes = case.text().len();
+    let mut calls = Vec::new();
+    for call in case.calls.drain(..) {
+        calls.push(call.clone());
+        if bytes + most_bytes(&call) <= LONGEST_TEXT && chance.one_in(doubled_in) {
+            bytes += most_bytes(&call);
+            calls.push(call);
+        }
+    }
+    case.calls = calls;
+}
+
+/// The most bytes that a call takes in a text.
+fn most_bytes(call: &Call) -> usize {
+    match call {
+        Call::Time(_) => 23,
+        Call::State(state) => 6 + 2 * state.len(),
+        Call::Stamped(_, state) => 27 + 2 * state.len(),
     }
 }
 

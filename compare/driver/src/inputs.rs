@@ -1,7 +1,7 @@
 //! One input for each seed and index.
 
 use crate::books::{self, book};
-use crate::calls::{self, add_calls};
+use crate::calls::{self, add_calls, double_calls};
 use crate::case::{text, Case, Layout};
 use crate::chance::Chance;
 use crate::damage;
@@ -151,7 +151,8 @@ fn add_drawn_calls(chance: &mut Chance, case: &mut Case, count: usize) {
 }
 
 fn laid_out(chance: &mut Chance, draw: &dyn Fn(&mut Chance) -> Case) -> Vec<u8> {
-    let case = draw(chance);
+    let mut case = draw(chance);
+    double_calls(chance, &mut case);
     let layout = chance.among(&[Layout::Lines, Layout::Lines, Layout::OneLine, Layout::Ragged]);
     text(&case.sections(), &case.calls, layout, chance)
 }
@@ -168,6 +169,7 @@ fn around_longest(chance: &mut Chance) -> Vec<u8> {
 #[cfg(test)]
 mod tests {
     use super::*;
+    use crate::again::Again;
     use judge::monitor::{Monitor, ACCEPTED, NO_ROOM};
     use judge::report::{lasting, report, Call, Gaps, Nobody, Watch};
 
@@ -199,5 +201,47 @@ mod tests {
         }
         let Counts { accepted, full } = counts;
         assert!(walked > 320 && accepted > 10_000 && others > 150 && full > 0, "{walked} {accepted} {others} {full}");
+    }
+
+    /// Where the calls stand that are made again at once, counted from 1.
+    #[derive(Default)]
+    struct Places {
+        calls: usize,
+        again: Again,
+        places: Vec<usize>,
+    }
+
+    impl Watch for Places {
+        fn call(&mut self, call: &Call, number: u64, _: &Monitor) {
+            self.calls += 1;
+            if self.again.call(call, number) {
+                self.places.push(self.calls);
+            }
+        }
+    }
+
+    /// How many such calls a report has, each of which has the line of the call before but for its number.
+    fn same_lines(report: &[u8], seen: &Places) -> usize {
+        let text = String::from_utf8_lossy(report);
+        let lines: Vec<&str> = text.lines().collect();
+        let said = |call: usize| lines[call].split_once(' ').expect("a call's line has words").1;
+        seen.places.iter().for_each(|&call| assert_eq!(said(call), said(call - 1), "{text}"));
+        seen.places.len()
+    }
+
+    /// Calls made again at once are drawn for both ways, and the judge finds that they change nothing.
+    #[test]
+    fn doubled_calls_change_nothing() {
+        let (mut ordinary, mut lasts) = (0, 0);
+        for index in 0..300 {
+            let mut seen = Places::default();
+            let judged = report(&input(6, index), &mut seen).expect("original and rules agree");
+            ordinary += same_lines(&judged, &seen);
+            let mut seen = Places::default();
+            if let Some(judged) = lasting(&flat_input(6, index), Gaps::Whole, 20_000, &mut seen).expect("original and rules agree") {
+                lasts += same_lines(&judged, &seen);
+            }
+        }
+        assert!(ordinary > 1_000 && lasts > 1_000, "{ordinary} {lasts}");
     }
 }

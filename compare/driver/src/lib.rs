@@ -1,5 +1,6 @@
 //! Inputs drawn at random, and inputs cut down to what still shows a difference.
 
+pub mod again;
 pub mod books;
 pub mod calls;
 pub mod case;

@@ -27,6 +27,7 @@ pub struct Nobody;
 impl Watch for Nobody {}
 
 /// A call as it is read.
+#[derive(Clone, PartialEq, Eq)]
 pub enum Call {
     Time(u64),
     State(Vec<u64>),

@@ -6,15 +6,18 @@ use mathlib.Core.Path.{_≡_, refl, sym, ap, ap₂, _∙_}
 use mathlib.Core.Logic.{_↔_}
 use mathlib.Core.Bool.{Bool, true, not}
 use mathlib.Core.List.{List, _∷_, _++_}
+use Rattle.numbers.specs.Refusals.{ACCEPTED}
 use Rattle.pmtl.specs.Answer.{known}
 use Rattle.pmtl.specs.Book.{Range, Book, rowAt}
 use Rattle.pmtl.specs.Book.Row.{historically, once, since}
 use Rattle.pmtl.specs.Monitor.{State, fullest, value}
 use Rattle.pmtl.specs.Early.{early}
 use Rattle.pmtl.specs.Settled.{settled}
-use Rattle.pmtl.specs.Calls.{Call, call, afterIn}
+use Rattle.pmtl.specs.Calls.{Call, Outcome, call, afterIn}
+use Rattle.pmtl.specs.Again.{unchanged}
 use Rattle.pmtl.specs.Meaning.{meaning}
 use Rattle.pmtl.specs.Past.{held, SomeCall, SinceCall}
+use Rattle.pmtl.proofs.Doubled.{doubled as doubled-call}
 use Rattle.lasts.specs.Lasting.{historyIn}
 use Rattle.lasts.proofs.Loaded.{words-fit}
 use Rattle.lasts.proofs.EitherWay.{demand-2 as means, demand-3 as stays, once-holds as once-means, historically-holds as historically-means, since-holds as since-means, never-eleven as strict-never}
@@ -134,3 +137,23 @@ called-unique {k} {m} {m′} {m″} c d =
 pub made-unique : {way : Loading} {words : List ℕ} {ks : List Call} {m m′ : List ℕ} → Made way words ks m → Made way words ks m′ → m ≡ m′
 made-unique {way} {words} {ks} {m} {m′} a b =
     same-words m m′ (made-kept a) (made-kept b) (made-book a ∙ sym (made-book b)) (made-state a ∙ sym (made-state b))
+
+-- ---- a call that changes nothing
+-- where the definitions' call leaves their state as it is, the call hands back 0 and leaves the memory, word for word
+pub stays-word-for-word : {way : Loading} {words : List ℕ} {ks : List Call} {m m′ : List ℕ} {k : Call} {r : ℕ} → Made way words ks m → Called k m m′ r
+    → call (bookSaid way words .rows) (afterIn (wayIn way) (bookSaid way words .rows) ks) k ≡ unchanged (afterIn (wayIn way) (bookSaid way words .rows) ks) → (r ≡ ACCEPTED) × (m′ ≡ m)
+unfolding afterIn
+stays-word-for-word {m = m} {m′ = m′} {k = k} made c e =
+    let state-is = made-state (calls k made c) ∙ ap (λ (o : Outcome). o .state) e ∙ sym (made-state made) in
+    (made-number made c ∙ ap (λ (o : Outcome). o .number) e, same-words m′ m (c .kept) (made-kept made) (c .book) state-is)
+
+-- DOUBLED: an accepted call made again at once with the same content hands back 0 and the same count, and the memory stays, word for word
+pub doubled : {way : Loading} {words : List ℕ} {ks : List Call} {m m′ m″ : List ℕ} {k : Call} {r q : ℕ} → Made way words ks m → Called k m m′ r → r ≡ ACCEPTED → Called k m′ m″ q
+    → (q ≡ ACCEPTED) × (m″ ≡ m′)
+doubled {way} {words} {ks} {k = k} made first taken second =
+    stays-word-for-word (calls k made first) second
+    (doubled-call (wayIn way) (bookSaid way words .rows) (words-fit way words .ordered) ks k (sym (made-number made first) ∙ taken))
+
+pub doubled-count : {way : Loading} {words : List ℕ} {ks : List Call} {m m′ m″ : List ℕ} {k : Call} {r q count again : ℕ} → Made way words ks m → Called k m m′ r → r ≡ ACCEPTED → Called k m′ m″ q
+    → count ≡ fullest (stateOf m′) → again ≡ fullest (stateOf m″) → again ≡ count
+doubled-count made first taken second e e′ = e′ ∙ ap (λ (m : List ℕ). fullest (stateOf m)) (doubled made first taken second .1) ∙ sym e

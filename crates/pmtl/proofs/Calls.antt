@@ -82,8 +82,8 @@ firsts-zero n m = go (eqb n 0) refl
 -- a time that is not refused goes on from the clock
 pub timely : (now : Snap) (t : ℕ) → timeRefusal now t ≡ 0 → (now .clock ≤ t) × (t ≤ LAST-TIME)
 timely now t e =
-    let p = first-zero (ltb t (now .clock)) 6 (cond (ltb LAST-TIME t) 8 0) e in
-    (ltb-false t (now .clock) (p .0), ltb-false LAST-TIME t (first-zero (ltb LAST-TIME t) 7 0 (p .1) .0))
+    let p = first-zero (ltb t (now .clock)) 6 _ e in
+    (ltb-false t (now .clock) (p .0), ltb-false LAST-TIME t (first-zero (ltb LAST-TIME t) 7 _ (p .1) .0))
 
 -- a state that is not refused has a byte for each atom and no other, each 0 or 1
 pub well-stated : (b : Rows) (bytes : List ℕ) → stateRefusal b bytes ≡ 0 → (length bytes ≡ widthOf b) × (some (ltb 1) bytes ≡ false)

@@ -14,6 +14,7 @@ pub mod Stamped
 pub mod Theorems
 pub mod EachRun
 pub mod Twice
+pub mod Doubled
 pub mod Cut
 pub mod Alike
 pub mod Eleven

@@ -6,6 +6,7 @@ pub mod Monitor
 pub mod Early
 pub mod Settled
 pub mod Calls
+pub mod Again
 pub mod Meaning
 pub mod Past
 pub mod Kept

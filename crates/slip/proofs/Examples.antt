@@ -8,11 +8,11 @@ use Rattle.text.specs.Words.{pick, parts, digit, letters, allDigits, said, plai
 use Rattle.pmtl.specs.Calls.Call.{time}
 use Rattle.book.specs.Reading.{section, next, sections}
 use Rattle.book.specs.declared.loading.Loading.the-variants.{Ordinary}
-use Rattle.report.specs.Lines.{nothing, told, called, lines}
+use Rattle.report.specs.Lines.{nothing, told, called, timeFrom, callFrom, orStop, callsFrom, callsAfter, lines}
 use Rattle.report.specs.Report.{report}
 use Rattle.report.proofs.Examples.{reportOf, opened, caseInput, whole}
 use Rattle.slip.specs.Back.{before, pieces, wordIn, wordThen, restIn, excessSaid, lineIn, linesIn}
-use Rattle.slip.specs.Says.{noLine, Says}
+use Rattle.slip.specs.Says.{wordsAfter, noLine, SaidTwice, Says}
 use Rattle.slip.specs.TakenOut.{allWords, CallAt, TakenOut}
 use Rattle.slip.specs.Longest.{longest}
 use Rattle.slip.proofs.Theorems.{read-back}
@@ -65,6 +65,14 @@ its-call = record {
 pub taken-out : TakenOut its-call oneTime
 unfolding its-call allWords section next sections pick parts digit letters allDigits said plain good begun writtenWords supplied supply
 taken-out = record { short = omega arith; ending = refl; words = refl }
+
+-- ---- a call that the text says twice: `0 0 0 0 2 0 5 0 5`
+abbrev pub sameTimes : List ℕ
+sameTimes = 48 ∷ 32 ∷ 48 ∷ 32 ∷ 48 ∷ 32 ∷ 48 ∷ 32 ∷ 50 ∷ 32 ∷ 48 ∷ 32 ∷ 53 ∷ 32 ∷ 48 ∷ 32 ∷ 53 ∷ []
+
+pub said-twice : SaidTwice sameTimes 1
+unfolding wordsAfter callsAfter callsFrom callFrom timeFrom orStop section next sections pick parts digit letters allDigits said plain good begun writtenWords supplied supply
+said-twice = record { there = omega arith; same = refl }
 
 -- ---- the bound: `0 0 0 0 x` has a report of as many bytes as any input of its length may have
 abbrev pub tight : List ℕ

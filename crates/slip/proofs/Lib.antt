@@ -4,6 +4,7 @@ pub mod Calls
 pub mod Places
 pub mod Sayings
 pub mod Traces
+pub mod Again
 pub mod Lengths
 pub mod Theorems
 pub mod Examples

@@ -45,6 +45,11 @@ at-place [] e (suc i) l h = absurd (not-last h)
 at-place (c ∷ cs) e zero l h = (omega arith, cc)
 at-place (c ∷ cs) e (suc i) l h = let r = at-place cs e i l h in (omega (arith, r .0), r .1)
 
+pub at-call : (cs : List CallLine) (e : Ending) (i : ℕ) → i < length cs → getD (map called cs ++ last e ∷ []) i noLine ≡ called (getD cs i noCallLine)
+at-call [] e i h = absurd (omega arith)
+at-call (c ∷ cs) e zero h = refl
+at-call (c ∷ cs) e (suc i) h = at-call cs e i (omega arith)
+
 -- ---- the lines of calls
 pub lines-length : (b : Book) (done : ℕ) (st : State) (ks : List Call) → length (linesOf b done st ks) ≡ length ks
 unfolding linesOf
@@ -83,7 +88,7 @@ module _ (way : Loading) (input : List ℕ) {s : Sections} {ws : List ℕ} (e : 
   unfolding loadedOf
   loads-as = rw e
 
-  read-as : readSaid input ≡ callsAfter (supply input .ending) ws
+  pub read-as : readSaid input ≡ callsAfter (supply input .ending) ws
   unfolding wordsAfter
   read-as = ap (λ r. callsAfter (supply input .ending) (wordsAfter r)) e
 

@@ -1,5 +1,5 @@
 -- What a report says, for every input, in each way of loading its book: the demands of the printed lines. Line 0 is the book's, line i that of call i. Nothing is assumed.
-use Prim.Native.Nat.{ℕ, _≤_}
+use Prim.Native.Nat.{ℕ, suc, _≤_}
 use native.Mathlib.Omega.{arith}
 use mathlib.Core.Path.{_≡_, refl, sym, ap, ap₂, _∙_}
 use mathlib.Core.Bool.{Bool, true, false, cond}
@@ -36,13 +36,14 @@ use Rattle.property_answers.specs.Verdict.{propertyAt, verdictIn}
 use Rattle.report.specs.Lines.{PropertyWord, nothing, wordsIn, countIn, CallLine, stop, Line, book, called, last, wordOf, callLines, bookThen, bookLines, lines}
 use Rattle.report.specs.Report.{written, report}
 use Rattle.slip.specs.Back.{linesIn}
-use Rattle.slip.specs.Says.{sectionsSaid, loadedOf, bookSaid, excessOf, callsSaid, firstCalls, noLine, missingCall, Says, Shape}
+use Rattle.slip.specs.Says.{sectionsSaid, loadedOf, bookSaid, excessOf, callsSaid, firstCalls, noLine, missingCall, SaidTwice, Says, Shape}
 use Rattle.slip.specs.TakenOut.{CallAt, TakenOut, without}
 use Rattle.slip.specs.Longest.{longest}
 use Rattle.slip.proofs.Reading.{lines-back}
 use Rattle.slip.proofs.Places.{shape, called-line}
 use Rattle.slip.proofs.Sayings.{fit, word-each, count-here, refusal-here, nothing-here, word-is, calls-go-on}
 use Rattle.slip.proofs.Traces.{no-trace, call-at}
+use Rattle.slip.proofs.Again.{second-line, second-leaves-no-trace}
 use Rattle.slip.proofs.Lengths.{at-most-longest, room-enough}
 
 -- ---- READING BACK: the bytes of a report say its lines
@@ -186,6 +187,17 @@ call-said way input = call-at input way
 pub refused-leaves-no-trace : (way : Loading) {input : List ℕ} {i : ℕ} (c : CallAt input i) {l : CallLine} → getD (lines way input) i noLine ≡ called l → ¬ (l .refusal ≡ ACCEPTED)
     → {other : List ℕ} → TakenOut c other → lines way other ≡ without i (lines way input)
 refused-leaves-no-trace way c h n t = no-trace way c h n t
+
+-- ---- A DOUBLED SCAN DOES NO HARM
+-- where the text says a call twice, one right after the other, and the first is accepted, the second has the same line but for its number
+pub doubled-line : (way : Loading) (input : List ℕ) (i : ℕ) {l : CallLine} → getD (lines way input) i noLine ≡ called l → l .refusal ≡ ACCEPTED → SaidTwice input i
+    → getD (lines way input) (suc i) noLine ≡ called (record { number = suc (l .number); refusal = l .refusal; rest = l .rest })
+doubled-line way input i h z t = second-line way input (called-line way input i h) z t
+
+-- and a text without the words of the second, its count one less, has the same lines but for that one and the numbering
+pub doubled-leaves-no-trace : (way : Loading) (input : List ℕ) (i : ℕ) {l : CallLine} → getD (lines way input) i noLine ≡ called l → l .refusal ≡ ACCEPTED → SaidTwice input i
+    → (c : CallAt input (suc i)) {other : List ℕ} → TakenOut c other → lines way other ≡ without (suc i) (lines way input)
+doubled-leaves-no-trace way input i h z t = second-leaves-no-trace way input (called-line way input i h) z t
 
 -- ---- ONE LINE FOR EACH CALL read, in order, numbered from 1, and one last line; nothing after a refused book
 pub one-line-each : (way : Loading) (input : List ℕ) → Shape way input

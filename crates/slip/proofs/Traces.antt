@@ -1,4 +1,4 @@
--- A refused call leaves no trace in the lines: they are those of the text without it. Assumes nothing.
+-- A call that leaves the state as it was, as a refused one does, leaves no trace in the lines: they are those of the text without it. Assumes nothing.
 use Prim.Native.Nat.{ℕ, zero, suc, _+_, _-_, _≤_, _<_}
 use native.Mathlib.Omega.{arith}
 use mathlib.Core.Path.{_≡_, refl, sym, ap, ap₂, subst, _∙_}
@@ -19,11 +19,11 @@ use Rattle.book.specs.declared.strict.Excess.the-variants.{Within}
 use Rattle.book.specs.Loading.{wayIn, admitted}
 use Rattle.book.specs.Judging.{Loaded, loadedFrom}
 use Rattle.report.specs.Lines.{Rest, CallLine, Ending, Line, book, called, last, CallsRead, callThen, callsFrom, callsAfter, lineOf, linesOf, linesFrom, lines}
-use Rattle.slip.specs.Says.{sectionsSaid, wordsAfter, noLine, missingCall}
+use Rattle.slip.specs.Says.{sectionsSaid, wordsAfter, callsSaid, noLine, missingCall}
 use Rattle.slip.specs.TakenOut.{callWords, allWords, Fits, AllFit, CallAt, TakenOut, lowered, without}
 use Rattle.text.proofs.Few.{small-ending}
 use Rattle.slip.proofs.Calls.{all-words, Heard, calls-read, callsThen, first-call, first-calls}
-use Rattle.slip.proofs.Places.{at-place, lines-length, lines-at, lines-loaded, loads-as, called-line}
+use Rattle.slip.proofs.Places.{at-place, lines-length, lines-at, lines-loaded, loads-as, read-as, called-line}
 
 -- ---- numbered one lower
 module _ (b : Book) (e : Ending) where
@@ -42,11 +42,11 @@ module _ (b : Book) (e : Ending) where
   lower done st [] = refl
   lower done st (k ∷ ks) = ap₂ (λ x xs. x ∷ xs) (one-lower (suc done) (call (b .rows) st k)) (lower (suc done) (call (b .rows) st k .state) ks)
 
-  -- ---- without the line of a refused call
-  cut : (w : Way) (done : ℕ) (past before : List Call) (k : Call) (later : List Call) → ¬ (call (b .rows) (afterIn w (b .rows) (reverseAux before past)) k .number ≡ ACCEPTED)
+  -- ---- without the line of a call that leaves the state as it was
+  cut : (w : Way) (done : ℕ) (past before : List Call) (k : Call) (later : List Call) → call (b .rows) (afterIn w (b .rows) (reverseAux before past)) k .state ≡ afterIn w (b .rows) (reverseAux before past)
       → without (length before) (ends (linesOf b done (afterIn w (b .rows) past) (before ++ k ∷ later))) ≡ ends (linesOf b done (afterIn w (b .rows) past) (before ++ later))
   unfolding ends linesOf afterIn without
-  cut w done past [] k later n = rw (refused-changes-nothing (b .rows) (afterIn w (b .rows) past) k n) (lower done (afterIn w (b .rows) past) later)
+  cut w done past [] k later n = rw n (lower done (afterIn w (b .rows) past) later)
   cut w done past (x ∷ before) k later n = ap (λ ls. called (lineOf b (suc done) (call (b .rows) (afterIn w (b .rows) past) x)) ∷ ls) (cut w (suc done) (x ∷ past) before k later n)
 
 -- ---- the calls of the text, and of the text without one
@@ -69,6 +69,10 @@ module _ (way : Loading) {input : List ℕ} {i : ℕ} (c : CallAt input i) where
       let n : ℕ = c .fewer - length (c .before) in
       let e : c .fewer ≡ length (c .before) + n = omega (arith, c .counted) in
       ap (λ m. callsFrom ending m (allWords (c .before) ++ c .rest)) e ∙ first-calls ending (c .before) (c .fits-before) n (c .rest)
+
+  -- the calls that the text says
+  pub calls-are : callsSaid input ≡ c .before ++ c .itself ∷ onward (supply input .ending) .calls
+  calls-are = ap (λ (r : CallsRead). r .calls) (read-as way input (c .words) ∙ with-it (supply input .ending))
 
   module _ (fits : length input ≤ LONGEST-INPUT) (z : admitted way (loadedFrom (c .book)) .number ≡ ACCEPTED) where
     abbrev loaded : Book
@@ -101,7 +105,7 @@ module _ (way : Loading) {input : List ℕ} {i : ℕ} (c : CallAt input i) where
         ap (λ (x : CallLine). x .refusal) (sym (q .1) ∙ a)
         ∙ ap₂ (λ xs k. call (loaded .rows) (afterIn (wayIn way) (loaded .rows) (reverse xs)) k .number) (take-append-seam (c .before) (c .itself ∷ later .calls)) (getD-append-seam (c .before) (c .itself) (later .calls) missingCall)
 
-    lines-cut : {other : List ℕ} → ¬ (outcome .number ≡ ACCEPTED) → TakenOut c other → lines way other ≡ without i (lines way input)
+    pub lines-cut : {other : List ℕ} → outcome .state ≡ afterIn (wayIn way) (loaded .rows) (reverse (c .before)) → TakenOut c other → lines way other ≡ without i (lines way input)
     unfolding without afterIn
     lines-cut n t =
         others-are t
@@ -112,7 +116,7 @@ module _ (way : Loading) {input : List ℕ} {i : ℕ} (c : CallAt input i) where
   no-trace h n t =
       let k = called-line way input i h in
       let z : admitted way (loadedFrom (c .book)) .number ≡ ACCEPTED = ap (λ (x : Loaded). x .number) (sym (loads-as way input (c .words))) ∙ k .loads in
-      lines-cut (k .fits) z (λ y. n (its-line (k .fits) z h ∙ y)) t
+      lines-cut (k .fits) z (refused-changes-nothing (admitted way (loadedFrom (c .book)) .book .rows) _ (c .itself) (λ y. n (its-line (k .fits) z h ∙ y))) t
 
 -- ---- every line of a call has its words in the text
 fit-take : (j : ℕ) (ks : List Call) → AllFit ks → AllFit (take j ks)

@@ -1,5 +1,5 @@
 -- What a text says, and what the lines of a report say. Definitions only.
-use Prim.Native.Nat.{ℕ, suc, _≤_, _<_}
+use Prim.Native.Nat.{ℕ, suc, _-_, _≤_, _<_}
 use mathlib.Core.Path.{_≡_}
 use mathlib.Core.List.{List, [], _∷_, _++_, map, reverse}
 use lib.ListN.{length, getD, take}
@@ -68,6 +68,11 @@ noCallLine = record { number = 0; refusal = 0; rest = nothing }
 
 abbrev pub missingCall : Call
 missingCall = time 0
+
+-- call i of a text, counted from 1, stands there again right after it
+pub record SaidTwice (input : List ℕ) (i : ℕ) : Type 0 where
+  pub there : i < length (callsSaid input)
+  pub same : getD (callsSaid input) i missingCall ≡ getD (callsSaid input) (i - 1) missingCall
 
 -- line i is that of an accepted call, and w is its word for property p
 pub record Says (ls : List Line) (i p : ℕ) (w : PropertyWord) : Type 0 where

@@ -4,6 +4,7 @@
 
 mod ours;
 
+use compare::again::Again;
 use compare::inputs::{flat_input, input};
 use compare::shrink::shrink;
 use judge::monitor::{Monitor, ACCEPTED};
@@ -69,6 +70,8 @@ struct Tally {
     calls: BTreeMap<u64, u64>,
     /// Those of the calls that were stamped.
     stamped: BTreeMap<u64, u64>,
+    /// Those that were made again at once.
+    again: Again,
     stops: BTreeMap<u64, u64>,
     /// Books that are refused in strict loading alone.
     over: u64,
@@ -86,22 +89,26 @@ struct Lasting {
     inputs: u64,
     books: BTreeMap<u64, u64>,
     calls: BTreeMap<u64, u64>,
+    again: Again,
 }
 
 impl Watch for Lasting {
     fn book(&mut self, number: u64) {
         *self.books.entry(number).or_default() += 1;
+        self.again.book();
     }
 
-    fn call(&mut self, _: &Call, number: u64, _: &Monitor) {
+    fn call(&mut self, call: &Call, number: u64, _: &Monitor) {
         *self.calls.entry(number).or_default() += 1;
+        self.again.call(call, number);
     }
 }
 
 impl Lasting {
     fn add(&mut self, other: Lasting) {
         self.inputs += 1;
-        for (sum, counts) in [(&mut self.books, other.books), (&mut self.calls, other.calls)] {
+        let kinds = [(&mut self.books, other.books), (&mut self.calls, other.calls), (&mut self.again.counts, other.again.counts)];
+        for (sum, counts) in kinds {
             counts.into_iter().for_each(|(number, count)| *sum.entry(number).or_default() += count);
         }
     }
@@ -110,7 +117,8 @@ impl Lasting {
         let accepted = |counts: &BTreeMap<u64, u64>| counts.get(&ACCEPTED).copied().unwrap_or(0);
         let (books, calls) = (accepted(&self.books), accepted(&self.calls));
         println!("in the lasting way, {what}: {} inputs ({books} books and {calls} calls accepted)", self.inputs);
-        for (what, counts) in [("books", &self.books), ("calls", &self.calls)] {
+        let kinds = [("books", &self.books), ("calls", &self.calls), ("calls made again at once", &self.again.counts)];
+        for (what, counts) in kinds {
             println!("  {what} by number: {}", by_number(counts));
         }
     }
@@ -123,6 +131,7 @@ fn by_number(counts: &BTreeMap<u64, u64>) -> String {
 impl Watch for Tally {
     fn book(&mut self, number: u64) {
         *self.books.entry(number).or_default() += 1;
+        self.again.book();
     }
 
     fn call(&mut self, call: &Call, number: u64, _: &Monitor) {
@@ -130,6 +139,7 @@ impl Watch for Tally {
         if matches!(call, Call::Stamped(..)) {
             *self.stamped.entry(number).or_default() += 1;
         }
+        self.again.call(call, number);
     }
 
     fn stop(&mut self, number: u64) {
@@ -152,7 +162,14 @@ impl Tally {
             all(&self.calls),
             self.accepted()
         );
-        for (what, counts) in [("books", &self.books), ("calls", &self.calls), ("stamped calls", &self.stamped), ("stops", &self.stops)] {
+        let kinds = [
+            ("books", &self.books),
+            ("calls", &self.calls),
+            ("stamped calls", &self.stamped),
+            ("calls made again at once", &self.again.counts),
+            ("stops", &self.stops),
+        ];
+        for (what, counts) in kinds {
             println!("{what} by number: {}", by_number(counts));
         }
         println!("books that strict loading refuses with 15: {}", self.over);
