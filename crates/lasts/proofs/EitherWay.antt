@@ -1,24 +1,50 @@
 -- What is proved of either way, in one statement each: in the ordinary way of any ordered book, in the lasting way of one that it takes. Assumes nothing.
-use Prim.Native.Nat.{ℕ}
-use mathlib.Core.Path.{_≡_, refl}
+use Prim.Native.Nat.{ℕ, _≤_}
+use mathlib.Core.Path.{_≡_, refl, ap}
 use mathlib.Core.Logic.{_↔_}
 use mathlib.Core.Bool.{Bool, true, not}
 use mathlib.Core.List.{List, _++_}
+use Rattle.numset.specs.Runs.{has}
 use Rattle.pmtl.specs.Answer.{known}
-use Rattle.pmtl.specs.Book.{Range, Rows, rowAt}
+use Rattle.pmtl.specs.Book.{Range, mapRow, Rows, rowAt}
 use Rattle.pmtl.specs.Book.Row.{historically, once, since}
 use Rattle.pmtl.specs.Sets.{Way, ordinary, lasting}
-use Rattle.pmtl.specs.Monitor.{value}
+use Rattle.pmtl.specs.Monitor.{setAt, fullest, value}
+use Rattle.pmtl.specs.Early.{early}
 use Rattle.pmtl.specs.Settled.{settled}
 use Rattle.pmtl.specs.Calls.{Call, call, afterIn}
-use Rattle.pmtl.specs.Meaning.{meaning}
-use Rattle.pmtl.specs.Past.{held, SomeCall, SinceCall}
+use Rattle.pmtl.specs.Meaning.{instants, meaning}
+use Rattle.pmtl.specs.Past.{run, held, SomeCall, SinceCall}
 use Rattle.pmtl.specs.Strict.{Strict}
+use Rattle.pmtl.proofs.Calls.{trail}
 use Rattle.pmtl.proofs.Theorems as plain
 use Rattle.pmtl.proofs.Strict as strictly
 use Rattle.lasts.specs.Flat.{Fit}
 use Rattle.lasts.specs.Lasting.{historyIn}
 use Rattle.lasts.proofs.Theorems as lasts
+
+-- THE DEFINITION of the way: answers and count are those of the ordinary monitor on its history
+pub value-is : (way : Way) (b : Rows) → Fit way b → (calls : List Call) (r : ℕ) → value b (afterIn way b calls) r ≡ value b (run b (historyIn way b calls)) r
+value-is ordinary b fit calls r = ap (λ st. value b st r) (trail b calls .is)
+value-is lasting b fit calls r = lasts.value-is b (fit .taken refl) calls r
+
+pub early-is : (way : Way) (b : Rows) → Fit way b → (calls : List Call) (r : ℕ) → early b (afterIn way b calls) r ≡ early b (run b (historyIn way b calls)) r
+early-is ordinary b fit calls r = ap (λ st. early b st r) (trail b calls .is)
+early-is lasting b fit calls r = lasts.early-is b (fit .taken refl) calls r
+
+pub settled-is : (way : Way) (b : Rows) → Fit way b → (calls : List Call) (r : ℕ) → settled b (afterIn way b calls) r ≡ settled b (run b (historyIn way b calls)) r
+settled-is ordinary b fit calls r = ap (λ st. settled b st r) (trail b calls .is)
+settled-is lasting b fit calls r = lasts.settled-is b (fit .taken refl) calls r
+
+pub count-is : (way : Way) (b : Rows) → Fit way b → (calls : List Call) → fullest (afterIn way b calls) ≡ fullest (run b (historyIn way b calls))
+count-is ordinary b fit calls = ap fullest (trail b calls .is)
+count-is lasting b fit calls = lasts.count-is b (fit .taken refl) calls
+
+-- each set has, from the clock on, the instants that REFERENCE 3.5 defines from that history
+pub sets-are-instants : (way : Way) (b : Rows) → Fit way b → (calls : List Call) (r t : ℕ) → afterIn way b calls .now .clock ≤ t
+    → has (setAt (afterIn way b calls) r) t ≡ instants (mapRow (meaning b) (rowAt b r)) (historyIn way b calls) t
+sets-are-instants ordinary b fit calls r t = plain.sets-are-instants b (fit .ordered) calls r t
+sets-are-instants lasting b fit calls r t = lasts.sets-are-instants b (fit .taken refl) calls r t
 
 -- DEMAND 2: a row's value is what the row means on the history of the way
 pub demand-2 : (way : Way) (b : Rows) → Fit way b → (calls : List Call) (r : ℕ) → value b (afterIn way b calls) r ≡ meaning b r (historyIn way b calls)

@@ -1,26 +1,27 @@
 -- What loading, in each of its ways, and the calls promise over any list of calls: the memory holds the definitions' monitor after those calls, so
 -- that the demands hold of the answers that the code hands back. The history is that of the way of monitoring: of the accepted calls, or with a
 -- time call put in at every instant between. Nothing is assumed.
-use Prim.Native.Nat.{ℕ}
+use Prim.Native.Nat.{ℕ, _≤_}
 use mathlib.Core.Path.{_≡_, refl, sym, ap, ap₂, _∙_}
 use mathlib.Core.Logic.{_↔_}
 use mathlib.Core.Bool.{Bool, true, not}
 use mathlib.Core.List.{List, _∷_, _++_}
 use Rattle.numbers.specs.Refusals.{ACCEPTED}
+use Rattle.numset.specs.Runs.{has}
 use Rattle.pmtl.specs.Answer.{known}
-use Rattle.pmtl.specs.Book.{Range, Book, rowAt}
+use Rattle.pmtl.specs.Book.{Range, mapRow, Book, rowAt}
 use Rattle.pmtl.specs.Book.Row.{historically, once, since}
-use Rattle.pmtl.specs.Monitor.{State, fullest, value}
+use Rattle.pmtl.specs.Monitor.{State, setAt, fullest, value}
 use Rattle.pmtl.specs.Early.{early}
 use Rattle.pmtl.specs.Settled.{settled}
 use Rattle.pmtl.specs.Calls.{Call, Outcome, call, afterIn}
 use Rattle.pmtl.specs.Again.{unchanged}
-use Rattle.pmtl.specs.Meaning.{meaning}
-use Rattle.pmtl.specs.Past.{held, SomeCall, SinceCall}
+use Rattle.pmtl.specs.Meaning.{instants, meaning}
+use Rattle.pmtl.specs.Past.{run, held, SomeCall, SinceCall}
 use Rattle.pmtl.proofs.Doubled.{doubled as doubled-call}
 use Rattle.lasts.specs.Lasting.{historyIn}
 use Rattle.lasts.proofs.Loaded.{words-fit}
-use Rattle.lasts.proofs.EitherWay.{demand-2 as means, demand-3 as stays, once-holds as once-means, historically-holds as historically-means, since-holds as since-means, never-eleven as strict-never}
+use Rattle.lasts.proofs.EitherWay.{value-is as value-in, early-is as early-in, settled-is as settled-in, count-is as count-in, sets-are-instants as sets-in, demand-2 as means, demand-3 as stays, once-holds as once-means, historically-holds as historically-means, since-holds as since-means, never-eleven as strict-never}
 use Rattle.memory.specs.Memory.{clockOf, bookOf, stateOf}
 use Rattle.memory.specs.Kept.{Kept}
 use Rattle.memory.proofs.Same.{same-words}
@@ -84,6 +85,33 @@ module _ {way : Loading} {words : List ℕ} {ks : List Call} {m : List ℕ} (mad
   pub settled-is : verdictOf m i .settled ≡ settled (bookSaid way words .rows) (afterIn (wayIn way) (bookSaid way words .rows) ks) (propertyAt (bookSaid way words) i)
   unfolding verdictIn
   settled-is = ap (λ (v : Verdict). v .settled) (made-verdict made i)
+
+-- THE DEFINITION of the way: what is handed back of a property is what the ordinary monitor answers on the history of the way
+pub answers-are : {way : Loading} {words : List ℕ} {ks : List Call} {m : List ℕ} → Made way words ks m → (i : ℕ)
+    → verdictOf m i ≡ verdictIn (bookSaid way words) (run (bookSaid way words .rows) (historyIn (wayIn way) (bookSaid way words .rows) ks)) i
+unfolding verdictIn
+answers-are {way} {words} {ks} made i =
+    let b : Book = bookSaid way words in
+    let fit = words-fit way words in
+    let r : ℕ = propertyAt b i in
+    made-verdict made i
+    ∙ (λ j. record {
+      value = value-in (wayIn way) (b .rows) fit ks r j;
+      early = early-in (wayIn way) (b .rows) fit ks r j;
+      settled = settled-in (wayIn way) (b .rows) fit ks r j;
+    })
+
+-- so is the count
+pub count-is : {way : Loading} {words : List ℕ} {ks : List Call} {m : List ℕ} → Made way words ks m
+    → fullest (stateOf m) ≡ fullest (run (bookSaid way words .rows) (historyIn (wayIn way) (bookSaid way words .rows) ks))
+count-is {way} {words} {ks} made = ap fullest (made-state made) ∙ count-in (wayIn way) (bookSaid way words .rows) (words-fit way words) ks
+
+-- and each set in the memory has, from its clock on, the instants that REFERENCE 3.5 defines from that history
+pub sets-are-instants : {way : Loading} {words : List ℕ} {ks : List Call} {m : List ℕ} → Made way words ks m → (r t : ℕ) → clockOf m ≤ t
+    → has (setAt (stateOf m) r) t ≡ instants (mapRow (meaning (bookSaid way words .rows)) (rowAt (bookSaid way words .rows) r)) (historyIn (wayIn way) (bookSaid way words .rows) ks) t
+sets-are-instants {way} {words} {ks} made r t h =
+    ap (λ (st : State). has (setAt st r) t) (made-state made)
+    ∙ sets-in (wayIn way) (bookSaid way words .rows) (words-fit way words) ks r t (rw (← made-clock made) h)
 
 -- DEMAND 2: the value handed back of a property is what its row means on the history of the way
 pub demand-2 : {way : Loading} {words : List ℕ} {ks : List Call} {m : List ℕ} → Made way words ks m → (i : ℕ)
