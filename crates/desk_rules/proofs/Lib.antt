@@ -7,3 +7,4 @@ pub mod Opened
 pub mod Scanned
 pub mod Settling
 pub mod Theorems
+pub mod Loaded
