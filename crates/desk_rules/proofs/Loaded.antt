@@ -64,7 +64,7 @@ unfolding trees entries allRows rowWordsFrom
 rows-said k [] = refl
 rows-said k (w ∷ ws) = rw (kit-entries (7 * k) k w ws, next k, rows-said (suc k) ws)
 
-operands-said : (k : ℕ) (ws : List ℕ) → allOperands (entries (7 * k) (trees k ws)) ≡ operandsFrom k ws
+operands-said : (k : ℕ) (ws : List ℕ) → allOperands (entries (7 * k) (trees k ws)) ≡ operandsFrom k (length ws)
 unfolding trees entries allOperands operandsFrom
 operands-said k [] = refl
 operands-said k (w ∷ ws) = rw (kit-entries (7 * k) k w ws, next k, operands-said (suc k) ws)
@@ -74,7 +74,7 @@ unfolding trees entries rowWith rowsFrom
 book-rows k [] = refl
 book-rows k (w ∷ ws) = rw (kit-entries (7 * k) k w ws, next k, book-rows (suc k) ws)
 
-guarantees-said : (k : ℕ) (ws : List ℕ) → roots (7 * k) (trees k ws) ≡ guaranteesFrom k ws
+guarantees-said : (k : ℕ) (ws : List ℕ) → roots (7 * k) (trees k ws) ≡ guaranteesFrom k (length ws)
 unfolding trees promised roots size guaranteesFrom
 guarantees-said k [] = refl
 guarantees-said k (w ∷ ws) = rw (next k, guarantees-said (suc k) ws)
@@ -95,10 +95,10 @@ unfolding trees promised weight
 trees-temporal k [] = refl
 trees-temporal k (w ∷ ws) = omega (arith, trees-temporal (suc k) ws)
 
-operands-length : (k : ℕ) (ws : List ℕ) → length (operandsFrom k ws) ≡ 6 * length ws
+operands-length : (k n : ℕ) → length (operandsFrom k n) ≡ 6 * n
 unfolding operandsFrom
-operands-length k [] = refl
-operands-length k (w ∷ ws) = omega (arith, operands-length (suc k) ws)
+operands-length k zero = refl
+operands-length k (suc n) = omega (arith, operands-length (suc k) n)
 
 -- ---- nothing is wrong with them
 trees-good : (k : ℕ) (ws : List ℕ) → Good (trees k ws)
@@ -134,7 +134,7 @@ heads-good k (w ∷ ws) few small =
 words-are : (ws : List ℕ) → wordsOf none (trees 0 ws) ≡ bookWords ws
 unfolding wordsOf bookWords _then_ size count roots
 words-are ws =
-    rw (rows-said 0 ws, operands-said 0 ws, trees-size 0 ws, operands-length 0 ws, trees-count 0 ws, guarantees-said 0 ws)
+    rw (rows-said 0 ws, operands-said 0 ws, trees-size 0 ws, operands-length 0 (length ws), trees-count 0 ws, guarantees-said 0 ws)
 
 book-is : (ws : List ℕ) → bookOf none (trees 0 ws) ≡ deskBook ws
 unfolding bookOf treeRows _then_ size roots

@@ -1,5 +1,5 @@
 -- The words of a desk's book: four sections, each after its count. Definitions only.
-use Prim.Native.Nat.{ℕ, suc, _*_}
+use Prim.Native.Nat.{ℕ, zero, suc, _*_}
 use mathlib.Core.List.{List, [], _∷_, _++_}
 use lib.ListN.{length}
 use Rattle.numbers.specs.Limits.{MAX}
@@ -28,12 +28,20 @@ unfoldable pub rowWordsFrom : ℕ → List ℕ → List ℕ
 rowWordsFrom k [] = []
 rowWordsFrom k (w ∷ ws) = kitWords k w ++ rowWordsFrom (suc k) ws
 
-unfoldable pub operandsFrom : ℕ → List ℕ → List ℕ
-operandsFrom k [] = []
-operandsFrom k (w ∷ ws) = kitOperands k ++ operandsFrom (suc k) ws
+-- of n kits, of which the first is kit k
+unfoldable pub operandsFrom : ℕ → ℕ → List ℕ
+operandsFrom k zero = []
+operandsFrom k (suc n) = kitOperands k ++ operandsFrom (suc k) n
 
--- rows, operands, no assumes, guarantees
+-- the sections: rows, operands, no assumes and then guarantees
+abbrev pub rowsSection : List ℕ → List ℕ
+rowsSection ws = KIT-ROWS * length ws ∷ rowWordsFrom 0 ws
+
+abbrev pub operandsSection : ℕ → List ℕ
+operandsSection n = KIT-OPERANDS * n ∷ operandsFrom 0 n
+
+abbrev pub propertySections : ℕ → List ℕ
+propertySections n = 0 ∷ n ∷ guaranteesFrom 0 n
+
 unfoldable pub bookWords : List ℕ → List ℕ
-bookWords ws =
-    (KIT-ROWS * length ws ∷ rowWordsFrom 0 ws)
-    ++ ((KIT-OPERANDS * length ws ∷ operandsFrom 0 ws) ++ ((0 ∷ []) ++ (length ws ∷ guaranteesFrom 0 ws)))
+bookWords ws = rowsSection ws ++ (operandsSection (length ws) ++ propertySections (length ws))

@@ -1,6 +1,6 @@
 -- The book of a desk: one guarantee for each kit. Definitions only.
-use Prim.Native.Nat.{ℕ, suc, _+_, _*_}
-use mathlib.Core.List.{List, [], _∷_, _++_}
+use Prim.Native.Nat.{ℕ, zero, suc, _+_, _*_}
+use mathlib.Core.List.{List, [], _∷_}
 use lib.ListN.{length}
 use Rattle.numbers.specs.Limits.{MAX}
 use Rattle.pmtl.specs.Book.{Range, Rows, Book}
@@ -58,12 +58,13 @@ rowsFrom k (w ∷ ws) = kitRows k w (rowsFrom (suc k) ws)
 abbrev pub guarantee : ℕ → ℕ
 guarantee k = rowOf k 6
 
-unfoldable pub guaranteesFrom : ℕ → List ℕ → List ℕ
-guaranteesFrom k [] = []
-guaranteesFrom k (w ∷ ws) = guarantee k ∷ guaranteesFrom (suc k) ws
+-- those of n kits, of which the first is kit k
+unfoldable pub guaranteesFrom : ℕ → ℕ → List ℕ
+guaranteesFrom k zero = []
+guaranteesFrom k (suc n) = guarantee k ∷ guaranteesFrom (suc k) n
 
 abbrev pub deskRows : List ℕ → Rows
 deskRows ws = rowsFrom 0 ws
 
 abbrev pub deskBook : List ℕ → Book
-deskBook ws = record { rows = deskRows ws; assumes = []; guarantees = guaranteesFrom 0 ws }
+deskBook ws = record { rows = deskRows ws; assumes = []; guarantees = guaranteesFrom 0 (length ws) }

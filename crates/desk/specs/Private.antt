@@ -1,0 +1,20 @@
+-- What the desk's own functions owe each other. Definitions only.
+use Prim.Native.Nat.{ℕ, _+_, _*_, _≤_}
+use mathlib.Core.Path.{_≡_}
+use mathlib.Core.List.{List}
+use lib.ListN.{length, take}
+use Rattle.numbers.specs.Limits.{ROW-WORDS, MOST-KITS}
+use Rattle.desk_rules.specs.Rows.{KIT-ROWS, KIT-OPERANDS}
+use Rattle.desk_rules.specs.BookWords.{bookWords}
+
+-- how many words the rows of a kit have, and the most words of a book
+abbrev pub KIT-ROW-WORDS : ℕ
+KIT-ROW-WORDS = ROW-WORDS * KIT-ROWS
+
+abbrev pub MOST-BOOK-WORDS : ℕ
+MOST-BOOK-WORDS = (KIT-ROW-WORDS + KIT-OPERANDS + 1) * MOST-KITS + 4
+
+-- the words of the book of kits with these windows stand in the memory up to `end`
+pub record BookPut (ws m : List ℕ) (end : ℕ) : Type 0 where
+  pub inside : end ≤ length m
+  pub are : take end m ≡ bookWords ws
