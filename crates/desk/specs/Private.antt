@@ -4,7 +4,11 @@ use mathlib.Core.Path.{_≡_}
 use mathlib.Core.List.{List}
 use lib.ListN.{length, take}
 use Rattle.numbers.specs.Limits.{ROW-WORDS, MOST-KITS}
-use Rattle.desk_rules.specs.Rows.{KIT-ROWS, KIT-OPERANDS}
+use Rattle.pmtl.specs.Monitor.{initial}
+use Rattle.memory.specs.Memory.{bookOf, stateOf}
+use Rattle.memory.specs.Kept.{Kept}
+use Rattle.desk_rules.specs.Scans.{Kit, windows}
+use Rattle.desk_rules.specs.Rows.{KIT-ROWS, KIT-OPERANDS, deskRows, deskBook}
 use Rattle.desk_rules.specs.BookWords.{bookWords}
 
 -- how many words the rows of a kit have, and the most words of a book
@@ -18,3 +22,9 @@ MOST-BOOK-WORDS = (KIT-ROW-WORDS + KIT-OPERANDS + 1) * MOST-KITS + 4
 pub record BookPut (ws m : List ℕ) (end : ℕ) : Type 0 where
   pub inside : end ≤ length m
   pub are : take end m ≡ bookWords ws
+
+-- the memory holds a fresh monitor of the book of a desk of kits
+pub record SetUp (kits : List Kit) (m : List ℕ) : Type 0 where
+  pub book : bookOf m ≡ deskBook (windows kits)
+  pub state : stateOf m ≡ initial (deskRows (windows kits))
+  pub kept : Kept m

@@ -23,12 +23,11 @@ use Rattle.trees.specs.Building.{allRows, allOperands, wordsOf}
 use Rattle.trees.proofs.Sums.{weight}
 use Rattle.trees.proofs.Judged.{HeadsGood, temporalHead, words-accepted}
 use Rattle.trees.proofs.Words.{loaded-words}
-use Rattle.desk_rules.specs.Scans.{Kit, noKit, windowOf, windows}
+use Rattle.desk_rules.specs.Scans.{Kit, noKit, windowOf, windows, Fine}
 use Rattle.desk_rules.specs.Rows.{PROMISE, HANDOUT, RETURN, atomOf, rowOf, rowsFrom, guaranteesFrom, deskBook}
 use Rattle.desk_rules.specs.BookWords.{rowWordsFrom, operandsFrom, bookWords}
 use Rattle.desk_rules.proofs.Rows.{desk-strict}
 use Rattle.desk_rules.proofs.Places.{windows-length}
-use Rattle.desk_rules.proofs.Opened.{Fine}
 
 -- ---- the guarantees as trees, of kits with these windows, of which the first is kit k
 promised : ℕ → ℕ → Forest

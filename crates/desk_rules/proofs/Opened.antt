@@ -6,19 +6,13 @@ use mathlib.Core.Bool.{Bool, true, false, cond, _||_}
 use mathlib.Core.List.{List, [], _∷_}
 use lib.ListN.{length}
 use lib.Dec.{eqb, ltb}
-use borrow.Author.Tests.{eqb-true, ltb-false}
+use borrow.Author.Tests.{eqb-true, eq-eqb, ne-eqb, ltb-false}
 use Rattle.numbers.specs.Limits.{LAST-TIME, MOST-KITS}
 use Rattle.numbers.specs.Refusals.{WINDOW-TOO-LONG, ACCEPTED}
 use Rattle.pmtl.specs.Book.{some}
 use Rattle.pmtl.proofs.Calls.{first-zero}
-use Rattle.desk_rules.specs.Scans.{Kit, kitAt, codes, windows, repeats, openNumber, deskOf}
+use Rattle.desk_rules.specs.Scans.{Kit, kitAt, codes, windows, repeats, openNumber, deskOf, Fine}
 use Rattle.desk_rules.proofs.Places.{or-fails-left, or-fails-right}
-
--- few kits, no barcode given twice, no window above the last time
-pub record Fine (kits : List Kit) : Type 0 where
-  pub few : length kits ≤ MOST-KITS
-  pub apart : repeats (codes kits) ≡ false
-  pub small : (k : ℕ) → kitAt kits k .window ≤ LAST-TIME
 
 all-small : (kits : List Kit) → some (ltb LAST-TIME) (windows kits) ≡ false → (k : ℕ) → kitAt kits k .window ≤ LAST-TIME
 unfolding some
@@ -41,9 +35,18 @@ accepted-fine kits e =
       small = all-small kits (q .0);
     }
 
-none-fine : Fine []
+pub none-fine : Fine []
 unfolding repeats
 none-fine = record { few = omega arith; apart = refl; small = λ k. omega arith }
+
+-- the desk of kits: none where they are refused, else these
+pub refused-desk : (kits : List Kit) → ¬ (openNumber kits ≡ 0) → deskOf kits ≡ []
+unfolding deskOf
+refused-desk kits n = rw (ne-eqb (openNumber kits) 0 n)
+
+pub accepted-desk : (kits : List Kit) → openNumber kits ≡ 0 → deskOf kits ≡ kits
+unfolding deskOf
+accepted-desk kits e = rw (eq-eqb (openNumber kits) 0 e)
 
 -- whatever the kits
 pub desk-fine : (kits : List Kit) → Fine (deskOf kits)

@@ -17,12 +17,11 @@ use Rattle.pmtl.specs.Strict.{Strict}
 use Rattle.pmtl.proofs.History.{now-run}
 use Rattle.pmtl.proofs.Calls.{first-zero, trail}
 use Rattle.pmtl.proofs.Strict.{never-eleven}
-use Rattle.desk_rules.specs.Scans.{Kit, Scan, codes, windows, lastHour, scanNumber, taken}
+use Rattle.desk_rules.specs.Scans.{Kit, Scan, codes, windows, lastHour, scanNumber, taken, Fine}
 use Rattle.desk_rules.specs.Rows.{deskRows}
-use Rattle.desk_rules.specs.Desk.{placeOf, clear, oneOn, orAsBefore, cleared, pulse, scannedIn, scanned, deskAfter}
+use Rattle.desk_rules.specs.Desk.{placeOf, clear, oneOn, orAsBefore, cleared, pulse, scannedAt, scanned, deskAfter}
 use Rattle.desk_rules.proofs.Rows.{desk-ordered, desk-strict}
 use Rattle.desk_rules.proofs.Places.{place-in}
-use Rattle.desk_rules.proofs.Opened.{Fine}
 use Rattle.desk_rules.proofs.Past.{width, stateOf, past, Timely, last-is, fine-scan, fine-none}
 
 abbrev numberOf : Outcome → ℕ
@@ -78,12 +77,12 @@ stays-taken : (old : State) (o : Outcome) → o .number ≡ 0 → orAsBefore old
 unfolding orAsBefore
 stays-taken old o h = rw (eq-eqb (o .number) 0 h, orAsBefore) (ap (λ n. record { number = n; state = o .state }) h)
 
-both-cleared : (b : Rows) (n : ℕ) (old : State) (o : Outcome) → o .number ≡ 0 → call b (o .state) (state (clear n)) .number ≡ 0
+pub both-cleared : (b : Rows) (n : ℕ) (old : State) (o : Outcome) → o .number ≡ 0 → call b (o .state) (state (clear n)) .number ≡ 0
     → cleared b n old o ≡ record { number = 0; state = call b (o .state) (state (clear n)) .state }
 unfolding cleared
 both-cleared b n old o h g = rw (eq-eqb (o .number) 0 h, cleared) (stays-taken old (call b (o .state) (state (clear n))) g)
 
-neither-cleared : (b : Rows) (n : ℕ) (old : State) (o : Outcome) → ¬ (o .number ≡ 0) → cleared b n old o ≡ record { number = o .number; state = old }
+pub neither-cleared : (b : Rows) (n : ℕ) (old : State) (o : Outcome) → ¬ (o .number ≡ 0) → cleared b n old o ≡ record { number = o .number; state = old }
 unfolding cleared
 neither-cleared b n old o h = rw (ne-eqb (o .number) 0 h, cleared)
 
@@ -176,7 +175,7 @@ module _ (kits : List Kit) (fine : Fine kits) where
     scanIf false = record { number = UNKNOWN-BARCODE; state = st }
 
     pub scan-is : scanned kits st e ≡ record { number = scanNumber kits es e; state = after b (callsOf (cond (eqb (scanNumber kits es e) 0) (e ∷ es) es)) }
-    unfolding scannedIn scanNumber scanIf
+    unfolding scannedAt scanNumber scanIf
     scan-is = ap scanIf (place-in (e .barcode) (codes kits)) ∙ go (some (eqb (e .barcode)) (codes kits))
       where
         go : (z : Bool) → scanIf z ≡ record { number = cond z (hourNumber es e) UNKNOWN-BARCODE; state = after b (callsOf (cond (eqb (cond z (hourNumber es e) UNKNOWN-BARCODE) 0) (e ∷ es) es)) }

@@ -21,11 +21,10 @@ use Rattle.pmtl.specs.Settled.{settledTrue, settledFalse, settledRule, settled}
 use Rattle.pmtl.proofs.Answers.{settled-before, settled-fix, step-begun}
 use Rattle.pmtl.proofs.History.{now-run}
 use Rattle.pmtl.proofs.Theorems.{after-is, sets-are-instants, demand-2, covers-is}
-use Rattle.desk_rules.specs.Scans.{Kit, kitAt, Scan, windows, stopped, lastHour}
+use Rattle.desk_rules.specs.Scans.{Kit, kitAt, Scan, windows, stopped, lastHour, Fine}
 use Rattle.desk_rules.specs.Rows.{rowOf, kitRows, deskRows, guarantee}
 use Rattle.desk_rules.proofs.Rows.{desk-ordered, desk-length, rest, row-is}
 use Rattle.desk_rules.proofs.Places.{windows-length}
-use Rattle.desk_rules.proofs.Opened.{Fine}
 use Rattle.desk_rules.proofs.Past.{past, Timely, last-is, last-small}
 use Rattle.desk_rules.proofs.Means.{instants-are, guarantee-means, stopped-is}
 use Rattle.desk_rules.proofs.Scanned.{callsOf, calls-leave}

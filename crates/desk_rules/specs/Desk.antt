@@ -38,12 +38,16 @@ cleared b width old o = elim (eqb (o .number) ACCEPTED) [
 unfoldable pub pulse : Rows → ℕ → State → ℕ → ℕ → Outcome
 pulse b width st t i = cleared b width st (call b st (stamped t (oneOn width i)))
 
--- a scan where these are the barcodes of the rows' atoms, in order: refused if the barcode is none of them, else its atom goes on and off
-unfoldable pub scannedIn : Rows → List ℕ → State → Scan → Outcome
-scannedIn b cs st e = elim (ltb (placeOf (e .barcode) cs) (length cs)) [
-  | true ↦ pulse b (length cs) st (e .hour) (placeOf (e .barcode) cs)
+-- a scan of the barcode at a place among so many: refused if the place is after them, else its atom goes on and off
+unfoldable pub scannedAt : Rows → ℕ → State → ℕ → ℕ → Outcome
+scannedAt b width st t place = elim (ltb place width) [
+  | true ↦ pulse b width st t place
   | false ↦ record { number = UNKNOWN-BARCODE; state = st }
 ]
+
+-- a scan where these are the barcodes of the rows' atoms, in order
+abbrev pub scannedIn : Rows → List ℕ → State → Scan → Outcome
+scannedIn b cs st e = scannedAt b (length cs) st (e .hour) (placeOf (e .barcode) cs)
 
 -- a scan at a desk of kits
 abbrev pub scanned : List Kit → State → Scan → Outcome

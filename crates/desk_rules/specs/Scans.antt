@@ -1,5 +1,6 @@
 -- The kit desk in its own terms: kits, scans of barcodes, and when a kit is stopped. Definitions only.
-use Prim.Native.Nat.{ℕ, _+_}
+use Prim.Native.Nat.{ℕ, _+_, _≤_}
+use mathlib.Core.Path.{_≡_}
 use mathlib.Core.Bool.{Bool, true, false, cond, not, _&&_, _||_}
 use mathlib.Core.List.{List, [], _∷_, map}
 use lib.ListN.{length, getD}
@@ -57,6 +58,12 @@ openNumber kits =
 -- the desk of these kits: a refused one has no kit
 unfoldable pub deskOf : List Kit → List Kit
 deskOf kits = cond (eqb (openNumber kits) ACCEPTED) kits []
+
+-- so of every desk: few kits, no barcode given twice, no window above the last time
+pub record Fine (kits : List Kit) : Type 0 where
+  pub few : length kits ≤ MOST-KITS
+  pub apart : repeats (codes kits) ≡ false
+  pub small : (k : ℕ) → kitAt kits k .window ≤ LAST-TIME
 
 -- ---- lists of scans, the newest first
 -- at the hour t the kit is promised: a promise was scanned, at most its window ago, and no return after it
