@@ -12,7 +12,7 @@ use Rattle.lists.proofs.Tests.{clash, fails-by, and-left, and-right, and-intro,
 use Rattle.desk_rules.specs.Scans.{Kit, Scan, reads, promised, stopped}
 use Rattle.desk_rules.specs.Words.{Ago, Promised, Stopped}
 
-reads-is : (c : ℕ) (e : Scan) → reads c e ≡ true → e .barcode ≡ c
+pub reads-is : (c : ℕ) (e : Scan) → reads c e ≡ true → e .barcode ≡ c
 unfolding reads
 reads-is c e h = eqb-true (e .barcode) c h
 

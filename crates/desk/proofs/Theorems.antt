@@ -1,0 +1,101 @@
+-- What opening a desk and scanning at it promise, over any kits and any list of scans, the newest first, refused ones among them: the statement of the
+-- desk, in its own terms, of the answers and slips that the code hands back. `deskOf kits` is the desk: where the kits are refused it has none.
+-- Nothing is assumed.
+use Prim.Native.Nat.{ℕ, zero, suc, _+_, _*_, _/_, _≤_, _<_}
+use native.Mathlib.Omega.{arith}
+use mathlib.Core.Path.{_≡_, refl, sym, ap, _∙_}
+use mathlib.Core.Logic.{_↔_, _⊎_, inl, inr, ⊎-elim}
+use mathlib.Core.Bool.{Bool, true, false, cond, not, _&&_, _||_, false≢true}
+use mathlib.Core.List.{List, [], _∷_, _++_}
+use lib.ListN.{length, getD}
+use lib.Dec.{eqb}
+use borrow.Author.Tests.{eqb-true, not-false}
+use Rattle.lists.proofs.Tests.{either, lt-or-ge, clash, fails-by, and-left, or-right, or-elim, not-no}
+use Rattle.pmtl.specs.declared.Answer.{Answer}
+use Rattle.pmtl.specs.declared.Answer.the-variants.{False, True, Open}
+use Rattle.pmtl.specs.Answer.{isFalse}
+use Rattle.pmtl.specs.Book.{Book}
+use Rattle.pmtl.specs.Monitor.{State, value}
+use Rattle.pmtl.specs.Settled.{settled}
+use Rattle.pmtl.specs.Calls.{Outcome}
+use Rattle.pmtl.proofs.Answers.{settled-out}
+use Rattle.memory.specs.Memory.{bookOf, stateOf}
+use Rattle.memory.specs.Kept.{Kept}
+use Rattle.memory.proofs.Same.{same-words}
+use Rattle.property_answers.specs.declared.Verdict.{Verdict}
+use Rattle.property_answers.specs.Verdict.{propertyAt, verdictIn, verdictOf}
+use Rattle.desk_rules.specs.Scans.{Kit, kitAt, Scan, reads, codes, windows, deskOf, promised, stopped, scanNumber, taken}
+use Rattle.desk_rules.specs.Words.{Stopped}
+use Rattle.desk_rules.specs.Rows.{atomOf, HANDOUT, deskRows, guarantee, guaranteesFrom, deskBook}
+use Rattle.desk_rules.specs.Desk.{placeOf, scanned, deskAfter}
+use Rattle.desk_rules.proofs.Words.{stopped-iff}
+use Rattle.desk_rules.proofs.Places.{windows-length, codes-length, handout-place}
+use Rattle.desk_rules.proofs.Rows.{desk-length}
+use Rattle.desk_rules.proofs.Opened.{desk-fine}
+use Rattle.desk_rules.proofs.Theorems.{value-in-desk-terms, settled-in-desk-terms, Few, few-numbers, scan-number as number-in-desk-terms}
+use Rattle.desk.specs.declared.Slip.{Slip}
+use Rattle.desk.specs.declared.Slip.the-variants.{Quiet, Stop}
+use Rattle.desk.specs.declared.Scanned.{Scanned}
+use Rattle.desk.specs.Standing.{codesIn, After, Stands, Opens, Leaves, slipFor, kitOf, Scans}
+use Rattle.desk.specs.Made.{Made}
+use Rattle.desk.specs.Made.Made.{opens, scans}
+use Rattle.desk.proofs.Standing.{after-codes}
+use Rattle.desk.proofs.Holding.{made-after, value-is, settled-is}
+
+-- a further scan may be made
+pub made-stands : {kits : List Kit} {es : List Scan} {table m : List ℕ} → Made kits es table m → Stands table m
+made-stands {kits} {es} made = record { kits = kits; scans = es; after = made-after made }
+
+module _ {kits : List Kit} {es : List Scan} {table m : List ℕ} (made : Made kits es table m) where
+  abbrev desk : List Kit
+  desk = deskOf kits
+
+  -- ---- a kit's answers
+  module _ (k : ℕ) (l : k < length desk) where
+    -- THE STATEMENT: the value handed back of a kit is false exactly if at some accepted scan so far its handout was scanned, and no promise of it existed
+    -- before that scan, within the window, with no return of it scanned after the promise
+    pub false-exactly-if : (verdictOf m k .value ≡ false) ↔ Stopped (kitAt desk k) (taken desk es)
+    false-exactly-if =
+        let x = stopped (kitAt desk k) (taken desk es) in
+        let s = stopped-iff (kitAt desk k) (taken desk es) in
+        (λ h. s .0 (not-false x (sym (value-is made k l) ∙ h)), λ h. value-is made k l ∙ not-no x (s .1 h))
+
+    -- so is the settled answer
+    pub settled-false-exactly-if : (verdictOf m k .settled ≡ False) ↔ Stopped (kitAt desk k) (taken desk es)
+    settled-false-exactly-if =
+        let s = stopped-iff (kitAt desk k) (taken desk es) in
+        (λ h. s .0 (told (stopped (kitAt desk k) (taken desk es)) (sym (settled-is made k l) ∙ h)), λ h. settled-is made k l ∙ rw (s .1 h))
+      where
+        told : (z : Bool) → cond z False Open ≡ False → z ≡ true
+        told true e = refl
+        told false e = let y : _≡_ {A = ℕ} 0 1 = cc in absurd (omega arith)
+
+    -- else the value is true and the settled answer open
+    pub else-open : ¬ Stopped (kitAt desk k) (taken desk es) → (verdictOf m k .value ≡ true) × (verdictOf m k .settled ≡ Open)
+    else-open n =
+        let x = kitAt desk k in
+        let e : stopped x (taken desk es) ≡ false = fails-by (stopped x (taken desk es)) (λ h. n (stopped-iff x (taken desk es) .0 h)) in
+        (value-is made k l ∙ rw e, settled-is made k l ∙ rw e)
+
+  -- ---- a further scan
+  module _ {e : Scan} {m′ : List ℕ} {r : Scanned} (s : Scans e table m m′ r) where
+    -- it is refused by its barcode and the hours of the accepted scans alone
+    pub scan-number : r .number ≡ scanNumber desk (taken desk es) e
+    scan-number = let a = made-after made in
+        s .leaves .number ∙ rw (a .book, after-codes a, a .state) (number-in-desk-terms kits es e)
+
+    -- with 20, 7 or 8, or not at all
+    pub only-these-numbers : Few (r .number)
+    only-these-numbers = rw (scan-number ∙ sym (number-in-desk-terms kits es e)) (few-numbers kits es e)
+
+    -- a refused scan changes nothing
+    pub refused-changes-nothing : ¬ (r .number ≡ 0) → m′ ≡ m
+    refused-changes-nothing = s .leaves .refused
+
+-- ---- what is allowed for one input coincides
+-- kits opened and any list of scans leave one table and one memory
+pub made-unique : {kits : List Kit} {es : List Scan} {table table′ m m′ : List ℕ} → Made kits es table m → Made kits es table′ m′ → (table ≡ table′) × (m ≡ m′)
+made-unique {m = m} {m′} made made′ =
+    let a = made-after made in
+    let b = made-after made′ in
+    (a .barcodes ∙ sym (b .barcodes), same-words m m′ (a .kept) (b .kept) (a .book ∙ sym (b .book)) (a .state ∙ sym (b .state)))
