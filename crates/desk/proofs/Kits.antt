@@ -195,16 +195,12 @@ module _ (m : List ℕ) (n : ℕ) where
   unfolding openNumber
   too-many-kits h = let l = kits-length m n in rw (lt-ltb MOST-KITS (length kits) (omega arith), or-true (eqb (length kits) 0))
 
-  pub twice : (r : Bool) → r ≡ repeats (codes kits) → r ≡ true → _≡_ {A = ℕ} 18 (openNumber kits)
+  pub judged : ¬ (n ≡ 0) → n ≤ MOST-KITS → (twice long : Bool) (r : ℕ) → twice ≡ repeats (codes kits) → long ≡ some (ltb LAST-TIME) (windows kits)
+      → r ≡ cond twice 18 (cond long 19 0) → r ≡ openNumber kits
   unfolding openNumber
-  twice r e t = rw (← e, t, or-true (eqb (length kits) 0 || ltb MOST-KITS (length kits)))
-
-  module _ (some-kit : ¬ (n ≡ 0)) (few : n ≤ MOST-KITS) (r : Bool) (e : r ≡ repeats (codes kits)) (f : r ≡ false) where
-    pub judged-window : (s : Bool) → s ≡ some (ltb LAST-TIME) (windows kits) → (k : ℕ) → k ≡ cond s 19 0 → k ≡ openNumber kits
-    unfolding openNumber
-    judged-window s w k g =
-        let l = kits-length m n in
-        g ∙ rw (ne-eqb (length kits) 0 (λ z. some-kit (omega arith)), le-ltb MOST-KITS (length kits) (omega arith), ← e, f, w)
+  judged some-kit few twice long r e f g =
+      let l = kits-length m n in
+      g ∙ rw (ne-eqb (length kits) 0 (λ z. some-kit (omega arith)), le-ltb MOST-KITS (length kits) (omega arith), e, f)
 
 -- ---- how long parts are
 pub part-long : (m xs : List ℕ) (a n : ℕ) → xs ≡ part a n m → a + n ≤ length m → length xs ≡ n

@@ -1,11 +1,12 @@
 // Kits as they are given, in words, and what is wrong with them.
 ghost use mathlib.Core.Path.{_≡_};
-ghost use mathlib.Core.Bool.{_||_};
+ghost use mathlib.Core.Bool.{cond, _||_};
 ghost use Prim.Native.Nat.{_+_, _*_, _≤_, _<_};
 ghost use lib.ListN.{length, getD, drop};
 ghost use lib.Seq.{sets};
 ghost use lib.Dec.{ltb, eqb};
 ghost use Rattle.numbers.specs.Limits.{LAST-TIME, MOST-KITS};
+ghost use Rattle.numbers.specs.Refusals.{ACCEPTED, WRONG-KITS, WINDOW-TOO-LONG};
 ghost use Rattle.pmtl.specs.Book.{some};
 ghost use Rattle.desk_rules.specs.Scans.{codes, windows, repeats, openNumber};
 ghost use Rattle.desk_rules.specs.Rows.{KIT-ATOMS};
@@ -122,6 +123,19 @@ fn any_too_long(kits: &[u64; MOST_KIT_WORDS], count: usize) -> bool
     too_long
 }
 
+// What is wrong with kits that are neither none nor too many: a barcode given twice, before a window that is too long.
+fn number_by(twice: bool, long: bool) -> u64
+    ensures { λ r. ⌜ r ≡ cond twice WRONG-KITS (cond long WINDOW-TOO-LONG ACCEPTED) ⌝ }
+{
+    if twice {
+        return WRONG_KITS;
+    }
+    if long {
+        return WINDOW_TOO_LONG;
+    }
+    ACCEPTED
+}
+
 // What is wrong with a desk of the first kits.
 pub fn judge(kits: &[u64; MOST_KIT_WORDS], count: usize) -> u64
     ensures { λ r. ⌜ r ≡ openNumber (kitsIn (now (kits .entry)) count) ⌝ }
@@ -132,11 +146,5 @@ pub fn judge(kits: &[u64; MOST_KIT_WORDS], count: usize) -> u64
     if MOST_KITS < count {
         return WRONG_KITS;
     }
-    if any_repeated(kits, count) {
-        return WRONG_KITS;
-    }
-    if any_too_long(kits, count) {
-        return WINDOW_TOO_LONG;
-    }
-    ACCEPTED
+    number_by(any_repeated(kits, count), any_too_long(kits, count))
 }
