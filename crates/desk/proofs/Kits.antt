@@ -3,8 +3,8 @@ use Prim.Native.Nat.{ℕ, zero, suc, _+_, _*_, _-_, _≤_, _<_}
 use native.Mathlib.Omega.{arith}
 use mathlib.Core.Path.{_≡_, refl, sym, ap, _∙_}
 use mathlib.Core.Bool.{Bool, true, false, cond, _||_, or-false, or-true}
-use mathlib.Core.List.{List, [], _∷_, _++_, map-append, append-assoc}
-use lib.ListN.{length, getD, set, take, drop, replicate, length-drop, length-replicate}
+use mathlib.Core.List.{List, [], _∷_, _++_, map-append}
+use lib.ListN.{length, getD, set, drop, replicate, length-drop, length-replicate}
 use lib.Seq.{sets, length-sets, drop-cons, drop-length, take-all}
 use lib.Dec.{ltb, eqb}
 use borrow.Author.Tests.{eq-eqb, ne-eqb, le-ltb, lt-ltb}
@@ -15,10 +15,9 @@ use Rattle.lists.proofs.Parts.{part-length, part-is}
 use Rattle.pmtl.specs.Book.{some}
 use Rattle.trees.proofs.Built.{take-sets, copied}
 use Rattle.desk_rules.specs.Scans.{Kit, codes, windowOf, windows, repeats, openNumber}
-use Rattle.desk_rules.specs.Rows.{KIT-ATOMS}
 use Rattle.desk_rules.specs.Desk.{placeOf}
 use Rattle.desk_rules.proofs.Places.{codes-length, place-in}
-use Rattle.desk.specs.Kits.{KIT-WORDS, MOST-KIT-WORDS, MOST-BARCODES, kitIn, kitsIn}
+use Rattle.desk.specs.Kits.{KIT-WORDS, MOST-BARCODES, kitIn, kitsIn}
 
 -- ---- where a barcode stands
 -- it is none of the first i

@@ -1,9 +1,9 @@
 -- When a stop slip prints: at the scan at which the kit is stopped, once, and never again. Assumes nothing.
-use Prim.Native.Nat.{ℕ, suc, _+_, _*_, _/_, _≤_, _<_}
+use Prim.Native.Nat.{ℕ, _/_, _≤_, _<_}
 use native.Mathlib.Omega.{arith}
 use mathlib.Core.Path.{_≡_, refl, sym, ap, _∙_}
 use mathlib.Core.Logic.{_↔_, ⊎-elim}
-use mathlib.Core.Bool.{Bool, true, false, cond, not, _&&_, _||_}
+use mathlib.Core.Bool.{Bool, true, false, cond, not, _&&_}
 use mathlib.Core.List.{List, [], _∷_, _++_}
 use lib.ListN.{length}
 use lib.Dec.{eqb}
@@ -20,10 +20,9 @@ use Rattle.desk_rules.specs.Desk.{placeOf}
 use Rattle.desk_rules.proofs.Words.{reads-is, stopped-iff}
 use Rattle.desk_rules.proofs.Places.{handout-place}
 use Rattle.desk_rules.proofs.Opened.{desk-fine}
-use Rattle.desk.specs.declared.Slip.{Slip}
 use Rattle.desk.specs.declared.Slip.the-variants.{Quiet, Stop}
 use Rattle.desk.specs.declared.Scanned.{Scanned}
-use Rattle.desk.specs.Standing.{codesIn, slipFor, kitOf, Scans}
+use Rattle.desk.specs.Standing.{slipFor, kitOf, Scans}
 use Rattle.desk.specs.Made.{Made}
 use Rattle.desk.specs.Made.Made.{scans}
 use Rattle.desk.proofs.Standing.{after-codes}

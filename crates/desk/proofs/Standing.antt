@@ -1,22 +1,21 @@
 -- Desks that are opened, and what a scan leaves of one. Assumes nothing.
 use Prim.Native.Nat.{ℕ, zero, suc, _+_, _*_, _/_, _≤_, _<_}
 use native.Mathlib.Omega.{arith}
-use mathlib.Core.Path.{_≡_, refl, sym, ap, ap₂, _∙_}
+use mathlib.Core.Path.{_≡_, refl, sym, ap, _∙_}
 use mathlib.Core.Bool.{Bool, true, false, cond}
 use mathlib.Core.List.{List, [], _∷_}
 use lib.ListN.{length, getD, set, take, drop, replicate, length-replicate}
 use lib.Seq.{sets, length-sets, take-nil, take-set-lt, getD-take}
-use lib.Dec.{ltb, eqb}
+use lib.Dec.{eqb}
 use borrow.Author.Tests.{lt-ltb, le-ltb}
 use Rattle.numbers.specs.Limits.{MOST-KITS}
 use Rattle.numbers.specs.Refusals.{ACCEPTED, UNKNOWN-BARCODE}
 use Rattle.lists.specs.Lists.{listed, part}
-use Rattle.lists.proofs.Parts.{part-length}
 use Rattle.pmtl.specs.declared.Answer.{Answer}
 use Rattle.pmtl.specs.Answer.{isFalse}
 use Rattle.pmtl.specs.Book.{Rows, Book}
 use Rattle.pmtl.specs.Monitor.{State, initial}
-use Rattle.pmtl.specs.Calls.{Call, stamped, state, Outcome, call}
+use Rattle.pmtl.specs.Calls.{stamped, state, Outcome, call}
 use Rattle.memory.specs.Memory.{bookOf, stateOf}
 use Rattle.memory.specs.Kept.{Kept}
 use Rattle.book.specs.declared.strict.Loading.the-variants.{Strict}
@@ -27,8 +26,7 @@ use Rattle.calls.specs.Called.{Called}
 use Rattle.trees.proofs.Built.{take-sets}
 use Rattle.desk_rules.specs.Scans.{Kit, Scan, codes, windows, openNumber, deskOf, Fine}
 use Rattle.desk_rules.specs.Rows.{deskRows, deskBook}
-use Rattle.desk_rules.specs.BookWords.{bookWords}
-use Rattle.desk_rules.specs.Desk.{placeOf, clear, oneOn, cleared, pulse, scannedAt, scannedIn, scanned, deskAfter}
+use Rattle.desk_rules.specs.Desk.{placeOf, clear, oneOn, pulse, scannedAt, scannedIn, deskAfter}
 use Rattle.desk_rules.proofs.Places.{codes-length}
 use Rattle.desk_rules.proofs.Opened.{none-fine, accepted-fine, refused-desk, accepted-desk, desk-fine}
 use Rattle.desk_rules.proofs.Loaded.{book-loads-strictly}
@@ -36,10 +34,9 @@ use Rattle.desk_rules.proofs.Scanned.{both-cleared, neither-cleared}
 use Rattle.desk_rules.proofs.Theorems.{clear-accepted}
 use Rattle.property_answers.specs.declared.Verdict.{Verdict}
 use Rattle.property_answers.specs.Verdict.{verdictOf}
-use Rattle.desk.specs.declared.Slip.{Slip}
 use Rattle.desk.specs.declared.Scanned.{Scanned}
 use Rattle.desk.specs.declared.Slip.the-variants.{Quiet, Stop}
-use Rattle.desk.specs.Kits.{MOST-BARCODES, kitIn, kitsIn}
+use Rattle.desk.specs.Kits.{MOST-BARCODES, kitsIn}
 use Rattle.desk.specs.Standing.{TABLE-SIZE, tableOf, codesIn, After, Stands, Opens, Leaves, slipFor, Scans, Ready}
 use Rattle.desk.specs.Private.{BookPut, SetUp}
 use Rattle.desk.proofs.Kits.{kits-length, codes-many}

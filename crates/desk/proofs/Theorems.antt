@@ -1,44 +1,29 @@
 -- What opening a desk and scanning at it promise, over any kits and any list of scans, the newest first, refused ones among them: the statement of the
 -- desk, in its own terms, of the answers and slips that the code hands back. `deskOf kits` is the desk: where the kits are refused it has none.
 -- Nothing is assumed.
-use Prim.Native.Nat.{ℕ, zero, suc, _+_, _*_, _/_, _≤_, _<_}
+use Prim.Native.Nat.{ℕ, _<_}
 use native.Mathlib.Omega.{arith}
-use mathlib.Core.Path.{_≡_, refl, sym, ap, _∙_}
-use mathlib.Core.Logic.{_↔_, _⊎_, inl, inr, ⊎-elim}
-use mathlib.Core.Bool.{Bool, true, false, cond, not, _&&_, _||_, false≢true}
-use mathlib.Core.List.{List, [], _∷_, _++_}
-use lib.ListN.{length, getD}
-use lib.Dec.{eqb}
-use borrow.Author.Tests.{eqb-true, not-false}
-use Rattle.lists.proofs.Tests.{either, lt-or-ge, clash, fails-by, and-left, or-right, or-elim, not-no}
-use Rattle.pmtl.specs.declared.Answer.{Answer}
-use Rattle.pmtl.specs.declared.Answer.the-variants.{False, True, Open}
-use Rattle.pmtl.specs.Answer.{isFalse}
-use Rattle.pmtl.specs.Book.{Book}
-use Rattle.pmtl.specs.Monitor.{State, value}
+use mathlib.Core.Path.{_≡_, refl, sym, _∙_}
+use mathlib.Core.Logic.{_↔_}
+use mathlib.Core.Bool.{Bool, true, false, cond, not}
+use mathlib.Core.List.{List}
+use lib.ListN.{length}
+use borrow.Author.Tests.{not-false}
+use Rattle.lists.proofs.Tests.{fails-by, not-no}
+use Rattle.pmtl.specs.declared.Answer.the-variants.{False, Open}
+use Rattle.pmtl.specs.Monitor.{value}
 use Rattle.pmtl.specs.Settled.{settled}
-use Rattle.pmtl.specs.Calls.{Outcome}
-use Rattle.pmtl.proofs.Answers.{settled-out}
-use Rattle.memory.specs.Memory.{bookOf, stateOf}
-use Rattle.memory.specs.Kept.{Kept}
 use Rattle.memory.proofs.Same.{same-words}
-use Rattle.property_answers.specs.declared.Verdict.{Verdict}
-use Rattle.property_answers.specs.Verdict.{propertyAt, verdictIn, verdictOf}
-use Rattle.desk_rules.specs.Scans.{Kit, kitAt, Scan, reads, codes, windows, deskOf, promised, stopped, scanNumber, taken}
+use Rattle.property_answers.specs.Verdict.{verdictOf}
+use Rattle.desk_rules.specs.Scans.{Kit, kitAt, Scan, deskOf, stopped, scanNumber, taken}
 use Rattle.desk_rules.specs.Words.{Stopped}
-use Rattle.desk_rules.specs.Rows.{atomOf, HANDOUT, deskRows, guarantee, guaranteesFrom, deskBook}
-use Rattle.desk_rules.specs.Desk.{placeOf, scanned, deskAfter}
+use Rattle.desk_rules.specs.Desk.{scanned}
 use Rattle.desk_rules.proofs.Words.{stopped-iff}
-use Rattle.desk_rules.proofs.Places.{windows-length, codes-length, handout-place}
-use Rattle.desk_rules.proofs.Rows.{desk-length}
-use Rattle.desk_rules.proofs.Opened.{desk-fine}
-use Rattle.desk_rules.proofs.Theorems.{value-in-desk-terms, settled-in-desk-terms, Few, few-numbers, scan-number as number-in-desk-terms}
-use Rattle.desk.specs.declared.Slip.{Slip}
-use Rattle.desk.specs.declared.Slip.the-variants.{Quiet, Stop}
+use Rattle.desk_rules.proofs.Theorems.{Few, few-numbers, scan-number as number-in-desk-terms}
 use Rattle.desk.specs.declared.Scanned.{Scanned}
-use Rattle.desk.specs.Standing.{codesIn, After, Stands, Opens, Leaves, slipFor, kitOf, Scans}
+use Rattle.desk.specs.Standing.{Stands, Scans}
 use Rattle.desk.specs.Made.{Made}
-use Rattle.desk.specs.Made.Made.{opens, scans}
+use Rattle.desk.specs.Made.Made.{scans}
 use Rattle.desk.proofs.Standing.{after-codes}
 use Rattle.desk.proofs.Holding.{made-after, value-is, settled-is}
 

@@ -1,9 +1,9 @@
 -- The words of a desk's book, written one part after another. Assumes nothing.
-use Prim.Native.Nat.{ℕ, zero, suc, _+_, _*_, _≤_, _<_}
+use Prim.Native.Nat.{ℕ, zero, suc, _+_, _*_, _≤_}
 use native.Mathlib.Omega.{arith}
 use mathlib.Core.Path.{_≡_, refl, sym, ap, _∙_}
-use mathlib.Core.List.{List, [], _∷_, _++_, append-nil, append-assoc}
-use lib.ListN.{length, getD, set, take, length-append, length-set}
+use mathlib.Core.List.{List, [], _∷_, _++_}
+use lib.ListN.{length, getD, set, take, length-append}
 use lib.Seq.{sets, length-sets}
 use Rattle.lists.specs.Lists.{put, listed}
 use Rattle.trees.proofs.Built.{take-sets}
@@ -12,7 +12,7 @@ use Rattle.desk_rules.specs.Rows.{guarantee, guaranteesFrom}
 use Rattle.desk_rules.specs.BookWords.{kitWords, kitOperands, rowWordsFrom, operandsFrom, rowsSection, operandsSection, propertySections, bookWords}
 use Rattle.desk_rules.proofs.Places.{windows-length}
 use Rattle.desk.specs.Kits.{KIT-WORDS, kitIn, kitsIn}
-use Rattle.desk.specs.Private.{KIT-ROW-WORDS, MOST-BOOK-WORDS, BookPut}
+use Rattle.desk.specs.Private.{MOST-BOOK-WORDS, BookPut}
 use Rattle.desk.proofs.Kits.{kits-length, windows-more, sets-append, copied-more}
 
 -- ---- one more kit

@@ -1,5 +1,5 @@
 -- What a desk's memory holds, and what opening it and scanning at it owe. Definitions only.
-use Prim.Native.Nat.{ℕ, suc, _+_, _/_, _<_, _≤_}
+use Prim.Native.Nat.{ℕ, _+_, _/_, _≤_}
 use mathlib.Core.Path.{_≡_}
 use mathlib.Core.Bool.{cond}
 use mathlib.Core.List.{List, [], _∷_}
@@ -9,7 +9,6 @@ use Rattle.numbers.specs.Refusals.{ACCEPTED}
 use Rattle.lists.specs.Lists.{part}
 use Rattle.pmtl.specs.declared.Answer.{Answer}
 use Rattle.pmtl.specs.Answer.{isFalse}
-use Rattle.pmtl.specs.Monitor.{State}
 use Rattle.pmtl.specs.Calls.{stamped, state, Outcome, call}
 use Rattle.memory.specs.Memory.{bookOf, stateOf}
 use Rattle.memory.specs.Kept.{Kept}

@@ -2,18 +2,16 @@
 use Prim.Native.Nat.{ℕ, zero, suc, _+_, _*_, _≤_, _<_}
 use native.Mathlib.Omega.{arith}
 use native.Mathlib.Nat.{add-assoc}
-use mathlib.Core.Path.{_≡_, refl, sym, ap, ap₂, _∙_}
-use mathlib.Core.Bool.{Bool, true, false, or-true}
-use mathlib.Core.List.{List, [], _∷_, _++_, map}
+use mathlib.Core.Path.{_≡_, refl, ap, ap₂, _∙_}
+use mathlib.Core.Bool.{true, or-true}
+use mathlib.Core.List.{List, [], _∷_, map}
 use lib.ListN.{length, getD, List·getD-map}
-use lib.Dec.{leb, eqb}
+use lib.Dec.{eqb}
 use borrow.Author.Tests.{le-leb}
 use Rattle.numbers.specs.Limits.{MAX, LAST-TIME, MOST-KITS}
 use Rattle.numbers.specs.Refusals.{ACCEPTED}
-use Rattle.pmtl.specs.Book.{Rows, Book}
-use Rattle.book.specs.declared.strict.Loading.{Loading}
 use Rattle.book.specs.declared.strict.Loading.the-variants.{Strict}
-use Rattle.book.specs.Judging.{argGood, formGood, rangeGood, Loaded, loaded}
+use Rattle.book.specs.Judging.{argGood, formGood, rangeGood, loaded}
 use Rattle.book.specs.Strict.{loadedBy}
 use Rattle.book.proofs.Excess.{strict-admitted}
 use Rattle.trees.specs.declared.Word.the-variants.{Atom, Not, Implies, Hist, Since}
@@ -24,7 +22,7 @@ use Rattle.trees.proofs.Sums.{weight}
 use Rattle.trees.proofs.Judged.{HeadsGood, temporalHead, words-accepted}
 use Rattle.trees.proofs.Words.{loaded-words}
 use Rattle.desk_rules.specs.Scans.{Kit, noKit, windowOf, windows, Fine}
-use Rattle.desk_rules.specs.Rows.{PROMISE, HANDOUT, RETURN, atomOf, rowOf, rowsFrom, guaranteesFrom, deskBook}
+use Rattle.desk_rules.specs.Rows.{PROMISE, HANDOUT, RETURN, atomOf, rowsFrom, guaranteesFrom, deskBook}
 use Rattle.desk_rules.specs.BookWords.{rowWordsFrom, operandsFrom, bookWords}
 use Rattle.desk_rules.proofs.Rows.{desk-strict}
 use Rattle.desk_rules.proofs.Places.{windows-length}

@@ -1,12 +1,12 @@
 -- What a kit's guarantee means on the history of the accepted scans: that the kit is not stopped. Assumes nothing.
-use Prim.Native.Nat.{ℕ, _+_, _*_, _≤_, _<_}
+use Prim.Native.Nat.{ℕ, _+_, _≤_, _<_}
 use native.Mathlib.Omega.{arith}
-use mathlib.Core.Path.{_≡_, refl, sym, ap, ap₂, _∙_}
+use mathlib.Core.Path.{_≡_, refl, ap, ap₂, _∙_}
 use mathlib.Core.Bool.{Bool, true, false, not, _&&_, _||_}
 use mathlib.Core.List.{List, [], _∷_}
 use lib.ListN.{length, getD, List·getD-map}
-use lib.Dec.{leb, eqb}
-use borrow.Author.Tests.{eqb-true, ne-eqb, le-leb}
+use lib.Dec.{leb}
+use borrow.Author.Tests.{ne-eqb, le-leb}
 use Rattle.numbers.specs.Limits.{MAX, LAST-TIME}
 use Rattle.pmtl.specs.Book.{stop, inRange, mapRow, Rows, rowAt, Ordered}
 use Rattle.pmtl.specs.Book.Row.{never}
@@ -15,7 +15,6 @@ use Rattle.pmtl.specs.Meaning.{Fact, sinceSome, instants, meaningRule, meaning}
 use Rattle.pmtl.proofs.Table.{answer-fix}
 use Rattle.desk_rules.specs.Scans.{Kit, noKit, kitAt, Scan, reads, codes, windowOf, windows, repeats, promised, stopped, lastHour}
 use Rattle.desk_rules.specs.Rows.{PROMISE, HANDOUT, RETURN, atomOf, rowOf, within, kitRows, deskRows, guarantee}
-use Rattle.desk_rules.specs.Desk.{clear}
 use Rattle.desk_rules.proofs.Rows.{desk-ordered, rest, row-is}
 use Rattle.desk_rules.proofs.Places.{windows-length}
 use Rattle.desk_rules.proofs.Past.{stateOf, past, on, clear-on, quiet, promise-on, handout-on, return-on, promise-not-handout, return-not-handout, Timely}

@@ -1,5 +1,5 @@
 -- The history that accepted scans leave: three snapshots for each, and which atoms are on in them. Assumes nothing.
-use Prim.Native.Nat.{ℕ, zero, suc, _+_, _*_, _≤_, _<_}
+use Prim.Native.Nat.{ℕ, zero, suc, _≤_, _<_}
 use native.Mathlib.Omega.{arith}
 use mathlib.Core.Path.{_≡_, refl, sym, ap, _∙_}
 use mathlib.Core.Bool.{Bool, true, false}
@@ -14,7 +14,7 @@ use Rattle.pmtl.specs.Book.{Rows, widthOf, some}
 use Rattle.pmtl.specs.Calls.{timed, stated, stateRefusal, History, nowOf}
 use Rattle.pmtl.proofs.History.{Legal}
 use Rattle.desk_rules.specs.Scans.{Kit, kitAt, Scan, reads, codes, windows, repeats, lastHour}
-use Rattle.desk_rules.specs.Rows.{PROMISE, HANDOUT, RETURN, KIT-ATOMS, atomOf, deskRows}
+use Rattle.desk_rules.specs.Rows.{PROMISE, HANDOUT, RETURN, atomOf, deskRows}
 use Rattle.desk_rules.specs.Desk.{placeOf, clear, oneOn}
 use Rattle.desk_rules.proofs.Rows.{desk-width}
 use Rattle.desk_rules.proofs.Places.{codes-length, windows-length, promise-place, handout-place, return-place}

@@ -1,13 +1,13 @@
 -- Barcodes by their place among those of the desk: where none is given twice, a scan is of a barcode exactly if it has that barcode's place.
 -- Assumes nothing.
-use Prim.Native.Nat.{ℕ, zero, suc, _+_, _*_, _≤_, _<_}
+use Prim.Native.Nat.{ℕ, zero, suc, _*_, _<_}
 use native.Mathlib.Omega.{arith}
 use mathlib.Core.Path.{_≡_, refl, sym, ap, _∙_}
 use mathlib.Core.Bool.{Bool, true, false, cond, _||_}
-use mathlib.Core.List.{List, [], _∷_, map}
-use lib.ListN.{length, getD, length-map, List·getD-map}
+use mathlib.Core.List.{List, [], _∷_}
+use lib.ListN.{length, getD, length-map}
 use lib.Dec.{eqb, ltb}
-use borrow.Author.Tests.{eqb-true, eqb-false, eq-eqb, ne-eqb, lt-ltb, ltb-true}
+use borrow.Author.Tests.{eqb-true, eq-eqb, ne-eqb, lt-ltb, ltb-true}
 use Rattle.lists.proofs.Tests.{clash, same-test}
 use Rattle.pmtl.specs.Book.{some}
 use Rattle.desk_rules.specs.Scans.{Kit, kitAt, codes, windowOf, windows, repeats}

@@ -1,17 +1,16 @@
 -- Scans as calls: which are accepted, and what they leave. Assumes nothing.
-use Prim.Native.Nat.{ℕ, zero, suc, _≤_, _<_}
+use Prim.Native.Nat.{ℕ}
 use native.Mathlib.Omega.{arith}
 use mathlib.Core.Path.{_≡_, refl, sym, ap, _∙_}
 use mathlib.Core.Logic.{_⊎_, inl, inr, ⊎-elim}
 use mathlib.Core.Bool.{Bool, true, false, cond}
 use mathlib.Core.List.{List, [], _∷_}
-use lib.ListN.{length}
 use lib.Dec.{ltb, eqb}
 use borrow.Author.Tests.{ltb-false, eqb-true, eqb-false, eq-eqb, ne-eqb, le-ltb}
 use Rattle.numbers.specs.Limits.{LAST-TIME}
 use Rattle.numbers.specs.Refusals.{ACCEPTED, TOO-EARLY, TOO-LATE, UNKNOWN-BARCODE}
 use Rattle.pmtl.specs.Book.{Rows, Ordered, some}
-use Rattle.pmtl.specs.Monitor.{Snap, State, initial, step}
+use Rattle.pmtl.specs.Monitor.{Snap, State, step}
 use Rattle.pmtl.specs.Calls.{Call, state, stamped, turns, timed, stated, timeRefusal, firstOf, refusal, crowds, Outcome, play, call, after, History, nowOf, onto, accepted}
 use Rattle.pmtl.specs.Strict.{Strict}
 use Rattle.pmtl.proofs.History.{now-run}
@@ -19,7 +18,7 @@ use Rattle.pmtl.proofs.Calls.{first-zero, trail}
 use Rattle.pmtl.proofs.Strict.{never-eleven}
 use Rattle.desk_rules.specs.Scans.{Kit, Scan, codes, windows, lastHour, scanNumber, taken, Fine}
 use Rattle.desk_rules.specs.Rows.{deskRows}
-use Rattle.desk_rules.specs.Desk.{placeOf, clear, oneOn, orAsBefore, cleared, pulse, scannedAt, scanned, deskAfter}
+use Rattle.desk_rules.specs.Desk.{placeOf, clear, orAsBefore, cleared, pulse, scannedAt, scanned, deskAfter}
 use Rattle.desk_rules.proofs.Rows.{desk-ordered, desk-strict}
 use Rattle.desk_rules.proofs.Places.{place-in}
 use Rattle.desk_rules.proofs.Past.{width, stateOf, past, Timely, last-is, fine-scan, fine-none}

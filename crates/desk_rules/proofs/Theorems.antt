@@ -23,7 +23,7 @@ use Rattle.desk_rules.specs.Rows.{deskRows, guarantee}
 use Rattle.desk_rules.specs.Desk.{placeOf, clear, oneOn, scanned, deskAfter}
 use Rattle.desk_rules.proofs.Words.{stopped-iff}
 use Rattle.desk_rules.proofs.Opened.{desk-fine}
-use Rattle.desk_rules.proofs.Scanned.{callsOf, clear-number, scan-is, traced}
+use Rattle.desk_rules.proofs.Scanned.{clear-number, scan-is, traced}
 use Rattle.desk_rules.proofs.Settling.{value-is, settled-is}
 
 -- 0, 20, 7 or 8

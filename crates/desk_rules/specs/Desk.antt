@@ -1,6 +1,6 @@
 -- A scan as calls of the desk's monitor. Definitions only.
-use Prim.Native.Nat.{ℕ, suc, _*_}
-use mathlib.Core.Bool.{Bool, true, false, cond}
+use Prim.Native.Nat.{ℕ, suc}
+use mathlib.Core.Bool.{true, false, cond}
 use mathlib.Core.List.{List, [], _∷_}
 use lib.ListN.{length, set, replicate}
 use lib.Dec.{eqb, ltb}
@@ -9,7 +9,7 @@ use Rattle.pmtl.specs.Book.{Rows}
 use Rattle.pmtl.specs.Monitor.{State, initial}
 use Rattle.pmtl.specs.Calls.{stamped, state, Outcome, call}
 use Rattle.desk_rules.specs.Scans.{Kit, Scan, codes, windows}
-use Rattle.desk_rules.specs.Rows.{KIT-ATOMS, deskRows}
+use Rattle.desk_rules.specs.Rows.{deskRows}
 
 -- where a barcode stands among others; after them if it is none of them
 unfoldable pub placeOf : ℕ → List ℕ → ℕ

@@ -1,34 +1,24 @@
+-- `desk::load_book` meets its contract. Assumes nothing.
 use Rattle.desk.proofs.Standing.{set-up}
 use borrow.Author.Needs.{needs}
 use Rattle.desk.proofs.load_book.Statement.{statement}
 use Rattle.desk.proofs.load_book.Tie as tie
-use Rattle.desk.proofs.load_book.Reads as reads
-use Rattle.desk.proofs.load_book.Lts as lts
-use Rattle.desk.proofs.book_words.put_book.Reads as put-book-reads
-use Rattle.lists.proofs.part_of.Reads as part-of-reads
-use Rattle.loader.proofs.load_strict.Reads as load-strict-reads
 
--- src/lib.rt:72:37
 slice-aggregate-put-book : tie.Need-slice-aggregate-put-book
 slice-aggregate-put-book c = search needs
 
--- src/lib.rt:72:9
 put-book-requires : tie.Need-put-book-requires
 put-book-requires c κs = search needs
 
--- src/lib.rt:73:32
 slice-aggregate-part-of : tie.Need-slice-aggregate-part-of
 slice-aggregate-part-of c = search needs
 
--- src/lib.rt:73:17
 part-of-requires : tie.Need-part-of-requires
 part-of-requires c κs = search needs
 
--- src/lib.rt:73:5
 load-strict-requires : tie.Need-load-strict-requires
 load-strict-requires c κs = search needs
 
--- src/lib.rt:66:1
 returns : tie.Need-returns
 returns c = let s = c .before .before .before .before .before .before .before in set-up _ (s .pre .0) _ _ _ _ _ (c .before .before .part-of .ensures) (c .before .before .before .before .before .put-book .ensures) (c .load-strict .ensures)
 

@@ -1,38 +1,29 @@
+-- `desk::put_table` meets its contract. Assumes nothing.
 use mathlib.Core.Path.{ap, sym, _∙_}
-use lib.ListN.{length, length-set, length-replicate}
+use lib.ListN.{length, length-set}
 use native.Mathlib.Omega.{arith}
 use Rattle.desk.proofs.Standing.{table-put, table-long}
 use borrow.Author.Needs.{needs}
 use Rattle.desk.proofs.put_table.Statement.{statement}
 use Rattle.desk.proofs.put_table.Tie as tie
-use Rattle.desk.proofs.put_table.Reads as reads
-use Rattle.desk.proofs.put_table.Lts as lts
-use Rattle.desk.proofs.given.put_barcodes.Reads as put-barcodes-reads
-use Rattle.lists.proofs.clear.Reads as clear-reads
 
--- src/lib.rt:60:5
 clear-requires : tie.Need-clear-requires
 clear-requires c κs = search needs
 
--- src/lib.rt:61:17
 mul-table : tie.Need-mul-table
 mul-table c = search needs
 
--- src/lib.rt:61:5
 slice-write-table : tie.Need-slice-write-table
 slice-write-table c = search needs
 
--- src/lib.rt:62:5
 put-barcodes-requires : tie.Need-put-barcodes-requires
 put-barcodes-requires c κs = let s = c .before .before .before .before .before .before in (s .pre .0, simp length-set (omega (arith, s .pre)))
 
--- src/lib.rt:56:1
 same-length : tie.Need-same-length
 same-length c =
     let s = c .before .before .before .before .before .before .before .before .before in
     ap length (table-put (s .args .kits .now) (s .args .table .now) _ _ (s .args .count) (s .pre .1) (c .before .before .before .before .before .before .clear .ensures) (c .before .before .put-barcodes .ensures)) ∙ table-long _ ∙ sym (s .pre .1)
 
--- src/lib.rt:56:1
 returns : tie.Need-returns
 returns c = let s = c .before .before .before .before .before .before .before .before .before in table-put (s .args .kits .now) (s .args .table .now) _ _ (s .args .count) (s .pre .1) (c .before .before .before .before .before .before .clear .ensures) (c .before .before .put-barcodes .ensures)
 

@@ -1,46 +1,32 @@
+-- `desk::scan` meets its contract. Assumes nothing.
 use mathlib.Core.Path.{refl}
 use native.Mathlib.Omega.{arith}
 use Rattle.desk.proofs.Standing.{width-small, ready-scan, scan-made}
 use borrow.Author.Needs.{needs}
 use Rattle.desk.proofs.scan.Statement.{statement}
 use Rattle.desk.proofs.scan.Tie as tie
-use Rattle.desk.proofs.scan.Reads as reads
-use Rattle.desk.proofs.scan.Lts as lts
-use Rattle.desk.proofs.given.place_of.Reads as place-of-reads
-use Rattle.desk.proofs.scan_at.Reads as scan-at-reads
-use Rattle.desk.proofs.slip_for.Reads as slip-for-reads
-use Rattle.lists.proofs.part_of.Reads as part-of-reads
-use Rattle.property_answers.proofs.of_property.Reads as of-property-reads
 
--- src/lib.rt:165:17
 element-copy-out-width : tie.Need-element-copy-out-width
 element-copy-out-width c = search needs
 
--- src/lib.rt:166:35
 part-of-requires : tie.Need-part-of-requires
 part-of-requires c κs = omega (arith, width-small _ _ (c .before .before .pre))
 
--- src/lib.rt:166:9
 place-of-requires : tie.Need-place-of-requires
 place-of-requires c κs = search needs
 
--- src/lib.rt:168:18
 of-property-requires : tie.Need-of-property-requires
 of-property-requires c κs = search needs
 
--- src/lib.rt:169:9
 scan-at-requires : tie.Need-scan-at-requires
 scan-at-requires c κs = let s = c .before .before .before .before .before .before .before in ready-scan (s .args .table .now) (s .args .monitor .now) _ (s .args .time) (s .args .barcode) _ _ (s .pre) refl (c .before .before .before .before .part-of .ensures) (c .before .before .before .place-of .ensures)
 
--- src/lib.rt:170:17
 of-property-requires-2 : tie.Need-of-property-requires-2
 of-property-requires-2 c κs = search needs
 
--- src/lib.rt:173:15
 slip-for-requires : tie.Need-slip-for-requires
 slip-for-requires c κs = search needs
 
--- src/lib.rt:156:1
 returns : tie.Need-returns
 returns c =
     let s = c .before .before .before .before .before .before .before .before .before .before .before in

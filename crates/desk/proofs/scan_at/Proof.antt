@@ -1,21 +1,16 @@
+-- `desk::scan_at` meets its contract. Assumes nothing.
 use native.Mathlib.Omega.{arith}
 use Rattle.desk.proofs.Standing.{scanned-known, scanned-unknown}
 use borrow.Author.Needs.{needs}
 use Rattle.desk.proofs.scan_at.Statement.{statement}
 use Rattle.desk.proofs.scan_at.Tie as tie
-use Rattle.desk.proofs.scan_at.Reads as reads
-use Rattle.desk.proofs.scan_at.Lts as lts
-use Rattle.desk.proofs.on_and_off.Reads as on-and-off-reads
 
--- src/lib.rt:126:9
 on-and-off-requires : tie.Need-on-and-off-requires
 on-and-off-requires c κs = search needs
 
--- src/lib.rt:126:9
 returns : tie.Need-returns
 returns c = scanned-known _ _ _ _ _ _ _ _ (c .before .before .if1 .taken) (c .on-and-off .ensures)
 
--- src/lib.rt:121:1
 returns-2 : tie.Need-returns-2
 returns-2 c = scanned-unknown _ _ _ _ (omega arith) (c .before .pre .kept)
 

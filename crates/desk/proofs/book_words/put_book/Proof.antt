@@ -1,59 +1,43 @@
+-- `desk::book_words::put_book` meets its contract. Assumes nothing.
 use mathlib.Core.Path.{refl}
 use Rattle.desk.proofs.Writing.{book-put}
 use borrow.Author.Needs.{needs}
 use Rattle.desk.proofs.book_words.put_book.Statement.{statement}
 use Rattle.desk.proofs.book_words.put_book.Tie as tie
-use Rattle.desk.proofs.book_words.put_book.Reads as reads
-use Rattle.desk.proofs.book_words.put_book.Lts as lts
-use Rattle.desk.proofs.book_words.put_operands_section.Reads as put-operands-section-reads
-use Rattle.desk.proofs.book_words.put_properties.Reads as put-properties-reads
-use Rattle.desk.proofs.book_words.put_rows_section.Reads as put-rows-section-reads
 
--- src/book_words.rt:131:20
 mul-operands : tie.Need-mul-operands
 mul-operands c = search needs
 
--- src/book_words.rt:131:20
 add-operands : tie.Need-add-operands
 add-operands c = search needs
 
--- src/book_words.rt:132:33
 mul-properties : tie.Need-mul-properties
 mul-properties c = search needs
 
--- src/book_words.rt:132:22
 add-properties : tie.Need-add-properties
 add-properties c = search needs
 
--- src/book_words.rt:132:22
 add-properties-2 : tie.Need-add-properties-2
 add-properties-2 c = search needs
 
--- src/book_words.rt:133:5
 put-rows-section-requires : tie.Need-put-rows-section-requires
 put-rows-section-requires c κs = search needs
 
--- src/book_words.rt:134:5
 put-operands-section-requires : tie.Need-put-operands-section-requires
 put-operands-section-requires c κs = search needs
 
--- src/book_words.rt:135:5
 put-properties-requires : tie.Need-put-properties-requires
 put-properties-requires c κs = search needs
 
--- src/book_words.rt:136:5
 add-result : tie.Need-add-result
 add-result c = search needs
 
--- src/book_words.rt:136:5
 add-result-2 : tie.Need-add-result-2
 add-result-2 c = search needs
 
--- src/book_words.rt:127:1
 same-length : tie.Need-same-length
 same-length c = search needs
 
--- src/book_words.rt:127:1
 returns : tie.Need-returns
 returns c = let s = c .before .before .before .before .before .before .before .before .before .before .before .before .before in book-put (s .args .kits .now) (s .args .words .now) _ _ _ (s .args .count) _ (s .pre .0) (s .pre .1) (c .before .before .before .before .before .before .before .before .before .before .put-rows-section .ensures) (c .before .before .before .before .before .before .put-operands-section .ensures) (c .before .before .put-properties .ensures) refl
 

@@ -1,3 +1,4 @@
+-- `desk::book_words::put_guarantees` meets its contract. Assumes nothing.
 use Rattle.desk.proofs.Writing.{guarantees-start, guarantees-more, guarantees-end}
 use Rattle.desk_rules.specs.Rows.{guaranteesFrom}
 use native.Mathlib.Omega.{arith}
@@ -8,8 +9,6 @@ use lib.Seq.{sets}
 use borrow.Author.Needs.{needs}
 use Rattle.desk.proofs.book_words.put_guarantees.Statement.{statement}
 use Rattle.desk.proofs.book_words.put_guarantees.Tie as tie
-use Rattle.desk.proofs.book_words.put_guarantees.Reads as reads
-use Rattle.desk.proofs.book_words.put_guarantees.Lts as lts
 
 abbrev Inv-loop : tie.InvT-loop
 Inv-loop count words₀ at k₀ words k = (k ≤ count) × (words ≡ sets words₀ at (guaranteesFrom 0 k)) × (length words ≡ length words₀)
@@ -17,49 +16,38 @@ Inv-loop count words₀ at k₀ words k = (k ≤ count) × (words ≡ sets words
 abbrev μ-loop : tie.MeasureT-loop
 μ-loop count words₀ at k₀ words k = count - k
 
--- src/book_words.rt:92:5
 loop-holds : tie.Need-loop-holds Inv-loop μ-loop
 loop-holds c = (omega arith, guarantees-start _ _, refl)
 
--- src/book_words.rt:93:26
 mul-words : tie.Need-mul-words Inv-loop μ-loop
 mul-words c = search needs
 
--- src/book_words.rt:93:26
 add-words : tie.Need-add-words Inv-loop μ-loop
 add-words c = search needs
 
--- src/book_words.rt:93:15
 add-words-2 : tie.Need-add-words-2 Inv-loop μ-loop
 add-words-2 c = search needs
 
--- src/book_words.rt:93:9
 mul-words-2 : tie.Need-mul-words-2 Inv-loop μ-loop
 mul-words-2 c = search needs
 
--- src/book_words.rt:93:9
 slice-write-words : tie.Need-slice-write-words Inv-loop μ-loop
 slice-write-words c = search needs
 
--- src/book_words.rt:94:9
 add-k : tie.Need-add-k Inv-loop μ-loop
 add-k c = search needs
 
--- src/book_words.rt:92:5
 loop-less : tie.Need-loop-less Inv-loop μ-loop
 loop-less c = search needs
 
--- src/book_words.rt:92:5
 loop-again : tie.Need-loop-again Inv-loop μ-loop
 loop-again c =
     let l = c .before .loop in
     (omega arith, guarantees-more _ _ _ (l .k) (l .inv .1), simp length-set (l .inv .2))
 
--- src/book_words.rt:87:1
 same-length : tie.Need-same-length Inv-loop μ-loop
 same-length c = search needs
 
--- src/book_words.rt:87:1
 returns : tie.Need-returns Inv-loop μ-loop
 returns c = let l = c .before .loop in guarantees-end _ _ _ (l .k) _ (l .inv .1) (omega arith)
 

@@ -1,38 +1,29 @@
+-- `desk::book_words::put_kit` meets its contract. Assumes nothing.
 use native.Mathlib.Omega.{arith}
 use mathlib.Core.Path.{_≡_}
 use Prim.Native.Nat.{_+_, _*_}
 use borrow.Author.Needs.{needs}
 use Rattle.desk.proofs.book_words.put_kit.Statement.{statement}
 use Rattle.desk.proofs.book_words.put_kit.Tie as tie
-use Rattle.desk.proofs.book_words.put_kit.Reads as reads
-use Rattle.desk.proofs.book_words.put_kit.Lts as lts
-use Rattle.lists.proofs.copy.Reads as copy-reads
 
--- src/book_words.rt:36:20
 mul-promise : tie.Need-mul-promise
 mul-promise c = search needs
 
--- src/book_words.rt:37:19
 add-handout : tie.Need-add-handout
 add-handout c = search needs
 
--- src/book_words.rt:38:15
 add-ret : tie.Need-add-ret
 add-ret c = search needs
 
--- src/book_words.rt:42:17
 slice-aggregate-copy : tie.Need-slice-aggregate-copy
 slice-aggregate-copy c = search needs
 
--- src/book_words.rt:42:5
 copy-requires : tie.Need-copy-requires
 copy-requires c κs = search needs
 
--- src/book_words.rt:32:1
 same-length : tie.Need-same-length
 same-length c = search needs
 
--- src/book_words.rt:32:1
 returns : tie.Need-returns
 returns c = let k = c .before .before .before .before .before .before .args .k in let z : 3 * k + 0 ≡ 3 * k = omega arith in rw z (c .before .before .copy .ensures)
 

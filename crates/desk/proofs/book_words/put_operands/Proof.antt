@@ -1,3 +1,4 @@
+-- `desk::book_words::put_operands` meets its contract. Assumes nothing.
 use Rattle.desk.proofs.Writing.{operands-start, operands-more, operands-end}
 use Rattle.desk_rules.specs.BookWords.{operandsFrom}
 use native.Mathlib.Omega.{arith}
@@ -8,9 +9,6 @@ use lib.Seq.{sets}
 use borrow.Author.Needs.{needs}
 use Rattle.desk.proofs.book_words.put_operands.Statement.{statement}
 use Rattle.desk.proofs.book_words.put_operands.Tie as tie
-use Rattle.desk.proofs.book_words.put_operands.Reads as reads
-use Rattle.desk.proofs.book_words.put_operands.Lts as lts
-use Rattle.desk.proofs.book_words.put_kit_operands.Reads as put-kit-operands-reads
 
 abbrev Inv-loop : tie.InvT-loop
 Inv-loop count words₀ at k₀ words k = (k ≤ count) × (words ≡ sets words₀ at (operandsFrom 0 k)) × (length words ≡ length words₀)
@@ -18,41 +16,32 @@ Inv-loop count words₀ at k₀ words k = (k ≤ count) × (words ≡ sets words
 abbrev μ-loop : tie.MeasureT-loop
 μ-loop count words₀ at k₀ words k = count - k
 
--- src/book_words.rt:80:5
 loop-holds : tie.Need-loop-holds Inv-loop μ-loop
 loop-holds c = (omega arith, operands-start _ _, refl)
 
--- src/book_words.rt:81:41
 mul-put-kit-operands : tie.Need-mul-put-kit-operands Inv-loop μ-loop
 mul-put-kit-operands c = search needs
 
--- src/book_words.rt:81:36
 add-put-kit-operands : tie.Need-add-put-kit-operands Inv-loop μ-loop
 add-put-kit-operands c = search needs
 
--- src/book_words.rt:81:9
 put-kit-operands-requires : tie.Need-put-kit-operands-requires Inv-loop μ-loop
 put-kit-operands-requires c κs = search needs
 
--- src/book_words.rt:82:9
 add-k : tie.Need-add-k Inv-loop μ-loop
 add-k c = search needs
 
--- src/book_words.rt:80:5
 loop-less : tie.Need-loop-less Inv-loop μ-loop
 loop-less c = search needs
 
--- src/book_words.rt:80:5
 loop-again : tie.Need-loop-again Inv-loop μ-loop
 loop-again c =
     let l = c .before .before .before .before .before .loop in
     (omega arith, operands-more _ _ _ _ (l .k) (l .inv .1) (omega arith) (c .before .before .put-kit-operands .ensures), omega arith)
 
--- src/book_words.rt:75:1
 same-length : tie.Need-same-length Inv-loop μ-loop
 same-length c = search needs
 
--- src/book_words.rt:75:1
 returns : tie.Need-returns Inv-loop μ-loop
 returns c = let l = c .before .loop in operands-end _ _ _ (l .k) _ (l .inv .1) (omega arith)
 

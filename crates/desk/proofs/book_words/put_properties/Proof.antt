@@ -1,53 +1,39 @@
+-- `desk::book_words::put_properties` meets its contract. Assumes nothing.
 use Rattle.desk_rules.specs.BookWords.{propertySections}
 use Rattle.desk_rules.specs.Rows.{guaranteesFrom}
-use Rattle.desk.proofs.Writing.{sets-long}
-use mathlib.Core.Path.{ap, _∙_}
-use lib.Seq.{length-sets}
-use lib.ListN.{length, length-set}
+use Rattle.desk.proofs.Writing.{sets-long, sections-put}
+use lib.ListN.{length-set}
 use native.Mathlib.Omega.{arith}
-use Rattle.desk.proofs.Writing.{sections-put}
 use borrow.Author.Needs.{needs}
 use Rattle.desk.proofs.book_words.put_properties.Statement.{statement}
 use Rattle.desk.proofs.book_words.put_properties.Tie as tie
-use Rattle.desk.proofs.book_words.put_properties.Reads as reads
-use Rattle.desk.proofs.book_words.put_properties.Lts as lts
-use Rattle.desk.proofs.book_words.put_guarantees.Reads as put-guarantees-reads
 
--- src/book_words.rt:121:5
 mul-words : tie.Need-mul-words
 mul-words c = search needs
 
--- src/book_words.rt:121:5
 slice-write-words : tie.Need-slice-write-words
 slice-write-words c = search needs
 
--- src/book_words.rt:122:11
 add-words : tie.Need-add-words
 add-words c = search needs
 
--- src/book_words.rt:122:5
 mul-words-2 : tie.Need-mul-words-2
 mul-words-2 c = search needs
 
--- src/book_words.rt:122:5
 slice-write-words-2 : tie.Need-slice-write-words-2
 slice-write-words-2 c = simp length-set (omega (arith, c .before .pre .1))
 
--- src/book_words.rt:123:34
 add-put-guarantees : tie.Need-add-put-guarantees
 add-put-guarantees c = search needs
 
--- src/book_words.rt:123:5
 put-guarantees-requires : tie.Need-put-guarantees-requires
 put-guarantees-requires c κs = (c .before .before .pre .0, simp length-set (omega (arith, c .before .before .pre .1)))
 
--- src/book_words.rt:117:1
 same-length : tie.Need-same-length
 same-length c =
     let s = c .before .before .before .before .before .args in
     sets-long (s .words .now) _ (s .at) (propertySections (s .count)) (sections-put (s .words .now) _ (guaranteesFrom 0 (s .count)) (s .at) 0 (s .count) (c .before .before .put-guarantees .ensures))
 
--- src/book_words.rt:117:1
 returns : tie.Need-returns
 returns c = let s = c .before .before .before .before .before .args in sections-put (s .words .now) _ (guaranteesFrom 0 (s .count)) (s .at) 0 (s .count) (c .before .before .put-guarantees .ensures)
 

@@ -1,3 +1,4 @@
+-- `desk::book_words::put_rows` meets its contract. Assumes nothing.
 use Rattle.desk.proofs.Writing.{rowsOf, rows-start, rows-more, rows-end}
 use native.Mathlib.Omega.{arith}
 use Prim.Native.Nat.{_-_, _≤_}
@@ -7,10 +8,6 @@ use lib.Seq.{sets}
 use borrow.Author.Needs.{needs}
 use Rattle.desk.proofs.book_words.put_rows.Statement.{statement}
 use Rattle.desk.proofs.book_words.put_rows.Tie as tie
-use Rattle.desk.proofs.book_words.put_rows.Reads as reads
-use Rattle.desk.proofs.book_words.put_rows.Lts as lts
-use Rattle.desk.proofs.book_words.put_kit.Reads as put-kit-reads
-use Rattle.desk.proofs.given.window_at.Reads as window-at-reads
 
 abbrev Inv-loop : tie.InvT-loop
 Inv-loop kits count words₀ at k₀ words k = (k ≤ count) × (words ≡ sets words₀ at (rowsOf kits k)) × (length words ≡ length words₀)
@@ -18,45 +15,35 @@ Inv-loop kits count words₀ at k₀ words k = (k ≤ count) × (words ≡ sets 
 abbrev μ-loop : tie.MeasureT-loop
 μ-loop kits count words₀ at k₀ words k = count - k
 
--- src/book_words.rt:58:5
 loop-holds : tie.Need-loop-holds Inv-loop μ-loop
 loop-holds c = (omega arith, rows-start _ _ _, refl)
 
--- src/book_words.rt:59:20
 window-at-requires : tie.Need-window-at-requires Inv-loop μ-loop
 window-at-requires c κs = search needs
 
--- src/book_words.rt:59:52
 mul-put-kit : tie.Need-mul-put-kit Inv-loop μ-loop
 mul-put-kit c = search needs
 
--- src/book_words.rt:59:47
 add-put-kit : tie.Need-add-put-kit Inv-loop μ-loop
 add-put-kit c = search needs
 
--- src/book_words.rt:59:9
 put-kit-requires : tie.Need-put-kit-requires Inv-loop μ-loop
 put-kit-requires c κs = search needs
 
--- src/book_words.rt:60:9
 add-k : tie.Need-add-k Inv-loop μ-loop
 add-k c = search needs
 
--- src/book_words.rt:58:5
 loop-less : tie.Need-loop-less Inv-loop μ-loop
 loop-less c = search needs
 
--- src/book_words.rt:58:5
 loop-again : tie.Need-loop-again Inv-loop μ-loop
 loop-again c =
     let l = c .before .before .before .before .before .before .loop in
     (omega arith, rows-more _ _ _ _ _ (l .k) _ (l .inv .1) (omega arith) (c .before .before .before .before .window-at .ensures) (c .before .before .put-kit .ensures), omega arith)
 
--- src/book_words.rt:53:1
 same-length : tie.Need-same-length Inv-loop μ-loop
 same-length c = search needs
 
--- src/book_words.rt:53:1
 returns : tie.Need-returns Inv-loop μ-loop
 returns c = let l = c .before .loop in rows-end _ _ _ _ (l .k) _ (l .inv .1) (omega arith)
 

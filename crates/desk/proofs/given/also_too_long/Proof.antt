@@ -1,15 +1,12 @@
+-- `desk::given::also_too_long` meets its contract. Assumes nothing.
 use Rattle.desk.proofs.Kits.{or-none}
 use borrow.Author.Needs.{needs}
 use Rattle.desk.proofs.given.also_too_long.Statement.{statement}
 use Rattle.desk.proofs.given.also_too_long.Tie as tie
-use Rattle.desk.proofs.given.also_too_long.Reads as reads
-use Rattle.desk.proofs.given.also_too_long.Lts as lts
 
--- src/given.rt:106:9
 returns : tie.Need-returns
 returns c = search needs
 
--- src/given.rt:102:1
 returns-2 : tie.Need-returns-2
 returns-2 c = or-none _ _ (c .if1 .left)
 

@@ -1,3 +1,4 @@
+-- `desk::given::any_too_long` meets its contract. Assumes nothing.
 use borrow.Author.Needs.{needs}
 use Rattle.desk.proofs.Kits.{long-start, long-more}
 use native.Mathlib.Omega.{arith}
@@ -10,10 +11,6 @@ use Rattle.desk_rules.specs.Scans.{windows}
 use Rattle.desk.specs.Kits.{kitsIn}
 use Rattle.desk.proofs.given.any_too_long.Statement.{statement}
 use Rattle.desk.proofs.given.any_too_long.Tie as tie
-use Rattle.desk.proofs.given.any_too_long.Reads as reads
-use Rattle.desk.proofs.given.any_too_long.Lts as lts
-use Rattle.desk.proofs.given.also_too_long.Reads as also-too-long-reads
-use Rattle.desk.proofs.given.window_at.Reads as window-at-reads
 
 abbrev Inv-loop : tie.InvT-loop
 Inv-loop kits count k₀ too-long₀ k too-long = (k ≤ count) × (too-long ≡ some (ltb LAST-TIME) (windows (kitsIn kits k)))
@@ -21,31 +18,24 @@ Inv-loop kits count k₀ too-long₀ k too-long = (k ≤ count) × (too-long ≡
 abbrev μ-loop : tie.MeasureT-loop
 μ-loop kits count k₀ too-long₀ k too-long = count - k
 
--- src/given.rt:118:5
 loop-holds : tie.Need-loop-holds Inv-loop μ-loop
 loop-holds c = (omega arith, long-start _)
 
--- src/given.rt:119:44
 window-at-requires : tie.Need-window-at-requires Inv-loop μ-loop
 window-at-requires c κs = search needs
 
--- src/given.rt:119:9
 also-too-long-requires : tie.Need-also-too-long-requires Inv-loop μ-loop
 also-too-long-requires c κs = search needs
 
--- src/given.rt:120:9
 add-k : tie.Need-add-k Inv-loop μ-loop
 add-k c = search needs
 
--- src/given.rt:118:5
 loop-less : tie.Need-loop-less Inv-loop μ-loop
 loop-less c = search needs
 
--- src/given.rt:118:5
 loop-again : tie.Need-loop-again Inv-loop μ-loop
 loop-again c = (omega arith, long-more _ _ _ _ _ (c .before .before .before .loop .inv .1) (c .before .window-at .ensures) (c .also-too-long .ensures))
 
--- src/given.rt:112:1
 returns : tie.Need-returns Inv-loop μ-loop
 returns c = let l = c .before .loop in let e : l .k ≡ c .before .before .args .count = omega arith in rw (← e) (l .inv .1)
 

@@ -1,25 +1,15 @@
-use Prim.Native.Nat.{_*_}
-use Rattle.desk.proofs.Kits.{part-long}
-use Rattle.desk.proofs.Kits.{barcodes-end}
-use lib.Seq.{length-sets}
-use mathlib.Core.Path.{ap, _∙_}
-use Rattle.desk.proofs.Kits.{codes-many}
-use Rattle.lists.proofs.Parts.{part-length}
-use borrow.Author.Needs.{needs}
-use Rattle.desk.proofs.Kits.{barcodes-start, barcodes-more}
-use native.Mathlib.Omega.{arith}
-use Prim.Native.Nat.{_-_, _≤_}
-use mathlib.Core.Path.{_≡_, refl}
-use lib.ListN.{length}
+-- `desk::given::put_barcodes` meets its contract. Assumes nothing.
+use Prim.Native.Nat.{_*_, _-_, _≤_}
+use Rattle.desk.proofs.Kits.{part-long, barcodes-end, barcodes-start, barcodes-more}
 use lib.Seq.{sets}
+use mathlib.Core.Path.{_≡_, refl}
+use borrow.Author.Needs.{needs}
+use native.Mathlib.Omega.{arith}
+use lib.ListN.{length}
 use Rattle.desk_rules.specs.Scans.{codes}
 use Rattle.desk.specs.Kits.{kitsIn}
 use Rattle.desk.proofs.given.put_barcodes.Statement.{statement}
 use Rattle.desk.proofs.given.put_barcodes.Tie as tie
-use Rattle.desk.proofs.given.put_barcodes.Reads as reads
-use Rattle.desk.proofs.given.put_barcodes.Lts as lts
-use Rattle.lists.proofs.copy.Reads as copy-reads
-use Rattle.lists.proofs.part_of.Reads as part-of-reads
 
 abbrev Inv-loop : tie.InvT-loop
 Inv-loop kits count words₀ at k₀ words k = (k ≤ count) × (words ≡ sets words₀ at (codes (kitsIn kits k))) × (length words ≡ length words₀)
@@ -27,49 +17,38 @@ Inv-loop kits count words₀ at k₀ words k = (k ≤ count) × (words ≡ sets 
 abbrev μ-loop : tie.MeasureT-loop
 μ-loop kits count words₀ at k₀ words k = count - k
 
--- src/given.rt:76:5
 loop-holds : tie.Need-loop-holds Inv-loop μ-loop
 loop-holds c = (omega arith, barcodes-start _ _ _, refl)
 
--- src/given.rt:77:45
 mul-part-of : tie.Need-mul-part-of Inv-loop μ-loop
 mul-part-of c = search needs
 
--- src/given.rt:77:13
 part-of-requires : tie.Need-part-of-requires Inv-loop μ-loop
 part-of-requires c κs = search needs
 
--- src/given.rt:78:43
 mul-copy : tie.Need-mul-copy Inv-loop μ-loop
 mul-copy c = search needs
 
--- src/given.rt:78:38
 add-copy : tie.Need-add-copy Inv-loop μ-loop
 add-copy c = search needs
 
--- src/given.rt:78:9
 copy-requires : tie.Need-copy-requires Inv-loop μ-loop
 copy-requires c κs = let e = part-long (c .before .before .before .before .before .before .args .kits .now) _ (4 * c .before .before .before .before .loop .k) 3 (c .before .part-of .ensures) (omega arith) in omega arith
 
--- src/given.rt:79:9
 add-k : tie.Need-add-k Inv-loop μ-loop
 add-k c = search needs
 
--- src/given.rt:76:5
 loop-less : tie.Need-loop-less Inv-loop μ-loop
 loop-less c = search needs
 
--- src/given.rt:76:5
 loop-again : tie.Need-loop-again Inv-loop μ-loop
 loop-again c =
     let l = c .before .before .before .before .before .before .before .loop in
     (omega arith, barcodes-more _ _ _ _ _ _ (l .k) (l .inv .1) (omega arith) (omega arith) (c .before .before .before .before .part-of .ensures) (c .before .before .copy .ensures), omega arith)
 
--- src/given.rt:71:1
 same-length : tie.Need-same-length Inv-loop μ-loop
 same-length c = search needs
 
--- src/given.rt:71:1
 returns : tie.Need-returns Inv-loop μ-loop
 returns c = let l = c .before .loop in barcodes-end _ _ _ _ (l .k) _ (l .inv .1) (omega arith)
 

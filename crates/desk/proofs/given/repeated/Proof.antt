@@ -1,3 +1,4 @@
+-- `desk::given::repeated` meets its contract. Assumes nothing.
 use Prim.Native.Nat.{_≤_, _-_}
 use lib.ListN.{length}
 use native.Mathlib.Omega.{arith}
@@ -5,9 +6,6 @@ use Rattle.desk.proofs.Kits.{Apart, apart-start, apart-found, apart-mor
 use borrow.Author.Needs.{needs}
 use Rattle.desk.proofs.given.repeated.Statement.{statement}
 use Rattle.desk.proofs.given.repeated.Tie as tie
-use Rattle.desk.proofs.given.repeated.Reads as reads
-use Rattle.desk.proofs.given.repeated.Lts as lts
-use Rattle.desk.proofs.given.again.Reads as again-reads
 
 abbrev Inv-loop : tie.InvT-loop
 Inv-loop barcodes i₀ i = (i ≤ length barcodes) × Apart barcodes i
@@ -15,31 +13,24 @@ Inv-loop barcodes i₀ i = (i ≤ length barcodes) × Apart barcodes i
 abbrev μ-loop : tie.MeasureT-loop
 μ-loop barcodes i₀ i = length barcodes - i
 
--- src/given.rt:61:5
 loop-holds : tie.Need-loop-holds Inv-loop μ-loop
 loop-holds c = (omega arith, apart-start _)
 
--- src/given.rt:62:12
 again-requires : tie.Need-again-requires Inv-loop μ-loop
 again-requires c κs = search needs
 
--- src/given.rt:63:13
 returns : tie.Need-returns Inv-loop μ-loop
 returns c = let l = c .before .before .before .loop in apart-found _ _ _ (l .inv .1) (omega arith) (c .before .again .ensures) (c .if1 .taken)
 
--- src/given.rt:65:9
 add-i : tie.Need-add-i Inv-loop μ-loop
 add-i c = search needs
 
--- src/given.rt:61:5
 loop-less : tie.Need-loop-less Inv-loop μ-loop
 loop-less c = search needs
 
--- src/given.rt:61:5
 loop-again : tie.Need-loop-again Inv-loop μ-loop
 loop-again c = let l = c .before .before .before .loop in (omega arith, apart-more _ _ _ (l .inv .1) (omega arith) (c .before .again .ensures) (c .if1 .left))
 
--- src/given.rt:57:1
 returns-2 : tie.Need-returns-2 Inv-loop μ-loop
 returns-2 c = let l = c .before .loop in apart-end _ (l .i) (l .inv .1) (omega arith)
 
