@@ -93,15 +93,14 @@ none-given-fine words = rw (none-given words) none-fine
 
 opened : (kits : List Kit) (table m : List ℕ) (r : ℕ) (desk : List Kit) → desk ≡ deskOf kits → r ≡ openNumber kits → table ≡ tableOf desk → SetUp desk m → Opens kits table m r
 unfolding deskAfter
-opened kits table m r desk e n t s = record {
-  number = n;
-  after = record {
-    barcodes = t ∙ ap tableOf e;
-    book = s .book ∙ ap (λ ks. deskBook (windows ks)) e;
-    state = s .state ∙ ap (λ ks. initial (deskRows (windows ks))) e;
-    kept = s .kept;
-  };
-}
+opened kits table m r desk e n t s =
+    let after : After kits [] table m = record {
+      barcodes = t ∙ ap tableOf e;
+      book = s .book ∙ ap (λ ks. deskBook (windows ks)) e;
+      state = s .state ∙ ap (λ ks. initial (deskRows (windows ks))) e;
+      kept = s .kept;
+    } in
+    record { number = n; after = after; stands = record { kits = kits; scans = []; after = after } }
 
 pub opened-none : (words : List ℕ) (n : ℕ) (table m : List ℕ) (r : ℕ) → r ≡ openNumber (kitsIn words n) → ¬ (r ≡ 0) → table ≡ tableOf (kitsIn words 0)
     → SetUp (kitsIn words 0) m → Opens (kitsIn words n) table m r

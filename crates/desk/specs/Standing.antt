@@ -56,6 +56,7 @@ pub record Stands (table m : List ℕ) : Type 0 where
 pub record Opens (kits : List Kit) (table m : List ℕ) (r : ℕ) : Type 0 where
   pub number : r ≡ openNumber kits
   pub after : After kits [] table m
+  pub stands : Stands table m
 
 -- where a call has this outcome, it handed back r and left m′ of m; refused, it changed nothing
 pub record Leaves (o : Outcome) (m m′ : List ℕ) (r : ℕ) : Type 0 where
