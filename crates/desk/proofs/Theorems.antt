@@ -19,12 +19,13 @@ use Rattle.desk_rules.specs.Scans.{Kit, kitAt, Scan, deskOf, stopped, scanNumbe
 use Rattle.desk_rules.specs.Words.{Stopped}
 use Rattle.desk_rules.specs.Desk.{scanned}
 use Rattle.desk_rules.proofs.Words.{stopped-iff}
+use Rattle.desk_rules.proofs.Places.{codes-length}
 use Rattle.desk_rules.proofs.Theorems.{Few, few-numbers, scan-number as number-in-desk-terms}
 use Rattle.desk.specs.declared.Scanned.{Scanned}
-use Rattle.desk.specs.Standing.{Stands, Scans}
+use Rattle.desk.specs.Standing.{kitCount, Stands, Scans}
 use Rattle.desk.specs.Made.{Made}
 use Rattle.desk.specs.Made.Made.{scans}
-use Rattle.desk.proofs.Standing.{after-codes}
+use Rattle.desk.proofs.Standing.{after-codes, after-count}
 use Rattle.desk.proofs.Holding.{made-after, value-is, settled-is}
 
 -- a further scan may be made
@@ -34,6 +35,10 @@ made-stands {kits} {es} made = record { kits = kits; scans = es; after = made-af
 module _ {kits : List Kit} {es : List Scan} {table m : List ℕ} (made : Made kits es table m) where
   abbrev desk : List Kit
   desk = deskOf kits
+
+  -- the desk has as many kits as its table says
+  pub kit-count-is : kitCount table ≡ length desk
+  kit-count-is = omega (arith, after-count (made-after made), codes-length desk)
 
   -- ---- a kit's answers
   module _ (k : ℕ) (l : k < length desk) where

@@ -8,3 +8,4 @@ pub mod Scanned
 pub mod Settling
 pub mod Theorems
 pub mod Loaded
+pub mod Examples

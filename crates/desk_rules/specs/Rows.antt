@@ -23,7 +23,7 @@ KIT-ATOMS = 3
 abbrev pub atomOf : ℕ → ℕ → ℕ
 atomOf k i = KIT-ATOMS * k + i
 
--- how many rows, operands and words of rows a kit has, and its row i
+-- how many rows and operands a kit has, and its row i
 abbrev pub KIT-ROWS : ℕ
 KIT-ROWS = 7
 

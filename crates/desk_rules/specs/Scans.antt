@@ -71,7 +71,7 @@ unfoldable pub promised : Kit → ℕ → List Scan → Bool
 promised x t [] = false
 promised x t (e ∷ es) = reads (x .promise) e && leb t (e .hour + x .window) || not (reads (x .return) e) && promised x t es
 
--- the kit is stopped: at some scan it was handed out and was not promised before
+-- the kit is stopped: at some scan it was handed out and was not promised before; that scan is of the handout, so it is no promise itself
 unfoldable pub stopped : Kit → List Scan → Bool
 stopped x [] = false
 stopped x (e ∷ es) = reads (x .handout) e && not (promised x (e .hour) es) || stopped x es
