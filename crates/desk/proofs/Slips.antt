@@ -26,7 +26,7 @@ use Rattle.desk.specs.Standing.{slipFor, kitOf, Scans}
 use Rattle.desk.specs.Made.{Made}
 use Rattle.desk.specs.Made.Made.{scans}
 use Rattle.desk.proofs.Standing.{after-codes}
-use Rattle.desk.proofs.Holding.{made-after, settled-is, settled-none}
+use Rattle.desk.proofs.Holding.{made-after, value-is, settled-is, settled-none}
 
 -- ---- slips by two settled answers
 slip-stops : (j k : ℕ) (before after : Answer) → isFalse before ≡ false → isFalse after ≡ true → j ≡ k → slipFor j before after ≡ Stop k
@@ -161,3 +161,12 @@ pub never-again : {kits : List Kit} {es : List Scan} {table m : List ℕ} (made 
 never-again {kits} {es} made {e} s k h more made′ t g =
     let j = printed-just made s k h in
     clash (stays-all (deskOf kits) (kitAt (deskOf kits) k) more (e ∷ es) (j .now)) (printed-just made′ t k g .not-before)
+
+-- nor is it ever taken back: a kit that is settled false stays so, and its value is false
+pub never-taken-back : {kits : List Kit} {es : List Scan} {table m : List ℕ} → Made kits es table m → (k : ℕ) → k < length (deskOf kits) → verdictOf m k .settled ≡ False
+    → (more : List Scan) {table′ m′ : List ℕ} → Made kits (more ++ es) table′ m′ → (verdictOf m′ k .value ≡ false) × (verdictOf m′ k .settled ≡ False)
+never-taken-back {kits} {es} made k l h more later =
+    let x = kitAt (deskOf kits) k in
+    let now : stopped x (taken (deskOf kits) es) ≡ true = sym (by-stopped (stopped x (taken (deskOf kits) es))) ∙ ap isFalse (sym (settled-is made k l) ∙ h) in
+    let then = stays-all (deskOf kits) x more es now in
+    (value-is later k l ∙ rw then, settled-is later k l ∙ rw then)

@@ -37,8 +37,8 @@ use Rattle.property_answers.specs.Verdict.{verdictOf}
 use Rattle.desk.specs.declared.Scanned.{Scanned}
 use Rattle.desk.specs.declared.Slip.the-variants.{Quiet, Stop}
 use Rattle.desk.specs.Kits.{MOST-BARCODES, kitsIn}
-use Rattle.desk.specs.Standing.{TABLE-SIZE, tableOf, codesIn, After, Stands, Opens, Leaves, slipFor, Scans, Ready}
-use Rattle.desk.specs.Private.{BookPut, SetUp}
+use Rattle.desk.specs.Standing.{TABLE-SIZE, tableOf, codesIn, After, Stands, Opens, Leaves, slipFor, Scans}
+use Rattle.desk.specs.Private.{BookPut, SetUp, Ready}
 use Rattle.desk.proofs.Kits.{kits-length, codes-many}
 
 -- ---- the table

@@ -3,7 +3,7 @@
 -- Nothing is assumed.
 use Prim.Native.Nat.{ℕ, _<_}
 use native.Mathlib.Omega.{arith}
-use mathlib.Core.Path.{_≡_, refl, sym, _∙_}
+use mathlib.Core.Path.{_≡_, refl, sym, ap, _∙_}
 use mathlib.Core.Logic.{_↔_}
 use mathlib.Core.Bool.{Bool, true, false, cond, not}
 use mathlib.Core.List.{List}
@@ -11,20 +11,16 @@ use lib.ListN.{length}
 use borrow.Author.Tests.{not-false}
 use Rattle.lists.proofs.Tests.{fails-by, not-no}
 use Rattle.pmtl.specs.declared.Answer.the-variants.{False, Open}
-use Rattle.pmtl.specs.Monitor.{value}
-use Rattle.pmtl.specs.Settled.{settled}
 use Rattle.memory.proofs.Same.{same-words}
 use Rattle.property_answers.specs.Verdict.{verdictOf}
 use Rattle.desk_rules.specs.Scans.{Kit, kitAt, Scan, deskOf, stopped, scanNumber, taken}
 use Rattle.desk_rules.specs.Words.{Stopped}
-use Rattle.desk_rules.specs.Desk.{scanned}
 use Rattle.desk_rules.proofs.Words.{stopped-iff}
 use Rattle.desk_rules.proofs.Places.{codes-length}
 use Rattle.desk_rules.proofs.Theorems.{Few, few-numbers, scan-number as number-in-desk-terms}
 use Rattle.desk.specs.declared.Scanned.{Scanned}
-use Rattle.desk.specs.Standing.{kitCount, Stands, Scans}
+use Rattle.desk.specs.Standing.{kitCount, Stands, Scans, slipFor, kitOf}
 use Rattle.desk.specs.Made.{Made}
-use Rattle.desk.specs.Made.Made.{scans}
 use Rattle.desk.proofs.Standing.{after-codes, after-count}
 use Rattle.desk.proofs.Holding.{made-after, value-is, settled-is}
 
@@ -89,3 +85,12 @@ made-unique {m = m} {m′} made made′ =
     let a = made-after made in
     let b = made-after made′ in
     (a .barcodes ∙ sym (b .barcodes), same-words m m′ (a .kept) (b .kept) (a .book ∙ sym (b .book)) (a .state ∙ sym (b .state)))
+
+-- a scan at a desk has one answer and leaves one memory
+pub scan-unique : {e : Scan} {table m m₁ m₂ : List ℕ} {r q : Scanned} → Scans e table m m₁ r → Scans e table m m₂ q → (r .number ≡ q .number) × (r .slip ≡ q .slip) × (m₁ ≡ m₂)
+scan-unique {e} {table} {m} {m₁} {m₂} s t =
+    let x = s .leaves in
+    let y = t .leaves in
+    let same : m₁ ≡ m₂ = same-words m₁ m₂ (x .kept) (y .kept) (x .book ∙ sym (y .book)) (x .state ∙ sym (y .state)) in
+    let kit = kitOf table e in
+    (x .number ∙ sym (y .number), s .slip ∙ ap (λ m′. slipFor kit (verdictOf m kit .settled) (verdictOf m′ kit .settled)) same ∙ sym (t .slip), same)

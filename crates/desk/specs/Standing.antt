@@ -1,5 +1,5 @@
 -- What a desk's memory holds, and what opening it and scanning at it owe. Definitions only.
-use Prim.Native.Nat.{ℕ, _+_, _/_, _≤_}
+use Prim.Native.Nat.{ℕ, _+_, _/_}
 use mathlib.Core.Path.{_≡_}
 use mathlib.Core.Bool.{cond}
 use mathlib.Core.List.{List, [], _∷_}
@@ -9,13 +9,13 @@ use Rattle.numbers.specs.Refusals.{ACCEPTED}
 use Rattle.lists.specs.Lists.{part}
 use Rattle.pmtl.specs.declared.Answer.{Answer}
 use Rattle.pmtl.specs.Answer.{isFalse}
-use Rattle.pmtl.specs.Calls.{stamped, state, Outcome, call}
+use Rattle.pmtl.specs.Calls.{Outcome}
 use Rattle.memory.specs.Memory.{bookOf, stateOf}
 use Rattle.memory.specs.Kept.{Kept}
 use Rattle.property_answers.specs.Verdict.{verdictOf}
 use Rattle.desk_rules.specs.Scans.{Kit, Scan, codes, windows, openNumber, deskOf}
 use Rattle.desk_rules.specs.Rows.{KIT-ATOMS, deskBook}
-use Rattle.desk_rules.specs.Desk.{clear, oneOn, placeOf, scannedIn, deskAfter}
+use Rattle.desk_rules.specs.Desk.{placeOf, scannedIn, deskAfter}
 use Rattle.desk.specs.declared.Slip.{Slip}
 use Rattle.desk.specs.declared.Slip.the-variants.{Quiet, Stop}
 use Rattle.desk.specs.declared.Scanned.{Scanned}
@@ -79,11 +79,3 @@ pub record Scans (e : Scan) (table m m′ : List ℕ) (r : Scanned) : Type 0 whe
   pub leaves : Leaves (scannedIn (bookOf m .rows) (codesIn table) (stateOf m) e) m m′ (r .number)
   pub slip : r .slip ≡ slipFor (kitOf table e) (verdictOf m (kitOf table e) .settled) (verdictOf m′ (kitOf table e) .settled)
   pub stands : Stands table m′
-
--- ---- what the desk's own functions ask
--- an atom of so many can go on and off at this time: if the first state is accepted, so is the second
-pub record Ready (m : List ℕ) (t width place : ℕ) : Type 0 where
-  pub inside : place ≤ width
-  pub few : width ≤ MOST-BARCODES
-  pub clears : call (bookOf m .rows) (call (bookOf m .rows) (stateOf m) (stamped t (oneOn width place)) .state) (state (clear width)) .number ≡ ACCEPTED
-  pub kept : Kept m
