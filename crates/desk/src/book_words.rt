@@ -35,21 +35,21 @@ const GUARANTEE: usize = 6;
 // The most words of a book: those of the rows, the operands and the guarantee of each kit, and four counts.
 pub const MOST_BOOK_WORDS: usize = (KIT_ROW_WORDS + KIT_OPERANDS + 1) * MOST_KITS + 4;
 
-// hist[0,*](implies(handout, since[0,window](not(return), promise))) for kit k.
+// The rows of hist[0,*](implies(handout, since[0,window](not(return), promise))) for kit k: kind, arg, lower and upper of each.
 fn put_kit(k: usize, window: u64, words: &mut [u64], at: usize)
     requires { ⌜ (k < MOST-KITS) × (at + KIT-ROW-WORDS ≤ length (now words)) ⌝ }
     ensures { λ _. ⌜ now (words .exit) ≡ put (now (words .entry)) at (kitWords k window) ⌝ }
 {
     let promise = (KIT_BARCODES * k) as u64;
     let handout = promise + 1;
-    let ret = promise + 2;
+    let returned = promise + 2;
     let rows = [
         ATOM,
         handout,
         0,
         0,
         ATOM,
-        ret,
+        returned,
         0,
         0,
         NOT,

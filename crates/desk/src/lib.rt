@@ -38,6 +38,8 @@ use oracle::update_state;
 // The words of the table: how many barcodes there are, and they.
 pub const TABLE_SIZE: usize = MOST_BARCODES + 1;
 
+const COUNT: usize = 0;
+
 const BARCODES: usize = 1;
 
 // Whether a stop slip prints, and of which kit.
@@ -58,7 +60,7 @@ fn put_table(kits: &[u64; MOST_KIT_WORDS], count: usize, table: &mut [u64])
     ensures { λ _. ⌜ now (table .exit) ≡ tableOf (kitsIn (now (kits .entry)) count) ⌝ }
 {
     lists::clear(table);
-    table[0] = (KIT_BARCODES * count) as u64;
+    table[COUNT] = (KIT_BARCODES * count) as u64;
     put_barcodes(kits, count, table, BARCODES);
 }
 
@@ -162,7 +164,7 @@ pub fn scan(
     requires { ⌜ Stands (now table) (now monitor) ⌝ }
     ensures { λ r. ⌜ Scans (record { hour = time; barcode = barcode }) (now (table .entry)) (now (monitor .entry)) (now (monitor .exit)) r ⌝ }
 {
-    let width = table[0] as usize;
+    let width = table[COUNT] as usize;
     let place = place_of(barcode, lists::part_of(table, BARCODES, width));
     let kit = place / KIT_BARCODES;
     let before = of_property(monitor, kit).settled;
@@ -178,7 +180,7 @@ pub fn scan(
 pub fn kit_count(table: &[u64; TABLE_SIZE]) -> usize
     ensures { λ r. ⌜ r ≡ kitCount (now (table .entry)) ⌝ }
 {
-    table[0] as usize / KIT_BARCODES
+    table[COUNT] as usize / KIT_BARCODES
 }
 
 // The answers of a kit.

@@ -12,8 +12,8 @@ mul-promise c = search needs
 add-handout : tie.Need-add-handout
 add-handout c = search needs
 
-add-ret : tie.Need-add-ret
-add-ret c = search needs
+add-returned : tie.Need-add-returned
+add-returned c = search needs
 
 slice-aggregate-copy : tie.Need-slice-aggregate-copy
 slice-aggregate-copy c = search needs
@@ -33,7 +33,7 @@ put-kit-spec =
     (tie.spec
     mul-promise
     add-handout
-    add-ret
+    add-returned
     slice-aggregate-copy
     copy-requires
     same-length
