@@ -5,8 +5,8 @@ use mathlib.Core.List.{List, [], _∷_}
 use Rattle.numset.specs.Runs.{has, covers, insert, union, kept}
 use Rattle.pmtl.specs.Book.{stop, widthOf, table, answer, every, some}
 use Rattle.pmtl.specs.Sets.{gone, staysIf, addedIf, renewed, setRuleBy}
-use Rattle.pmtl.specs.Monitor.{initial, valueRule, value, stepBy}
-use Rattle.pmtl.specs.Calls.{Call, stamped, firstOf, refusal, crowded, play, call, after}
+use Rattle.pmtl.specs.Monitor.{initialIn, valueRule, value, stepBy}
+use Rattle.pmtl.specs.Calls.{Call, stamped, firstOf, refusal, crowded, play, call, afterIn, after}
 use Rattle.desk_rules.specs.Scans.{Kit, Scan, reads, promised, stopped, scanNumber, taken}
 use Rattle.desk_rules.specs.Rows.{rowsFrom, deskRows, guarantee}
 use Rattle.desk_rules.specs.Desk.{placeOf, orAsBefore, cleared, pulse, scannedAt, deskAfter}
@@ -30,7 +30,7 @@ stopped-late = refl
 
 -- and so the monitor says
 unfoldable pub valueAfter : List Scan → Bool
-unfolding has covers insert union kept stop widthOf table answer every some gone staysIf addedIf renewed setRuleBy initial valueRule value stepBy firstOf refusal crowded play call rowsFrom placeOf orAsBefore cleared pulse scannedAt deskAfter
+unfolding has covers insert union kept stop widthOf table answer every some gone staysIf addedIf renewed setRuleBy initialIn valueRule value stepBy firstOf refusal crowded play call rowsFrom placeOf orAsBefore cleared pulse scannedAt deskAfter
 valueAfter es = value (deskRows (6 ∷ [])) (deskAfter (eyepiece ∷ []) es) (guarantee 0)
 
 pub false-late : valueAfter late ≡ false
@@ -42,7 +42,7 @@ abbrev pub unclear : List Call
 unclear = stamped 10 (0 ∷ 1 ∷ 0 ∷ []) ∷ stamped 1 (1 ∷ 0 ∷ 0 ∷ []) ∷ []
 
 unfoldable pub valueUnclear : List Call → Bool
-unfolding has covers insert union kept stop widthOf table answer every some gone staysIf addedIf renewed setRuleBy initial valueRule value stepBy firstOf refusal crowded play call after rowsFrom
+unfolding has covers insert union kept stop widthOf table answer every some gone staysIf addedIf renewed setRuleBy initialIn valueRule value stepBy firstOf refusal crowded play call afterIn rowsFrom
 valueUnclear calls = value (deskRows (6 ∷ [])) (after (deskRows (6 ∷ [])) calls) (guarantee 0)
 
 pub true-unclear : valueUnclear unclear ≡ true

@@ -10,10 +10,10 @@ use lib.Dec.{eqb}
 use borrow.Author.Tests.{le-leb}
 use Rattle.numbers.specs.Limits.{MAX, LAST-TIME, MOST-KITS}
 use Rattle.numbers.specs.Refusals.{ACCEPTED}
-use Rattle.book.specs.declared.strict.Loading.the-variants.{Strict}
+use Rattle.book.specs.declared.loading.Loading.the-variants.{Strict}
 use Rattle.book.specs.Judging.{argGood, formGood, rangeGood, loaded}
-use Rattle.book.specs.Strict.{loadedBy}
-use Rattle.book.proofs.Excess.{strict-admitted}
+use Rattle.book.specs.Loading.{loadedBy}
+use Rattle.book.proofs.Admitted.{admitted-as}
 use Rattle.trees.specs.declared.Word.the-variants.{Atom, Not, Implies, Hist, Since}
 use Rattle.trees.specs.Forest.{Head, headOf, Forest, none, tree, one, _then_, count, size, roots, Entry, entries, Good}
 use Rattle.trees.specs.Numbered.{rowWith, rowOf as treeRow, rowsFrom as treeRows, bookOf}
@@ -159,4 +159,4 @@ module _ (kits : List Kit) (fine : Fine kits) where
 
   -- in the strict way of loading, too: none of its sets can ever lack room
   pub book-loads-strictly : loadedBy Strict (bookWords ws) ≡ record { number = ACCEPTED; book = deskBook ws }
-  book-loads-strictly = strict-admitted (loaded (bookWords ws)) (rw book-loads (desk-strict ws)) ∙ book-loads
+  book-loads-strictly = admitted-as Strict (loaded (bookWords ws)) (λ s. rw book-loads (desk-strict ws)) refl ∙ book-loads

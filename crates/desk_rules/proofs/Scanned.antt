@@ -10,8 +10,8 @@ use borrow.Author.Tests.{ltb-false, eqb-true, eqb-false, eq-eqb, ne-eqb, le-ltb}
 use Rattle.numbers.specs.Limits.{LAST-TIME}
 use Rattle.numbers.specs.Refusals.{ACCEPTED, TOO-EARLY, TOO-LATE, UNKNOWN-BARCODE}
 use Rattle.pmtl.specs.Book.{Rows, Ordered, some}
-use Rattle.pmtl.specs.Monitor.{Snap, State, step}
-use Rattle.pmtl.specs.Calls.{Call, state, stamped, turns, timed, stated, timeRefusal, firstOf, refusal, crowds, Outcome, play, call, after, History, nowOf, onto, accepted}
+use Rattle.pmtl.specs.Monitor.{Snap, State, stepIn}
+use Rattle.pmtl.specs.Calls.{Call, state, stamped, turns, timed, stated, timeRefusal, firstOf, refusal, crowds, Outcome, play, call, afterIn, after, History, nowOf, onto, accepted}
 use Rattle.pmtl.specs.Strict.{Strict}
 use Rattle.pmtl.proofs.History.{now-run}
 use Rattle.pmtl.proofs.Calls.{first-zero, trail}
@@ -30,10 +30,10 @@ numberOf o = o .number
 play-either : (b : Rows) (old st : State) (ns : List Snap) → (play b old st ns .number ≡ 0) ⊎ (play b old st ns .number ≡ 11)
 unfolding play
 play-either b old st [] = inl refl
-play-either b old st (n ∷ ns) = go (crowds b st n) (play-either b old (step b st n) ns)
+play-either b old st (n ∷ ns) = go (crowds b st n) (play-either b old (stepIn b st n) ns)
   where
-    go : (z : Bool) → (play b old (step b st n) ns .number ≡ 0) ⊎ (play b old (step b st n) ns .number ≡ 11)
-        → let o = elim z as (λ z. Outcome) [ true ↦ record { number = 11; state = old } | false ↦ play b old (step b st n) ns ] in (o .number ≡ 0) ⊎ (o .number ≡ 11)
+    go : (z : Bool) → (play b old (stepIn b st n) ns .number ≡ 0) ⊎ (play b old (stepIn b st n) ns .number ≡ 11)
+        → let o = elim z as (λ z. Outcome) [ true ↦ record { number = 11; state = old } | false ↦ play b old (stepIn b st n) ns ] in (o .number ≡ 0) ⊎ (o .number ≡ 11)
     go true h = inr refl
     go false h = h
 
@@ -154,12 +154,12 @@ module _ (kits : List Kit) (fine : Fine kits) where
 
     -- the second call is accepted, whether the first was or not
     pub clear-number : call b (call b st (stamped (e .hour) (stateOf kits e)) .state) (state (clear (width kits))) .number ≡ 0
-    unfolding after
+    unfolding afterIn
     clear-number = strict-number b (desk-ordered (windows kits)) (desk-strict (windows kits)) (once es e) (state (clear (width kits))) ∙ clear-refusal _
 
     pulse-is : (z : Bool) → eqb (hourNumber es e) 0 ≡ z
         → pulse b (width kits) st (e .hour) (placeOf (e .barcode) (codes kits)) ≡ record { number = hourNumber es e; state = after b (callsOf (cond z (e ∷ es) es)) }
-    unfolding pulse callsOf after
+    unfolding pulse callsOf afterIn
     pulse-is true z =
         let y = eqb-true (hourNumber es e) 0 z in
         both-cleared b (width kits) st (call b st (stamped (e .hour) (stateOf kits e))) (stamped-number ∙ y) clear-number
@@ -199,7 +199,7 @@ module _ (kits : List Kit) (fine : Fine kits) where
     pub timely : Timely kits ts
 
   pub traced : (es : List Scan) → Traced es (taken kits es)
-  unfolding deskAfter taken callsOf after
+  unfolding deskAfter taken callsOf afterIn
   traced [] = record { is = refl; timely = tt }
   traced (e ∷ es) = let t = traced es in record {
     is = ap (λ s. scanned kits s e .state) (t .is) ∙ ap (λ (o : Outcome). o .state) (scan-is (taken kits es) (t .timely) e);

@@ -13,8 +13,8 @@ use Rattle.pmtl.specs.declared.Answer.the-variants.{False, Open}
 use Rattle.pmtl.specs.Book.{mapRow, Rows}
 use Rattle.pmtl.specs.Book.Row.{never}
 use Rattle.pmtl.specs.Sets.{gone}
-use Rattle.pmtl.specs.Monitor.{Snap, State, setAt, value, initial}
-use Rattle.pmtl.specs.Calls.{Call, after, nowOf, accepted}
+use Rattle.pmtl.specs.Monitor.{Snap, State, setAt, value, initialIn}
+use Rattle.pmtl.specs.Calls.{Call, afterIn, after, nowOf, accepted}
 use Rattle.pmtl.specs.Meaning.{meaning}
 use Rattle.pmtl.specs.Past.{runBy, run}
 use Rattle.pmtl.specs.Settled.{settledTrue, settledFalse, settledRule, settled}
@@ -125,6 +125,6 @@ module _ (kits : List Kit) (fine : Fine kits) (k : ℕ) (l : k < length kits) wh
   begun-after e es = step-begun b _ _
 
   pub settled-is : (es : List Scan) → Timely kits es → settled b (after b (callsOf kits fine es)) (guarantee k) ≡ cond (stopped x es) False Open
-  unfolding callsOf after stopped initial
+  unfolding callsOf afterIn stopped initialIn
   settled-is [] q = settled-before b (after b []) refl (guarantee k)
   settled-is (e ∷ es) q = settled-begun (e ∷ es) q (ap (λ (s : State). s .begun) (is-run (e ∷ es) q) ∙ begun-after e es)
