@@ -18,9 +18,9 @@ use Rattle.pmtl.specs.Monitor.{State, initial}
 use Rattle.pmtl.specs.Calls.{stamped, state, Outcome, call}
 use Rattle.memory.specs.Memory.{bookOf, stateOf}
 use Rattle.memory.specs.Kept.{Kept}
-use Rattle.book.specs.declared.strict.Loading.the-variants.{Strict}
+use Rattle.book.specs.declared.loading.Loading.the-variants.{Strict}
 use Rattle.book.specs.Judging.{Loaded}
-use Rattle.book.specs.Strict.{loadedBy}
+use Rattle.book.specs.Loading.{loadedBy}
 use Rattle.loader.specs.Loading.{Loads}
 use Rattle.calls.specs.Called.{Called}
 use Rattle.trees.proofs.Built.{take-sets}
