@@ -156,7 +156,7 @@ module _ (done : ℕ) where
   unfolding following
   next-less h = rw (lt-ltb done MAX h) (omega arith)
 
-  pub next-last : MAX ≤ done → done ≡ following done
+  pub next-last : MAX ≤ done → MAX ≡ following done
   unfolding following
   next-last h = rw (le-ltb done MAX h)
 

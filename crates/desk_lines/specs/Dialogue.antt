@@ -91,9 +91,9 @@ kitLine count given s d =
 abbrev pub SCAN-WORDS : ℕ
 SCAN-WORDS = 2
 
--- the number of the line after so many; no desk gets past the last
+-- the number of the line after so many; after the largest it stays, which no desk lives to see
 unfoldable pub following : ℕ → ℕ
-following done = cond (ltb done MAX) (suc done) done
+following done = cond (ltb done MAX) (suc done) MAX
 
 abbrev pub scanOf : Supply → Scan
 scanOf s = record { hour = wordAt s 0; barcode = wordAt s 1 }

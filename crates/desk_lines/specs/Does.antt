@@ -2,6 +2,7 @@
 use Prim.Native.Nat.{ℕ, _≤_, _<_}
 use mathlib.Core.Path.{_≡_}
 use mathlib.Core.List.{List}
+use lib.ListN.{length}
 use Rattle.numbers.specs.Limits.{MOST-KITS}
 use Rattle.text.specs.Words.{Supply}
 use Rattle.memory.specs.Memory.{bookOf, stateOf}
@@ -13,6 +14,7 @@ use Rattle.desk_lines.specs.declared.Heard.{Heard}
 use Rattle.desk_lines.specs.declared.Answered.{Answered}
 use Rattle.desk_lines.specs.Dialogue.{Held, Reply, scanLine}
 use Rattle.desk_lines.specs.Bytes.{replyBytes}
+use Rattle.desk_lines.specs.Longest.{LONGEST-ANSWER}
 
 -- what stays, in words, a table and a monitor's memory
 abbrev pub heldOf : List ℕ → List ℕ → List ℕ → Held
@@ -40,9 +42,10 @@ pub record Does (reply : Reply) (r : Heard) (words table m : List ℕ) : Type 0 
 abbrev pub DoesScan : ℕ → Supply → List ℕ → List ℕ → Heard → List ℕ → Type 0
 DoesScan done s table m r m′ = (words : List ℕ) → Does (scanLine done s (heldOf words table m)) r words table m′
 
--- and wrote what is said after it, from the start of `out`
+-- and wrote what is said after it, from the start of `out`; it is never longer than the longest
 pub record Answers (reply : Reply) (r : Answered) (words table m out out′ : List ℕ) : Type 0 where
   pub stage : r .stage ≡ reply .heard .stage
   pub held : heldOf words table m ≡ reply .held
   pub written : handed (r .length) out′ ≡ inBuffer out (replyBytes reply)
+  pub fits : length (replyBytes reply) ≤ LONGEST-ANSWER
   pub good : Good (r .stage) table m

@@ -21,6 +21,7 @@ use numbers::MAX;
 use numbers::MOST_KITS;
 use numbers::WRONG_KITS;
 use oracle::SIZE;
+pub use writes::LONGEST_ANSWER;
 
 // The words of the other lines: the number of kits; a scan's time and barcode.
 const COUNT_WORDS: usize = 1;
@@ -152,7 +153,7 @@ fn next_number(done: u64) -> u64
     if done < MAX {
         return done + 1;
     }
-    done
+    MAX
 }
 
 // What is said of a scan.
@@ -222,7 +223,8 @@ fn hear(
     }
 }
 
-// Answers a line: what is said is written from the start of `out`, and the desk is changed in place.
+// Answers a line: what is said is written from the start of `out`, whole if that has room for the longest answer, and the desk is
+// changed in place.
 pub fn answer(
     stage: Stage,
     line: &[u8],

@@ -16,9 +16,25 @@ use buffer_writer::put_bytes;
 use buffer_writer::put_number;
 use desk::TABLE_SIZE;
 use numbers::ACCEPTED;
+use numbers::MOST_KITS;
 use numbers::WRONG_LENGTH;
 use oracle::Answer;
 use oracle::SIZE;
+
+// The most digits of a line's number.
+const NUMBER_DIGITS: usize = 20;
+
+// A kit's word, with the space before it.
+const KIT_BYTES: usize = 4;
+
+// An accepted scan's line: its number, a space, 0, the words, a line feed. A refused one's is shorter.
+const SCAN_BYTES: usize = NUMBER_DIGITS + 1 + 1 + KIT_BYTES * MOST_KITS + 1;
+
+// A slip's line.
+const SLIP_BYTES: usize = 8;
+
+// No answer has more bytes.
+pub const LONGEST_ANSWER: usize = SCAN_BYTES + SLIP_BYTES;
 
 // A word, a number and a line feed.
 fn put_numbered(out: &mut [u8], at: usize, word: &[u8], number: u64) -> usize
