@@ -8,7 +8,7 @@ use mathlib.Core.Bool.{Bool, true, false, cond, not}
 use mathlib.Core.List.{List, _∷_}
 use lib.ListN.{length}
 use lib.Dec.{eqb, ltb}
-use borrow.Author.Tests.{not-false, ne-eqb}
+use borrow.Author.Tests.{not-false, eqb-true, eq-eqb, ne-eqb}
 use Rattle.lists.proofs.Tests.{fails-by, not-no}
 use Rattle.numbers.specs.Limits.{LAST-TIME}
 use Rattle.numbers.specs.Refusals.{ACCEPTED, TOO-EARLY, TOO-LATE, UNKNOWN-BARCODE}
@@ -17,11 +17,12 @@ use Rattle.pmtl.specs.Book.{Rows, some}
 use Rattle.pmtl.specs.Monitor.{value}
 use Rattle.pmtl.specs.Settled.{settled}
 use Rattle.pmtl.specs.Calls.{stamped, state, Outcome, call, after}
-use Rattle.desk_rules.specs.Scans.{Kit, kitAt, Scan, codes, windows, deskOf, stopped, lastHour, scanNumber, taken}
-use Rattle.desk_rules.specs.Words.{Stopped}
-use Rattle.desk_rules.specs.Rows.{deskRows, guarantee}
+use Rattle.desk_rules.specs.Scans.{Kit, kitAt, Scan, codes, windows, deskOf, reads, promised, stopped, lastHour, scanNumber, taken}
+use Rattle.desk_rules.specs.Words.{Promised, Stopped}
+use Rattle.desk_rules.specs.Rows.{PROMISE, HANDOUT, RETURN, atomOf, deskRows, guarantee}
 use Rattle.desk_rules.specs.Desk.{placeOf, clear, oneOn, scanned, deskAfter}
-use Rattle.desk_rules.proofs.Words.{stopped-iff}
+use Rattle.desk_rules.proofs.Words.{promised-iff, stopped-iff}
+use Rattle.desk_rules.proofs.Places.{promise-place, handout-place, return-place}
 use Rattle.desk_rules.proofs.Opened.{desk-fine}
 use Rattle.desk_rules.proofs.Scanned.{clear-number, scan-is, traced}
 use Rattle.desk_rules.proofs.Settling.{value-is, settled-is}
@@ -39,6 +40,20 @@ among desk es e = go (some (eqb (e .barcode)) (codes desk)) (ltb (e .hour) (last
     go true true late = inr (inr (inl refl))
     go true false true = inr (inr (inr refl))
     go true false false = inl refl
+
+-- `Stopped` looks for a promise before the handout's scan; one at that scan or before it is the same, since a handout is no promise and no return of its kit
+pub at-or-before : (kits : List Kit) (k : ℕ) → k < length (deskOf kits) → (e : Scan) (es : List Scan) (t : ℕ) → e .barcode ≡ kitAt (deskOf kits) k .handout
+    → Promised (kitAt (deskOf kits) k) t (e ∷ es) ↔ Promised (kitAt (deskOf kits) k) t es
+unfolding promised reads
+at-or-before kits k l e es t h =
+    let desk = deskOf kits in
+    let x = kitAt desk k in
+    let apart = desk-fine kits .apart in
+    let place = eqb-true (placeOf (e .barcode) (codes desk)) (atomOf k HANDOUT) (handout-place desk apart (e .barcode) k l ∙ eq-eqb (e .barcode) (x .handout) h) in
+    let p : eqb (e .barcode) (x .promise) ≡ false = sym (promise-place desk apart (e .barcode) k l) ∙ ne-eqb (placeOf (e .barcode) (codes desk)) (atomOf k PROMISE) (λ y. omega arith) in
+    let r : eqb (e .barcode) (x .return) ≡ false = sym (return-place desk apart (e .barcode) k l) ∙ ne-eqb (placeOf (e .barcode) (codes desk)) (atomOf k RETURN) (λ y. omega arith) in
+    let same : promised x t (e ∷ es) ≡ promised x t es = rw (p, r) in
+    (λ q. promised-iff x t es .0 (sym same ∙ promised-iff x t (e ∷ es) .1 q), λ q. promised-iff x t (e ∷ es) .0 (same ∙ promised-iff x t es .1 q))
 
 module _ (kits : List Kit) (scans : List Scan) where
   abbrev desk : List Kit

@@ -87,9 +87,9 @@ fn answer_line(
 
 // Prints what is said at the end of the input.
 fn say_last(stage: Stage) {
-    let mut out = [0u8; LONGEST_ANSWER];
-    let length = desk_lines::last(stage, &mut out);
-    print_answer(&out, length);
+    let mut said = [0u8; LONGEST_ANSWER];
+    let length = desk_lines::last(stage, &mut said);
+    print_answer(&said, length);
 }
 
 fn main() {
