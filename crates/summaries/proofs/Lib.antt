@@ -1,1 +1,3 @@
 pub mod Appended
+pub mod Noted
+pub mod Theorems

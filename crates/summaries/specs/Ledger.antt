@@ -92,7 +92,7 @@ ledgerIn way b [] = blankLedger b
 ledgerIn way b (k ∷ ks) = next b (call (b .rows) (afterIn way (b .rows) ks) k) (ledgerIn way b ks)
 
 -- ---- numbers that can stand in a ledger
--- in an entry, after call n: none passes n, so that nothing wraps
+-- in an entry, after call n: none passes n, so that nothing wraps; and calls are named exactly if there are some
 pub record EntryCounts (n : ℕ) (e : Entry) : Type 0 where
   pub accepted : e .summary .accepted ≤ n
   pub failed : e .summary .failed ≤ e .summary .accepted
@@ -101,6 +101,8 @@ pub record EntryCounts (n : ℕ) (e : Entry) : Type 0 where
   pub longest : e .summary .longest ≤ e .summary .failed
   pub stretch : e .stretch ≤ e .summary .longest
   pub settled : e .summary .settled ≤ n
+  pub none : e .summary .failed ≡ 0 → e .summary .last ≡ 0
+  pub some : 0 < e .summary .failed → 0 < e .summary .first
 
 -- in a ledger of so many properties
 pub record Counts (properties : ℕ) (l : Ledger) : Type 0 where

@@ -1,0 +1,177 @@
+-- What one call makes of a ledger, field by field, and that nothing in it wraps. Assumes nothing.
+use Prim.Native.Nat.{ℕ, suc, max, _<_, _≤_}
+use native.Mathlib.Omega.{arith}
+use native.Mathlib.Decide.{decLt, ℕ-discrete}
+use mathlib.Core.Path.{_≡_, refl, sym, ap, _∙_}
+use mathlib.Core.Bool.{Bool, true, false, cond}
+use mathlib.Core.List.{List}
+use lib.ListN.{length, length-replicate, getD-replicate}
+use lib.Dec.{eqb}
+use borrow.Author.Tests.{lt-ltb, le-ltb, eq-eqb, ne-eqb}
+use Rattle.lists.specs.Lists.{listed}
+use Rattle.lists.proofs.Listed.{listed-length, listed-at}
+use Rattle.numbers.specs.Refusals.{ACCEPTED}
+use Rattle.pmtl.specs.declared.Answer.{Answer}
+use Rattle.pmtl.specs.Answer.{isOpen}
+use Rattle.pmtl.specs.Book.{Book, properties}
+use Rattle.pmtl.specs.Monitor.{value}
+use Rattle.pmtl.specs.Settled.{settled}
+use Rattle.pmtl.specs.Calls.{Outcome}
+use Rattle.property_answers.specs.Verdict.{propertyAt}
+use Rattle.summaries.specs.Ledger.{LAST-COUNTED, Entry, Ledger, noEntry, blankLedger, entryAt, orElse, stretchAfter, noted, entriesAfter, next, EntryCounts, Counts}
+
+-- ---- one property, after the accepted call n
+module _ (n : ℕ) (holds : Bool) (answer : Answer) (e : Entry) where
+  pub accepted-now : noted n holds answer e .summary .accepted ≡ suc (e .summary .accepted)
+  unfolding noted
+  accepted-now = refl
+
+  pub failed-now : noted n holds answer e .summary .failed ≡ cond holds (e .summary .failed) (suc (e .summary .failed))
+  unfolding noted
+  failed-now = refl
+
+  pub first-now : noted n holds answer e .summary .first ≡ cond holds (e .summary .first) (orElse (e .summary .first) n)
+  unfolding noted
+  first-now = refl
+
+  pub last-now : noted n holds answer e .summary .last ≡ cond holds (e .summary .last) n
+  unfolding noted
+  last-now = refl
+
+  pub longest-now : noted n holds answer e .summary .longest ≡ max (e .summary .longest) (stretchAfter holds (e .stretch))
+  unfolding noted
+  longest-now = refl
+
+  pub settled-now : noted n holds answer e .summary .settled ≡ cond (isOpen answer) (e .summary .settled) (orElse (e .summary .settled) n)
+  unfolding noted
+  settled-now = refl
+
+  pub stretch-now : noted n holds answer e .stretch ≡ stretchAfter holds (e .stretch)
+  unfolding noted
+  stretch-now = refl
+
+-- ---- one call
+module _ (b : Book) (o : Outcome) (l : Ledger) where
+  -- what an accepted one makes of the entry of property p
+  abbrev pub notedAt : ℕ → Entry
+  notedAt p = noted (suc (l .number)) (value (b .rows) (o .state) (propertyAt b p)) (settled (b .rows) (o .state) (propertyAt b p)) (entryAt (l .entries) p)
+
+  pub next-accepted : l .number < LAST-COUNTED → o .number ≡ ACCEPTED → next b o l ≡ record { number = suc (l .number); entries = listed notedAt (length (properties b)) }
+  unfolding next entriesAfter
+  next-accepted h e = rw (lt-ltb (l .number) LAST-COUNTED h, eq-eqb (o .number) ACCEPTED e)
+
+  -- a refused one changes the number alone
+  pub next-refused : l .number < LAST-COUNTED → ¬ (o .number ≡ ACCEPTED) → next b o l ≡ record { number = suc (l .number); entries = l .entries }
+  unfolding next entriesAfter
+  next-refused h e = rw (lt-ltb (l .number) LAST-COUNTED h, ne-eqb (o .number) ACCEPTED e)
+
+  -- and after the last that is counted, none changes anything
+  pub next-past : LAST-COUNTED ≤ l .number → next b o l ≡ l
+  unfolding next
+  next-past h = rw (le-ltb (l .number) LAST-COUNTED h)
+
+  pub number-next : l .number < LAST-COUNTED → next b o l .number ≡ suc (l .number)
+  unfolding next
+  number-next h = rw (lt-ltb (l .number) LAST-COUNTED h)
+
+  pub entry-next : l .number < LAST-COUNTED → o .number ≡ ACCEPTED → (p : ℕ) → p < length (properties b) → entryAt (next b o l .entries) p ≡ notedAt p
+  entry-next h e p inside = ap (λ (k : Ledger). entryAt (k .entries) p) (next-accepted h e) ∙ listed-at notedAt noEntry (length (properties b)) p inside
+
+  pub entries-refused : ¬ (o .number ≡ ACCEPTED) → next b o l .entries ≡ l .entries
+  entries-refused e = go (decLt (l .number) LAST-COUNTED)
+    where
+      go : Dec (l .number < LAST-COUNTED) → next b o l .entries ≡ l .entries
+      go (yes h) = ap (λ (k : Ledger). k .entries) (next-refused h e)
+      go (no h) = ap (λ (k : Ledger). k .entries) (next-past (omega arith))
+
+-- ---- the numbers in it
+blank-entry : EntryCounts 0 noEntry
+blank-entry = record {
+  accepted = omega arith;
+  failed = omega arith;
+  last = omega arith;
+  first = omega arith;
+  longest = omega arith;
+  stretch = omega arith;
+  settled = omega arith;
+  none = λ e. refl;
+  some = λ h. absurd (omega arith);
+}
+
+pub blank-counts : (b : Book) → Counts (length (properties b)) (blankLedger b)
+blank-counts b = record {
+  number = omega arith;
+  each = length-replicate (length (properties b)) noEntry;
+  entries = λ p h. rw (getD-replicate (length (properties b)) p noEntry noEntry h) blank-entry;
+}
+
+later-entry : {n : ℕ} {e : Entry} → EntryCounts n e → EntryCounts (suc n) e
+later-entry c = record {
+  accepted = omega (arith, c .accepted);
+  failed = c .failed;
+  last = omega (arith, c .last);
+  first = c .first;
+  longest = c .longest;
+  stretch = c .stretch;
+  settled = omega (arith, c .settled);
+  none = c .none;
+  some = c .some;
+}
+
+or-else-most : (old n k : ℕ) → old ≤ k → n ≤ k → orElse old n ≤ k
+or-else-most old n k h h′ = go (eqb old 0)
+  where
+    go : (z : Bool) → cond z n old ≤ k
+    go true = h′
+    go false = h
+
+or-else-over : (old n : ℕ) → 0 < n → 0 < orElse old n
+or-else-over old n h = go (ℕ-discrete old 0)
+  where
+    go : Dec (old ≡ 0) → 0 < orElse old n
+    go (yes e) = rw (eq-eqb old 0 e) h
+    go (no e) = rw (ne-eqb old 0 e) (omega arith)
+
+noted-entry : {n : ℕ} {e : Entry} → EntryCounts n e → (holds : Bool) (answer : Answer) → EntryCounts (suc n) (noted (suc n) holds answer e)
+unfolding noted
+noted-entry {n} {e} c holds answer = go holds
+  where
+    settled-most : (z : Bool) → cond z (e .summary .settled) (orElse (e .summary .settled) (suc n)) ≤ suc n
+    settled-most true = omega (arith, c .settled)
+    settled-most false = or-else-most (e .summary .settled) (suc n) (suc n) (omega (arith, c .settled)) (omega arith)
+
+    go : (holds : Bool) → EntryCounts (suc n) (noted (suc n) holds answer e)
+    go true = record {
+      accepted = omega (arith, c .accepted);
+      failed = omega (arith, c .failed);
+      last = omega (arith, c .last);
+      first = c .first;
+      longest = omega (arith, c .longest);
+      stretch = omega arith;
+      settled = settled-most (isOpen answer);
+      none = c .none;
+      some = c .some;
+    }
+    go false = record {
+      accepted = omega (arith, c .accepted);
+      failed = omega (arith, c .failed);
+      last = omega arith;
+      first = or-else-most (e .summary .first) (suc n) (suc n) (omega (arith, c .first, c .last)) (omega arith);
+      longest = omega (arith, c .longest, c .stretch);
+      stretch = omega arith;
+      settled = settled-most (isOpen answer);
+      none = λ z. absurd (omega arith);
+      some = λ h. or-else-over (e .summary .first) (suc n) (omega arith);
+    }
+
+pub next-counts : (b : Book) (o : Outcome) (l : Ledger) → Counts (length (properties b)) l → Counts (length (properties b)) (next b o l)
+next-counts b o l c = go (decLt (l .number) LAST-COUNTED) (ℕ-discrete (o .number) ACCEPTED)
+  where
+    go : Dec (l .number < LAST-COUNTED) → Dec (o .number ≡ ACCEPTED) → Counts (length (properties b)) (next b o l)
+    go (no h) e = rw (next-past b o l (omega arith)) c
+    go (yes h) (no e) = rw (next-refused b o l h e) (record { number = h; each = c .each; entries = λ p i. later-entry (c .entries p i) })
+    go (yes h) (yes e) = rw (next-accepted b o l h e) (record {
+      number = h;
+      each = listed-length (notedAt b o l) (length (properties b));
+      entries = λ p i. rw (listed-at (notedAt b o l) noEntry (length (properties b)) p i) (noted-entry (c .entries p i) _ _);
+    })
