@@ -1,3 +1,4 @@
 pub mod Appended
 pub mod Noted
+pub mod Counting
 pub mod Theorems
