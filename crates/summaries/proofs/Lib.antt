@@ -1,4 +1,6 @@
 pub mod Appended
 pub mod Noted
 pub mod Counting
+pub mod Stretches
+pub mod Settles
 pub mod Theorems

@@ -125,7 +125,7 @@ or-else-most old n k h h′ = go (eqb old 0)
     go true = h′
     go false = h
 
-or-else-over : (old n : ℕ) → 0 < n → 0 < orElse old n
+pub or-else-over : (old n : ℕ) → 0 < n → 0 < orElse old n
 or-else-over old n h = go (ℕ-discrete old 0)
   where
     go : Dec (old ≡ 0) → 0 < orElse old n

@@ -1,10 +1,12 @@
 -- The summary of a property, recounted from a report's lines of calls, the oldest first: by their numbers, their refusals and their digits. Definitions only.
 use Prim.Native.Nat.{ℕ, suc, _-_, max}
-use mathlib.Core.Bool.{Bool, cond}
-use mathlib.Core.List.{List, [], _∷_}
+use mathlib.Core.Path.{_≡_}
+use mathlib.Core.Bool.{Bool, true, cond}
+use mathlib.Core.List.{List, [], _∷_, _++_}
 use lib.ListN.{length, getD}
 use lib.Dec.{ltb, eqb}
 use Rattle.numbers.specs.Refusals.{ACCEPTED}
+use Rattle.pmtl.specs.Book.{every}
 use Rattle.report.specs.Lines.{PropertyWord, wordsIn, CallLine}
 use Rattle.summaries.specs.Summary.{Summary}
 
@@ -60,3 +62,12 @@ recount p ls = let calls = acceptedOf ls in record {
   longest = longestOf (isFalse p) calls;
   settled = firstOf (numbersIf (isSettled p) calls);
 }
+
+-- ---- what the longest stretch is held to: so many lines in a row among others, all of which pass a test
+pub record InARow (test : CallLine → Bool) (ls : List CallLine) (n : ℕ) : Type 0 where
+  pub older : List CallLine
+  pub row : List CallLine
+  pub newer : List CallLine
+  pub are : ls ≡ older ++ (row ++ newer)
+  pub pass : every test row ≡ true
+  pub count : length row ≡ n
