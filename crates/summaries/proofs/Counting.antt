@@ -17,7 +17,7 @@ use Rattle.pmtl.specs.Calls.{Call, Outcome, call, afterIn}
 use Rattle.property_answers.specs.Verdict.{propertyAt, verdictIn}
 use Rattle.report.specs.Lines.{CallLine, wordOf, lineOf, linesOf}
 use Rattle.summaries.specs.Recount.{noWord, wordOn, acceptedOf, numbersIf, longestOf, recount}
-use Rattle.summaries.specs.Ledger.{LAST-COUNTED, Entry, Ledger, noEntry, blankLedger, entryAt, noted, next, ledgerFrom, ledgerIn, Counts}
+use Rattle.summaries.specs.Ledger.{LAST-COUNTED, Entry, Ledger, noEntry, blankLedger, entryAt, noted, next, ledgerFrom, ledgerIn, LedgerInBounds}
 use Rattle.summaries.proofs.Appended.{Numbered, numbered-more, openFrom, entryFrom, entry-accepted, entry-refused}
 use Rattle.summaries.proofs.Noted.{notedAt, next-accepted, next-refused, next-past, number-next, blank-counts, next-counts}
 
@@ -87,6 +87,10 @@ from-lines b st ls ok (k ∷ ks) h =
     ∙ ap (λ n. tally b ((ls ++ l ∷ []) ++ linesOf b n (o .state) ks)) longer
     ∙ ap (tally b) (append-assoc ls (l ∷ []) (linesOf b (suc (length ls)) (o .state) ks))
 
+-- from a blank ledger
+pub from-blank : (b : Book) (st : State) (ks : List Call) → length ks ≤ LAST-COUNTED → ledgerFrom b st (blankLedger b) ks ≡ tally b (linesOf b 0 st ks)
+from-blank b st ks h = ap (λ l. ledgerFrom b st l ks) (tally-none b) ∙ from-lines b st [] tt ks (omega arith)
+
 -- ---- calls, the newest first, from loading on
 module _ (way : Way) (b : Book) where
   -- calls that are put on others in turn are made after them
@@ -98,10 +102,7 @@ module _ (way : Way) (b : Book) where
   -- the ledger is what the lines come to
   pub ledger-lines : (calls : List Call) → length calls ≤ LAST-COUNTED → ledgerIn way b (reverse calls) ≡ tally b (linesOf b 0 (initialIn way (b .rows)) calls)
   unfolding ledgerIn afterIn
-  ledger-lines calls h =
-      turned calls []
-      ∙ ap (λ l. ledgerFrom b (initialIn way (b .rows)) l calls) (tally-none b)
-      ∙ from-lines b (initialIn way (b .rows)) [] tt calls (omega arith)
+  ledger-lines calls h = turned calls [] ∙ from-blank b (initialIn way (b .rows)) calls h
 
   -- its number is how many calls were made, as far as they are counted
   pub ledger-number : (calls : List Call) → ledgerIn way b calls .number ≡ min (length calls) LAST-COUNTED
@@ -125,7 +126,7 @@ module _ (way : Way) (b : Book) where
       ap (next b o) (ledger-stays more calls h) ∙ next-past b o (ledgerIn way b calls) (omega (arith, ledger-number calls))
 
   -- and its numbers are as they can be
-  pub ledger-counts : (calls : List Call) → Counts (length (properties b)) (ledgerIn way b calls)
+  pub ledger-counts : (calls : List Call) → LedgerInBounds (length (properties b)) (ledgerIn way b calls)
   unfolding ledgerIn
   ledger-counts [] = blank-counts b
   ledger-counts (k ∷ ks) = next-counts b (call (b .rows) (afterIn way (b .rows) ks) k) (ledgerIn way b ks) (ledger-counts ks)

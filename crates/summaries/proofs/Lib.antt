@@ -4,3 +4,4 @@ pub mod Counting
 pub mod Stretches
 pub mod Settles
 pub mod Theorems
+pub mod Examples

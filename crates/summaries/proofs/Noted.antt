@@ -18,7 +18,7 @@ use Rattle.pmtl.specs.Monitor.{value}
 use Rattle.pmtl.specs.Settled.{settled}
 use Rattle.pmtl.specs.Calls.{Outcome}
 use Rattle.property_answers.specs.Verdict.{propertyAt}
-use Rattle.summaries.specs.Ledger.{LAST-COUNTED, Entry, Ledger, noEntry, blankLedger, entryAt, orElse, stretchAfter, noted, entriesAfter, next, EntryCounts, Counts}
+use Rattle.summaries.specs.Ledger.{LAST-COUNTED, Entry, Ledger, noEntry, blankLedger, entryAt, orElse, stretchAfter, noted, entriesAfter, next, EntryInBounds, LedgerInBounds}
 
 -- ---- one property, after the accepted call n
 module _ (n : ℕ) (holds : Bool) (answer : Answer) (e : Entry) where
@@ -85,7 +85,7 @@ module _ (b : Book) (o : Outcome) (l : Ledger) where
       go (no h) = ap (λ (k : Ledger). k .entries) (next-past (omega arith))
 
 -- ---- the numbers in it
-blank-entry : EntryCounts 0 noEntry
+blank-entry : EntryInBounds 0 noEntry
 blank-entry = record {
   accepted = omega arith;
   failed = omega arith;
@@ -98,14 +98,14 @@ blank-entry = record {
   some = λ h. absurd (omega arith);
 }
 
-pub blank-counts : (b : Book) → Counts (length (properties b)) (blankLedger b)
+pub blank-counts : (b : Book) → LedgerInBounds (length (properties b)) (blankLedger b)
 blank-counts b = record {
   number = omega arith;
   each = length-replicate (length (properties b)) noEntry;
   entries = λ p h. rw (getD-replicate (length (properties b)) p noEntry noEntry h) blank-entry;
 }
 
-later-entry : {n : ℕ} {e : Entry} → EntryCounts n e → EntryCounts (suc n) e
+later-entry : {n : ℕ} {e : Entry} → EntryInBounds n e → EntryInBounds (suc n) e
 later-entry c = record {
   accepted = omega (arith, c .accepted);
   failed = c .failed;
@@ -132,7 +132,7 @@ or-else-over old n h = go (ℕ-discrete old 0)
     go (yes e) = rw (eq-eqb old 0 e) h
     go (no e) = rw (ne-eqb old 0 e) (omega arith)
 
-noted-entry : {n : ℕ} {e : Entry} → EntryCounts n e → (holds : Bool) (answer : Answer) → EntryCounts (suc n) (noted (suc n) holds answer e)
+noted-entry : {n : ℕ} {e : Entry} → EntryInBounds n e → (holds : Bool) (answer : Answer) → EntryInBounds (suc n) (noted (suc n) holds answer e)
 unfolding noted
 noted-entry {n} {e} c holds answer = go holds
   where
@@ -140,7 +140,7 @@ noted-entry {n} {e} c holds answer = go holds
     settled-most true = omega (arith, c .settled)
     settled-most false = or-else-most (e .summary .settled) (suc n) (suc n) (omega (arith, c .settled)) (omega arith)
 
-    go : (holds : Bool) → EntryCounts (suc n) (noted (suc n) holds answer e)
+    go : (holds : Bool) → EntryInBounds (suc n) (noted (suc n) holds answer e)
     go true = record {
       accepted = omega (arith, c .accepted);
       failed = omega (arith, c .failed);
@@ -164,10 +164,10 @@ noted-entry {n} {e} c holds answer = go holds
       some = λ h. or-else-over (e .summary .first) (suc n) (omega arith);
     }
 
-pub next-counts : (b : Book) (o : Outcome) (l : Ledger) → Counts (length (properties b)) l → Counts (length (properties b)) (next b o l)
+pub next-counts : (b : Book) (o : Outcome) (l : Ledger) → LedgerInBounds (length (properties b)) l → LedgerInBounds (length (properties b)) (next b o l)
 next-counts b o l c = go (decLt (l .number) LAST-COUNTED) (ℕ-discrete (o .number) ACCEPTED)
   where
-    go : Dec (l .number < LAST-COUNTED) → Dec (o .number ≡ ACCEPTED) → Counts (length (properties b)) (next b o l)
+    go : Dec (l .number < LAST-COUNTED) → Dec (o .number ≡ ACCEPTED) → LedgerInBounds (length (properties b)) (next b o l)
     go (no h) e = rw (next-past b o l (omega arith)) c
     go (yes h) (no e) = rw (next-refused b o l h e) (record { number = h; each = c .each; entries = λ p i. later-entry (c .entries p i) })
     go (yes h) (yes e) = rw (next-accepted b o l h e) (record {

@@ -47,11 +47,11 @@ abbrev pub summaryAt : Ledger → ℕ → Summary
 summaryAt l p = entryAt (l .entries) p .summary
 
 -- ---- one call
--- a call's number that stands already; this one where none does
+-- the number of a call that stands there already; n where none does
 abbrev pub orElse : ℕ → ℕ → ℕ
 orElse old n = cond (eqb old 0) n old
 
--- how many in a row left a property false, after one more that left it so
+-- how many calls in a row left a property false, after one more: none where it holds now
 abbrev pub stretchAfter : Bool → ℕ → ℕ
 stretchAfter holds before = cond holds 0 (suc before)
 
@@ -69,16 +69,16 @@ noted n holds answer e = let s = e .summary in record {
   stretch = stretchAfter holds (e .stretch);
 }
 
--- the entries, after the call n which had this outcome: a refused one leaves them as they are
-unfoldable pub entriesAfter : Book → ℕ → Outcome → List Entry → List Entry
-entriesAfter b n o es =
-    cond (eqb (o .number) ACCEPTED)
-    (listed (λ p. noted n (value (b .rows) (o .state) (propertyAt b p)) (settled (b .rows) (o .state) (propertyAt b p)) (entryAt es p)) (length (properties b)))
-    es
+-- the entries, after the accepted call n which left this state
+unfoldable pub entriesAfter : Book → ℕ → State → List Entry → List Entry
+entriesAfter b n st es =
+    listed (λ p. noted n (value (b .rows) st (propertyAt b p)) (settled (b .rows) st (propertyAt b p)) (entryAt es p)) (length (properties b))
 
--- the ledger after a call, refused or not; after the last call that is counted it stays as it is
+-- the ledger after a call: a refused one changes the number alone; after the last call that is counted none changes anything
 unfoldable pub next : Book → Outcome → Ledger → Ledger
-next b o l = cond (ltb (l .number) LAST-COUNTED) (record { number = suc (l .number); entries = entriesAfter b (suc (l .number)) o (l .entries) }) l
+next b o l = let n = suc (l .number) in
+    cond (ltb (l .number) LAST-COUNTED)
+    (record { number = n; entries = cond (eqb (o .number) ACCEPTED) (entriesAfter b n (o .state) (l .entries)) (l .entries) }) l
 
 -- ---- a list of calls
 -- from a state and a ledger on, the oldest first
@@ -93,7 +93,7 @@ ledgerIn way b (k ∷ ks) = next b (call (b .rows) (afterIn way (b .rows) ks) k)
 
 -- ---- numbers that can stand in a ledger
 -- in an entry, after call n: none passes n, so that nothing wraps; and calls are named exactly if there are some
-pub record EntryCounts (n : ℕ) (e : Entry) : Type 0 where
+pub record EntryInBounds (n : ℕ) (e : Entry) : Type 0 where
   pub accepted : e .summary .accepted ≤ n
   pub failed : e .summary .failed ≤ e .summary .accepted
   pub last : e .summary .last ≤ n
@@ -105,7 +105,7 @@ pub record EntryCounts (n : ℕ) (e : Entry) : Type 0 where
   pub some : 0 < e .summary .failed → 0 < e .summary .first
 
 -- in a ledger of so many properties
-pub record Counts (properties : ℕ) (l : Ledger) : Type 0 where
+pub record LedgerInBounds (properties : ℕ) (l : Ledger) : Type 0 where
   pub number : l .number ≤ LAST-COUNTED
   pub each : length (l .entries) ≡ properties
-  pub entries : (p : ℕ) → p < properties → EntryCounts (l .number) (entryAt (l .entries) p)
+  pub entries : (p : ℕ) → p < properties → EntryInBounds (l .number) (entryAt (l .entries) p)
