@@ -3,5 +3,6 @@ pub mod Noted
 pub mod Counting
 pub mod Stretches
 pub mod Settles
+pub mod Renumbered
 pub mod Theorems
 pub mod Examples

@@ -1,9 +1,9 @@
 -- What is proved of summaries, for every book, either way of monitoring and every list of calls, refused ones among them. Nothing is assumed.
 use Prim.Native.Nat.{ℕ, zero, suc, _<_, _≤_}
 use native.Mathlib.Omega.{arith}
-use mathlib.Core.Path.{_≡_, refl, ap, _∙_}
+use mathlib.Core.Path.{_≡_, refl, sym, ap, _∙_}
 use mathlib.Core.Logic.{_↔_}
-use mathlib.Core.List.{List, [], _∷_, _++_, reverse}
+use mathlib.Core.List.{List, [], _∷_, _++_, map, reverse}
 use lib.ListN.{length, take, length-take}
 use Rattle.numbers.specs.Refusals.{ACCEPTED}
 use Rattle.pmtl.specs.declared.Answer.the-variants.{Open}
@@ -15,12 +15,14 @@ use Rattle.pmtl.specs.Calls.{Call, call, afterIn}
 use Rattle.lasts.specs.Flat.{Fit}
 use Rattle.property_answers.specs.Verdict.{propertyAt}
 use Rattle.report.specs.Lines.{CallLine, linesOf}
-use Rattle.summaries.specs.Recount.{isFalse, acceptedOf, recount, InARow}
+use Rattle.summaries.specs.Recount.{isFalse, acceptedOf, numbersIf, firstOf, lastOf, recount, InARow}
+use Rattle.summaries.specs.Renumbered.{renumberedLine, renumbered}
 use Rattle.summaries.specs.Ledger.{LAST-COUNTED, Entry, Ledger, summaryAt, next, ledgerIn, LedgerInBounds}
 use Rattle.summaries.proofs.Noted.{next-refused}
 use Rattle.summaries.proofs.Counting.{tally-at, ledger-lines, ledger-number, ledger-stays, ledger-counts, lines-take}
 use Rattle.summaries.proofs.Stretches.{none-longer, one-so-long}
 use Rattle.summaries.proofs.Settles.{settled-zero}
+use Rattle.summaries.proofs.Renumbered.{recount-without, recount-renumbered}
 
 module _ (way : Way) (b : Book) where
   -- ---- THE RECORDS ARE A RECOUNT of the report's lines, up to the last call that is counted; calls the oldest first, as the report has them
@@ -70,3 +72,18 @@ module _ (p : ℕ) (ls : List CallLine) where
   pub longest-of-all : (n : ℕ) → InARow (isFalse p) (acceptedOf ls) n → n ≤ recount p ls .longest
   unfolding recount
   longest-of-all n r = none-longer (isFalse p) (acceptedOf ls) n r
+
+  -- ---- 0 CALLS FAILED: then none is named, which tells a printed summary from the line of an accepted call
+  pub none-failed : recount p ls .failed ≡ 0 → (recount p ls .first ≡ 0) × (recount p ls .last ≡ 0)
+  unfolding recount
+  none-failed e = go (numbersIf (isFalse p) (acceptedOf ls)) e
+    where
+      go : (ns : List ℕ) → length ns ≡ 0 → (firstOf ns ≡ 0) × (lastOf ns ≡ 0)
+      go [] h = (refl, refl)
+      go (n ∷ ns) h = absurd (omega arith)
+
+-- ---- A REFUSED LINE LEAVES NO TRACE: without it, and the lines numbered anew, only the numbers of a summary's calls are new
+pub refused-line-no-trace : (f : ℕ → ℕ) → f 0 ≡ 0 → (p : ℕ) (older : List CallLine) (l : CallLine) (newer : List CallLine) → ¬ (l .refusal ≡ ACCEPTED)
+    → recount p (map (renumberedLine f) (older ++ newer)) ≡ renumbered f (recount p (older ++ l ∷ newer))
+refused-line-no-trace f none p older l newer e =
+    recount-renumbered f none p (older ++ newer) ∙ ap (renumbered f) (sym (recount-without p older l newer e))
