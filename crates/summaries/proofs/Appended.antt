@@ -171,11 +171,11 @@ module _ (p : ℕ) (ls : List CallLine) (l : CallLine) (ok : Numbered ls) (accep
   settled-now true e = ap firstOf (numbers-no (isSettled p) before l e)
   settled-now false e = ap firstOf (numbers-yes (isSettled p) before l e) ∙ first-stays (isSettled p) before (accepted-numbered ls ok) (l .number)
 
-  pub entry-accepted : entryFrom p (ls ++ l ∷ []) ≡ noted (l .number) holds answer (entryFrom p ls)
+  pub entry-accepted : entryFrom p (ls ++ l ∷ []) ≡ noted (l .number) holds (isOpen answer) (entryFrom p ls)
   unfolding recount noted
   entry-accepted =
       go holds fails
     where
-      go : (z : Bool) → isFalse p l ≡ not z → entryFrom p (ls ++ l ∷ []) ≡ noted (l .number) z answer (entryFrom p ls)
+      go : (z : Bool) → isFalse p l ≡ not z → entryFrom p (ls ++ l ∷ []) ≡ noted (l .number) z (isOpen answer) (entryFrom p ls)
       go true e = rw (accepted-yes ls l accepted, one-longer before l, settled-now (isOpen answer) settles, longest-more (isFalse p) before l, open-more (isFalse p) 0 before l, numbers-no (isFalse p) before l e, e)
       go false e = rw (accepted-yes ls l accepted, one-longer before l, settled-now (isOpen answer) settles, longest-more (isFalse p) before l, open-more (isFalse p) 0 before l, numbers-yes (isFalse p) before l e, e, new-last (numbersIf (isFalse p) before) (l .number), one-longer (numbersIf (isFalse p) before) (l .number), first-stays (isFalse p) before (accepted-numbered ls ok) (l .number))

@@ -11,7 +11,6 @@ use borrow.Author.Tests.{lt-ltb, le-ltb, eq-eqb, ne-eqb}
 use Rattle.lists.specs.Lists.{listed}
 use Rattle.lists.proofs.Listed.{listed-length, listed-at}
 use Rattle.numbers.specs.Refusals.{ACCEPTED}
-use Rattle.pmtl.specs.declared.Answer.{Answer}
 use Rattle.pmtl.specs.Answer.{isOpen}
 use Rattle.pmtl.specs.Book.{Book, properties}
 use Rattle.pmtl.specs.Monitor.{value}
@@ -21,32 +20,32 @@ use Rattle.property_answers.specs.Verdict.{propertyAt}
 use Rattle.summaries.specs.Ledger.{LAST-COUNTED, Entry, Ledger, noEntry, blankLedger, entryAt, orElse, stretchAfter, noted, entriesAfter, next, EntryInBounds, LedgerInBounds}
 
 -- ---- one property, after the accepted call n
-module _ (n : ℕ) (holds : Bool) (answer : Answer) (e : Entry) where
-  pub accepted-now : noted n holds answer e .summary .accepted ≡ suc (e .summary .accepted)
+module _ (n : ℕ) (holds undecided : Bool) (e : Entry) where
+  pub accepted-now : noted n holds undecided e .summary .accepted ≡ suc (e .summary .accepted)
   unfolding noted
   accepted-now = refl
 
-  pub failed-now : noted n holds answer e .summary .failed ≡ cond holds (e .summary .failed) (suc (e .summary .failed))
+  pub failed-now : noted n holds undecided e .summary .failed ≡ cond holds (e .summary .failed) (suc (e .summary .failed))
   unfolding noted
   failed-now = refl
 
-  pub first-now : noted n holds answer e .summary .first ≡ cond holds (e .summary .first) (orElse (e .summary .first) n)
+  pub first-now : noted n holds undecided e .summary .first ≡ cond holds (e .summary .first) (orElse (e .summary .first) n)
   unfolding noted
   first-now = refl
 
-  pub last-now : noted n holds answer e .summary .last ≡ cond holds (e .summary .last) n
+  pub last-now : noted n holds undecided e .summary .last ≡ cond holds (e .summary .last) n
   unfolding noted
   last-now = refl
 
-  pub longest-now : noted n holds answer e .summary .longest ≡ max (e .summary .longest) (stretchAfter holds (e .stretch))
+  pub longest-now : noted n holds undecided e .summary .longest ≡ max (e .summary .longest) (stretchAfter holds (e .stretch))
   unfolding noted
   longest-now = refl
 
-  pub settled-now : noted n holds answer e .summary .settled ≡ cond (isOpen answer) (e .summary .settled) (orElse (e .summary .settled) n)
+  pub settled-now : noted n holds undecided e .summary .settled ≡ cond undecided (e .summary .settled) (orElse (e .summary .settled) n)
   unfolding noted
   settled-now = refl
 
-  pub stretch-now : noted n holds answer e .stretch ≡ stretchAfter holds (e .stretch)
+  pub stretch-now : noted n holds undecided e .stretch ≡ stretchAfter holds (e .stretch)
   unfolding noted
   stretch-now = refl
 
@@ -54,7 +53,7 @@ module _ (n : ℕ) (holds : Bool) (answer : Answer) (e : Entry) where
 module _ (b : Book) (o : Outcome) (l : Ledger) where
   -- what an accepted one makes of the entry of property p
   abbrev pub notedAt : ℕ → Entry
-  notedAt p = noted (suc (l .number)) (value (b .rows) (o .state) (propertyAt b p)) (settled (b .rows) (o .state) (propertyAt b p)) (entryAt (l .entries) p)
+  notedAt p = noted (suc (l .number)) (value (b .rows) (o .state) (propertyAt b p)) (isOpen (settled (b .rows) (o .state) (propertyAt b p))) (entryAt (l .entries) p)
 
   pub next-accepted : l .number < LAST-COUNTED → o .number ≡ ACCEPTED → next b o l ≡ record { number = suc (l .number); entries = listed notedAt (length (properties b)) }
   unfolding next entriesAfter
@@ -132,15 +131,15 @@ or-else-over old n h = go (ℕ-discrete old 0)
     go (yes e) = rw (eq-eqb old 0 e) h
     go (no e) = rw (ne-eqb old 0 e) (omega arith)
 
-noted-entry : {n : ℕ} {e : Entry} → EntryInBounds n e → (holds : Bool) (answer : Answer) → EntryInBounds (suc n) (noted (suc n) holds answer e)
+noted-entry : {n : ℕ} {e : Entry} → EntryInBounds n e → (holds undecided : Bool) → EntryInBounds (suc n) (noted (suc n) holds undecided e)
 unfolding noted
-noted-entry {n} {e} c holds answer = go holds
+noted-entry {n} {e} c holds undecided = go holds
   where
     settled-most : (z : Bool) → cond z (e .summary .settled) (orElse (e .summary .settled) (suc n)) ≤ suc n
     settled-most true = omega (arith, c .settled)
     settled-most false = or-else-most (e .summary .settled) (suc n) (suc n) (omega (arith, c .settled)) (omega arith)
 
-    go : (holds : Bool) → EntryInBounds (suc n) (noted (suc n) holds answer e)
+    go : (holds : Bool) → EntryInBounds (suc n) (noted (suc n) holds undecided e)
     go true = record {
       accepted = omega (arith, c .accepted);
       failed = omega (arith, c .failed);
@@ -148,7 +147,7 @@ noted-entry {n} {e} c holds answer = go holds
       first = c .first;
       longest = omega (arith, c .longest);
       stretch = omega arith;
-      settled = settled-most (isOpen answer);
+      settled = settled-most undecided;
       none = c .none;
       some = c .some;
     }
@@ -159,7 +158,7 @@ noted-entry {n} {e} c holds answer = go holds
       first = or-else-most (e .summary .first) (suc n) (suc n) (omega (arith, c .first, c .last)) (omega arith);
       longest = omega (arith, c .longest, c .stretch);
       stretch = omega arith;
-      settled = settled-most (isOpen answer);
+      settled = settled-most undecided;
       none = λ z. absurd (omega arith);
       some = λ h. or-else-over (e .summary .first) (suc n) (omega arith);
     }

@@ -54,7 +54,7 @@ module _ (way : Way) (b : Book) (fit : Fit way (b .rows)) (p : ℕ) (inside : p 
   field-accepted ks k h e =
       let o = call (b .rows) (afterIn way (b .rows) ks) k in
       ap (λ (x : Entry). x .summary .settled) (entry-next b o (ledgerIn way b ks) (omega (arith, ledger-number way b ks)) e p inside)
-      ∙ settled-now (suc (ledgerIn way b ks .number)) _ (answerOf (k ∷ ks)) (entryAt (ledgerIn way b ks .entries) p)
+      ∙ settled-now (suc (ledgerIn way b ks .number)) _ (isOpen (answerOf (k ∷ ks))) (entryAt (ledgerIn way b ks .entries) p)
 
   field-refused : (ks : List Call) (k : Call) → ¬ (call (b .rows) (afterIn way (b .rows) ks) k .number ≡ ACCEPTED) → fieldOf (k ∷ ks) ≡ fieldOf ks
   unfolding ledgerIn

@@ -8,7 +8,6 @@ use lib.Dec.{ltb, eqb}
 use Rattle.lists.specs.Lists.{listed}
 use Rattle.numbers.specs.Limits.{LAST-TIME}
 use Rattle.numbers.specs.Refusals.{ACCEPTED}
-use Rattle.pmtl.specs.declared.Answer.{Answer}
 use Rattle.pmtl.specs.Answer.{isOpen}
 use Rattle.pmtl.specs.Book.{Book, properties}
 use Rattle.pmtl.specs.Sets.{Way}
@@ -55,16 +54,16 @@ orElse old n = cond (eqb old 0) n old
 abbrev pub stretchAfter : Bool → ℕ → ℕ
 stretchAfter holds before = cond holds 0 (suc before)
 
--- a property's entry, after the accepted call n which left this value and this settled answer
-unfoldable pub noted : ℕ → Bool → Answer → Entry → Entry
-noted n holds answer e = let s = e .summary in record {
+-- a property's entry, after the accepted call n which left it holding or not, and settled or undecided
+unfoldable pub noted : ℕ → (holds : Bool) → (undecided : Bool) → Entry → Entry
+noted n holds undecided e = let s = e .summary in record {
   summary = record {
     accepted = suc (s .accepted);
     failed = cond holds (s .failed) (suc (s .failed));
     first = cond holds (s .first) (orElse (s .first) n);
     last = cond holds (s .last) n;
     longest = max (s .longest) (stretchAfter holds (e .stretch));
-    settled = cond (isOpen answer) (s .settled) (orElse (s .settled) n);
+    settled = cond undecided (s .settled) (orElse (s .settled) n);
   };
   stretch = stretchAfter holds (e .stretch);
 }
@@ -72,7 +71,7 @@ noted n holds answer e = let s = e .summary in record {
 -- the entries, after the accepted call n which left this state
 unfoldable pub entriesAfter : Book → ℕ → State → List Entry → List Entry
 entriesAfter b n st es =
-    listed (λ p. noted n (value (b .rows) st (propertyAt b p)) (settled (b .rows) st (propertyAt b p)) (entryAt es p)) (length (properties b))
+    listed (λ p. noted n (value (b .rows) st (propertyAt b p)) (isOpen (settled (b .rows) st (propertyAt b p))) (entryAt es p)) (length (properties b))
 
 -- the ledger after a call: a refused one changes the number alone; after the last call that is counted none changes anything
 unfoldable pub next : Book → Outcome → Ledger → Ledger
