@@ -4,7 +4,7 @@ use native.Mathlib.Omega.{arith}
 use native.Mathlib.Decide.{decLt, ℕ-discrete}
 use mathlib.Core.Path.{_≡_, refl, sym, ap, ap₂, _∙_}
 use mathlib.Core.List.{List, [], _∷_, _++_, append-nil, append-assoc, reverse, reverseAux}
-use lib.ListN.{length, getD, take, length-append}
+use lib.ListN.{length, take, length-append}
 use borrow.Author.Tests.{eq-eqb}
 use Rattle.lists.specs.Lists.{listed}
 use Rattle.lists.proofs.Listed.{listed-at, listed-agree, listed-all}
@@ -17,7 +17,7 @@ use Rattle.pmtl.specs.Calls.{Call, Outcome, call, afterIn}
 use Rattle.property_answers.specs.Verdict.{propertyAt, verdictIn}
 use Rattle.report.specs.Lines.{CallLine, wordOf, lineOf, linesOf}
 use Rattle.summaries.specs.Recount.{noWord, wordOn, acceptedOf, numbersIf, longestOf, recount}
-use Rattle.summaries.specs.Ledger.{LAST-COUNTED, Entry, Ledger, noEntry, blankLedger, entryAt, noted, next, ledgerFrom, ledgerIn, LedgerInBounds}
+use Rattle.summaries.specs.Ledger.{LAST-COUNTED, Ledger, noEntry, blankLedger, entryAt, next, ledgerFrom, ledgerIn, LedgerInBounds}
 use Rattle.summaries.proofs.Appended.{Numbered, numbered-more, openFrom, entryFrom, entry-accepted, entry-refused}
 use Rattle.summaries.proofs.Noted.{notedAt, next-accepted, next-refused, next-past, number-next, blank-counts, next-counts}
 
@@ -131,13 +131,7 @@ module _ (way : Way) (b : Book) where
   ledger-counts [] = blank-counts b
   ledger-counts (k ∷ ks) = next-counts b (call (b .rows) (afterIn way (b .rows) ks) k) (ledgerIn way b ks) (ledger-counts ks)
 
--- ---- lines
-pub lines-length : (b : Book) (done : ℕ) (st : State) (ks : List Call) → length (linesOf b done st ks) ≡ length ks
-unfolding linesOf
-lines-length b done st [] = refl
-lines-length b done st (k ∷ ks) = ap suc (lines-length b (suc done) (call (b .rows) st k .state) ks)
-
--- those of the first calls are the first lines
+-- ---- the lines of the first calls are the first lines
 pub lines-take : (b : Book) (done : ℕ) (st : State) (i : ℕ) (ks : List Call) → linesOf b done st (take i ks) ≡ take i (linesOf b done st ks)
 unfolding linesOf
 lines-take b done st zero ks = refl

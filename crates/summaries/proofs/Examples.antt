@@ -14,7 +14,7 @@ use Rattle.pmtl.specs.Settled.{settledTrue, settledFalse, settled}
 use Rattle.pmtl.specs.Calls.{Call, firstOf, refusal, crowded, play, call, afterIn}
 use Rattle.pmtl.specs.Calls.Call.{time, state, stamped}
 use Rattle.property_answers.specs.Verdict.{verdictIn}
-use Rattle.report.specs.Lines.{Rest, nothing, told, CallLine, lineOf, linesOf}
+use Rattle.report.specs.Lines.{nothing, told, CallLine, lineOf, linesOf}
 use Rattle.summaries.specs.Summary.{Summary}
 use Rattle.summaries.specs.Recount.{acceptedOf, numbersIf, stretchOf, longestOf, recount}
 use Rattle.summaries.specs.Ledger.{Ledger, summaryAt, noted, entriesAfter, next, ledgerIn}

@@ -8,7 +8,7 @@ use lib.Dec.{eqb}
 use borrow.Author.Tests.{ne-eqb}
 use Rattle.numbers.specs.Refusals.{ACCEPTED}
 use Rattle.report.specs.Lines.{CallLine}
-use Rattle.summaries.specs.Recount.{isFalse, isSettled, acceptedOf, numbersIf, firstOf, lastOf, stretchOf, longestOf, recount}
+use Rattle.summaries.specs.Recount.{isFalse, isSettled, acceptedOf, numbersIf, lastOf, stretchOf, longestOf, recount}
 use Rattle.summaries.specs.Renumbered.{renumberedLine, renumbered}
 
 -- ---- a refused line taken out

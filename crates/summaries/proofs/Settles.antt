@@ -5,25 +5,23 @@ use native.Mathlib.Decide.{ℕ-discrete}
 use mathlib.Core.Path.{_≡_, refl, sym, ap, _∙_}
 use mathlib.Core.Logic.{_↔_}
 use mathlib.Core.Bool.{Bool, true, false, cond}
-use mathlib.Core.List.{List, [], _∷_, _++_}
+use mathlib.Core.List.{List, [], _∷_}
 use lib.ListN.{length, getD-replicate}
-use borrow.Author.Tests.{eq-eqb, ne-eqb}
 use Rattle.numbers.specs.Refusals.{ACCEPTED}
 use Rattle.pmtl.specs.declared.Answer.{Answer}
 use Rattle.pmtl.specs.declared.Answer.the-variants.{False, True, Open}
 use Rattle.pmtl.specs.Answer.{isOpen, known}
 use Rattle.pmtl.specs.Book.{Book, properties}
 use Rattle.pmtl.specs.Sets.{Way}
-use Rattle.pmtl.specs.Monitor.{State, initialIn}
+use Rattle.pmtl.specs.Monitor.{initialIn}
 use Rattle.pmtl.specs.Settled.{settled}
-use Rattle.pmtl.specs.Calls.{Call, Outcome, call, afterIn}
+use Rattle.pmtl.specs.Calls.{Call, call, afterIn}
 use Rattle.pmtl.proofs.Answers.{settled-before}
 use Rattle.pmtl.proofs.Theorems.{refused-changes-nothing}
 use Rattle.lasts.specs.Flat.{Fit}
 use Rattle.lasts.proofs.EitherWay.{demand-3}
 use Rattle.property_answers.specs.Verdict.{propertyAt}
-use Rattle.summaries.specs.Summary.{Summary}
-use Rattle.summaries.specs.Ledger.{LAST-COUNTED, Entry, Ledger, noEntry, entryAt, summaryAt, orElse, next, ledgerIn}
+use Rattle.summaries.specs.Ledger.{LAST-COUNTED, Entry, noEntry, entryAt, summaryAt, orElse, ledgerIn}
 use Rattle.summaries.proofs.Noted.{settled-now, or-else-over, entry-next, entries-refused}
 use Rattle.summaries.proofs.Counting.{ledger-number}
 

@@ -1,5 +1,5 @@
 -- What is proved of summaries, for every book, either way of monitoring and every list of calls, refused ones among them. Nothing is assumed.
-use Prim.Native.Nat.{ℕ, zero, suc, _<_, _≤_}
+use Prim.Native.Nat.{ℕ, suc, _<_, _≤_}
 use native.Mathlib.Omega.{arith}
 use mathlib.Core.Path.{_≡_, refl, sym, ap, _∙_}
 use mathlib.Core.Logic.{_↔_}
@@ -17,7 +17,7 @@ use Rattle.property_answers.specs.Verdict.{propertyAt}
 use Rattle.report.specs.Lines.{CallLine, linesOf}
 use Rattle.summaries.specs.Recount.{isFalse, acceptedOf, numbersIf, firstOf, lastOf, recount, InARow}
 use Rattle.summaries.specs.Renumbered.{renumberedLine, renumbered}
-use Rattle.summaries.specs.Ledger.{LAST-COUNTED, Entry, Ledger, summaryAt, next, ledgerIn, LedgerInBounds}
+use Rattle.summaries.specs.Ledger.{LAST-COUNTED, Entry, Ledger, summaryAt, ledgerIn, LedgerInBounds}
 use Rattle.summaries.proofs.Noted.{next-refused}
 use Rattle.summaries.proofs.Counting.{tally-at, ledger-lines, ledger-number, ledger-stays, ledger-counts, lines-take}
 use Rattle.summaries.proofs.Stretches.{none-longer, one-so-long}
