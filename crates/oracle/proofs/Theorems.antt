@@ -9,7 +9,7 @@ use mathlib.Core.List.{List, _∷_, _++_}
 use Rattle.numbers.specs.Refusals.{ACCEPTED}
 use Rattle.numset.specs.Runs.{has}
 use Rattle.pmtl.specs.Answer.{known}
-use Rattle.pmtl.specs.Book.{Range, mapRow, Book, rowAt}
+use Rattle.pmtl.specs.Book.{Range, mapRow, Book, propertyAt, rowAt}
 use Rattle.pmtl.specs.Book.Row.{historically, once, since}
 use Rattle.pmtl.specs.Monitor.{State, setAt, fullest, value}
 use Rattle.pmtl.specs.Early.{early}
@@ -26,7 +26,7 @@ use Rattle.memory.specs.Memory.{clockOf, bookOf, stateOf}
 use Rattle.memory.specs.Kept.{Kept}
 use Rattle.memory.proofs.Same.{same-words}
 use Rattle.property_answers.specs.declared.Verdict.{Verdict}
-use Rattle.property_answers.specs.Verdict.{propertyAt, verdictIn, verdictOf}
+use Rattle.property_answers.specs.Verdict.{verdictIn, verdictOf}
 use Rattle.calls.specs.Called.{Called}
 use Rattle.book.specs.declared.loading.Loading.{Loading}
 use Rattle.book.specs.Judging.{loaded}

@@ -1,4 +1,4 @@
--- What is kept call by call: the number of the last call, and for each property its summary and the stretch that is not broken yet. Definitions only.
+-- What is kept call by call: the number of the last call, how many were accepted, and for each property what was counted of it. Definitions only.
 use Prim.Native.Nat.{ℕ, suc, max, _≤_, _<_}
 use mathlib.Core.Path.{_≡_}
 use mathlib.Core.Bool.{Bool, cond}
@@ -9,41 +9,56 @@ use Rattle.lists.specs.Lists.{listed}
 use Rattle.numbers.specs.Limits.{LAST-TIME}
 use Rattle.numbers.specs.Refusals.{ACCEPTED}
 use Rattle.pmtl.specs.Answer.{isOpen}
-use Rattle.pmtl.specs.Book.{Book, properties}
+use Rattle.pmtl.specs.Book.{Book, properties, propertyAt}
 use Rattle.pmtl.specs.Sets.{Way}
 use Rattle.pmtl.specs.Monitor.{State, value}
 use Rattle.pmtl.specs.Settled.{settled}
 use Rattle.pmtl.specs.Calls.{Call, Outcome, call, afterIn}
-use Rattle.property_answers.specs.Verdict.{propertyAt}
-use Rattle.summaries.specs.Summary.{Summary}
+use Rattle.ledger.specs.declared.Summary.{Summary}
 
 -- the last call that is counted
 abbrev pub LAST-COUNTED : ℕ
 LAST-COUNTED = LAST-TIME
 
--- what is kept of a property: its summary, and how many accepted calls in a row, up to the last, left it false
+-- what is counted of a property: five fields of its summary, and how many accepted calls in a row, up to the last, left it false
 pub record Entry : Type 0 where
-  pub summary : Summary
+  pub failed : ℕ
+  pub first : ℕ
+  pub last : ℕ
+  pub longest : ℕ
+  pub settled : ℕ
   pub stretch : ℕ
 
--- the number of the last call, refused ones counted, and an entry for each property, assumes first
+-- the number of the last call, refused ones counted, how many calls were accepted, and an entry for each property, assumes first
 pub record Ledger : Type 0 where
   pub number : ℕ
+  pub accepted : ℕ
   pub entries : List Entry
 
 -- ---- before the first call
 abbrev pub noEntry : Entry
-noEntry = record { summary = record { accepted = 0; failed = 0; first = 0; last = 0; longest = 0; settled = 0 }; stretch = 0 }
+noEntry = record { failed = 0; first = 0; last = 0; longest = 0; settled = 0; stretch = 0 }
 
 abbrev pub blankLedger : Book → Ledger
-blankLedger b = record { number = 0; entries = replicate (length (properties b)) noEntry }
+blankLedger b = record { number = 0; accepted = 0; entries = replicate (length (properties b)) noEntry }
 
--- the entry of property p, and its summary
+-- the entry of property p
 abbrev pub entryAt : List Entry → ℕ → Entry
 entryAt es p = getD es p noEntry
 
+-- a property's summary, by how many calls were accepted and its entry
+abbrev pub summaryFrom : ℕ → Entry → Summary
+summaryFrom accepted e = record {
+  accepted = accepted;
+  failed = e .failed;
+  first = e .first;
+  last = e .last;
+  longest = e .longest;
+  settled = e .settled;
+}
+
 abbrev pub summaryAt : Ledger → ℕ → Summary
-summaryAt l p = entryAt (l .entries) p .summary
+summaryAt l p = summaryFrom (l .accepted) (entryAt (l .entries) p)
 
 -- ---- one call
 -- the number of a call that stands there already; n where none does
@@ -56,15 +71,12 @@ stretchAfter holds before = cond holds 0 (suc before)
 
 -- a property's entry, after the accepted call n which left it holding or not, and settled or undecided
 unfoldable pub noted : ℕ → (holds : Bool) → (undecided : Bool) → Entry → Entry
-noted n holds undecided e = let s = e .summary in record {
-  summary = record {
-    accepted = suc (s .accepted);
-    failed = cond holds (s .failed) (suc (s .failed));
-    first = cond holds (s .first) (orElse (s .first) n);
-    last = cond holds (s .last) n;
-    longest = max (s .longest) (stretchAfter holds (e .stretch));
-    settled = cond undecided (s .settled) (orElse (s .settled) n);
-  };
+noted n holds undecided e = record {
+  failed = cond holds (e .failed) (suc (e .failed));
+  first = cond holds (e .first) (orElse (e .first) n);
+  last = cond holds (e .last) n;
+  longest = max (e .longest) (stretchAfter holds (e .stretch));
+  settled = cond undecided (e .settled) (orElse (e .settled) n);
   stretch = stretchAfter holds (e .stretch);
 }
 
@@ -77,7 +89,10 @@ entriesAfter b n st es =
 unfoldable pub next : Book → Outcome → Ledger → Ledger
 next b o l = let n = suc (l .number) in
     cond (ltb (l .number) LAST-COUNTED)
-    (record { number = n; entries = cond (eqb (o .number) ACCEPTED) (entriesAfter b n (o .state) (l .entries)) (l .entries) }) l
+    (cond (eqb (o .number) ACCEPTED)
+    (record { number = n; accepted = suc (l .accepted); entries = entriesAfter b n (o .state) (l .entries) })
+    (record { number = n; accepted = l .accepted; entries = l .entries }))
+    l
 
 -- ---- a list of calls
 -- from a state and a ledger on, the oldest first
@@ -91,20 +106,20 @@ ledgerIn way b [] = blankLedger b
 ledgerIn way b (k ∷ ks) = next b (call (b .rows) (afterIn way (b .rows) ks) k) (ledgerIn way b ks)
 
 -- ---- numbers that can stand in a ledger
--- in an entry, after call n: none passes n, so that nothing wraps; and calls are named exactly if there are some
-pub record EntryInBounds (n : ℕ) (e : Entry) : Type 0 where
-  pub accepted : e .summary .accepted ≤ n
-  pub failed : e .summary .failed ≤ e .summary .accepted
-  pub last : e .summary .last ≤ n
-  pub first : e .summary .first ≤ e .summary .last
-  pub longest : e .summary .longest ≤ e .summary .failed
-  pub stretch : e .stretch ≤ e .summary .longest
-  pub settled : e .summary .settled ≤ n
-  pub none : e .summary .failed ≡ 0 → e .summary .last ≡ 0
-  pub some : 0 < e .summary .failed → 0 < e .summary .first
+-- in an entry, after call n and so many accepted ones: none passes n, so that nothing wraps; and calls are named exactly if there are some
+pub record EntryInBounds (n accepted : ℕ) (e : Entry) : Type 0 where
+  pub failed : e .failed ≤ accepted
+  pub last : e .last ≤ n
+  pub first : e .first ≤ e .last
+  pub longest : e .longest ≤ e .failed
+  pub stretch : e .stretch ≤ e .longest
+  pub settled : e .settled ≤ n
+  pub none : e .failed ≡ 0 → e .last ≡ 0
+  pub some : 0 < e .failed → 0 < e .first
 
 -- in a ledger of so many properties
 pub record LedgerInBounds (properties : ℕ) (l : Ledger) : Type 0 where
   pub number : l .number ≤ LAST-COUNTED
+  pub accepted : l .accepted ≤ l .number
   pub each : length (l .entries) ≡ properties
-  pub entries : (p : ℕ) → p < properties → EntryInBounds (l .number) (entryAt (l .entries) p)
+  pub entries : (p : ℕ) → p < properties → EntryInBounds (l .number) (l .accepted) (entryAt (l .entries) p)
