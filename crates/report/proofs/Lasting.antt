@@ -26,7 +26,7 @@ use Rattle.memory.specs.Memory.{rowCount, propertyRow, valueAt, earlyAt, settle
 use Rattle.memory.specs.Tables.{propertyCount, valueOf, earlyOf, settledOf}
 use Rattle.memory.specs.Kept.{Kept}
 use Rattle.property_answers.specs.Verdict.{verdictIn, verdictOf}
-use Rattle.property_answers.proofs.Bridge.{properties-length, property-is}
+use Rattle.memory.proofs.Properties.{properties-length, property-is}
 use Rattle.buffer_writer.specs.Buffer.{Handed}
 use Rattle.buffer_writer.specs.Finish.{finish, Wrote}
 use Rattle.buffer_writer.proofs.Writes.{and-then}
@@ -135,7 +135,7 @@ module _ {m : List ℕ} (kept : Kept m) (i : ℕ) (h : i < propertyCount m) wher
   word-said : wordAt m i ≡ propertyWord (wordOf (verdictOf m i))
   unfolding digitWord propertyWord verdictIn bookOf
   word-said =
-      let p = property-is m kept i h in
+      let p = property-is m (kept .sound .book) i h in
       rw (kept .tables .valued .right (propertyRow m i) inside, kept .tables .answered .early i h, kept .tables .answered .settled i h, p)
 
 said-words : {m : List ℕ} → Kept m → (n : ℕ) → n ≤ propertyCount m → digitWords m n ≡ propertyWords (listed (λ p. wordOf (verdictOf m p)) n)
@@ -147,7 +147,7 @@ said-words {m} kept (suc i) h =
 
 rest-said : {m : List ℕ} → Kept m → digitRest m ≡ restWords (restOf (bookOf m) (stateOf m))
 unfolding digitRest restWords
-rest-said {m} kept = rw (properties-length m kept, said-words kept (propertyCount m) (omega arith), kept .tables .counts .right)
+rest-said {m} kept = rw (properties-length m (kept .sound .book), said-words kept (propertyCount m) (omega arith), kept .tables .counts .right)
 
 pub line-said : {m : List ℕ} → Kept m → {number : List ℕ} (i r : ℕ) → number ≡ decimal i → digitLine number r (digitRest m) ≡ callLine (lineOf (bookOf m) i (record { number = r; state = stateOf m }))
 unfolding digitLine callLine lineOf restWords

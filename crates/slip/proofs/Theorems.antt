@@ -10,7 +10,7 @@ use borrow.Author.Tests.{le-ltb, ne-eqb}
 use Rattle.numbers.specs.Limits.{MOST-RUNS, LONGEST-INPUT, LONGEST-REPORT}
 use Rattle.numbers.specs.Refusals.{ACCEPTED, PAST-LIMIT, NO-ROOM, COULD-RUN-OUT, NESTED}
 use Rattle.text.specs.Words.{supply}
-use Rattle.pmtl.specs.Book.{properties}
+use Rattle.pmtl.specs.Book.{properties, propertyAt}
 use Rattle.pmtl.specs.declared.Answer.{Answer}
 use Rattle.pmtl.specs.declared.Answer.the-variants.{False, True, Open}
 use Rattle.pmtl.specs.Answer.{digitOf, bitOf, known}
@@ -32,7 +32,7 @@ use Rattle.book.specs.Judging.{Loaded, refusedWith, loadedFrom}
 use Rattle.book.specs.Strict.{strictly, excessBy, unless}
 use Rattle.book.specs.Loading.{wayIn, flatly, admitted}
 use Rattle.book.proofs.Admitted.{nested-refused, fifteen-first, admitted-strict}
-use Rattle.property_answers.specs.Verdict.{propertyAt, verdictIn}
+use Rattle.property_answers.specs.Verdict.{verdictIn}
 use Rattle.report.specs.Lines.{PropertyWord, nothing, wordsIn, countIn, CallLine, stop, Line, book, called, last, wordOf, callLines, bookThen, bookLines, lines}
 use Rattle.report.specs.Report.{written, report}
 use Rattle.slip.specs.Back.{linesIn}

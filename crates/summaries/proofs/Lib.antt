@@ -1,0 +1,8 @@
+pub mod Appended
+pub mod Noted
+pub mod Counting
+pub mod Stretches
+pub mod Settles
+pub mod Renumbered
+pub mod Theorems
+pub mod Examples

@@ -1,0 +1,4 @@
+pub mod Summary
+pub mod Recount
+pub mod Renumbered
+pub mod Ledger
