@@ -41,6 +41,10 @@ MOST-ATOMS = 256
 abbrev pub ROW-WORDS : ℕ
 ROW-WORDS = 4
 
+-- the most kits of a desk
+abbrev pub MOST-KITS : ℕ
+MOST-KITS = 16
+
 -- the most bytes of an input
 abbrev pub LONGEST-INPUT : ℕ
 LONGEST-INPUT = 65536

@@ -69,6 +69,18 @@ TOO-WIDE = 16
 abbrev pub NESTED : ℕ
 NESTED = 17
 
+-- a desk of no kit or of too many, or a barcode given twice
+abbrev pub WRONG-KITS : ℕ
+WRONG-KITS = 18
+
+-- a window of a kit above the last time
+abbrev pub WINDOW-TOO-LONG : ℕ
+WINDOW-TOO-LONG = 19
+
+-- a barcode that no kit of the desk has
+abbrev pub UNKNOWN-BARCODE : ℕ
+UNKNOWN-BARCODE = 20
+
 -- a step of tidying that does not fit
 abbrev pub DOES-NOT-FIT : ℕ
 DOES-NOT-FIT = 21

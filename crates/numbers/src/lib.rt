@@ -29,6 +29,9 @@ pub const MOST_ATOMS: usize = 256;
 // The words of a row in a book: kind, arg, lower, upper.
 pub const ROW_WORDS: usize = 4;
 
+// The most kits of a desk.
+pub const MOST_KITS: usize = 16;
+
 // The most bytes of an input.
 pub const LONGEST_INPUT: usize = 65536;
 
@@ -85,6 +88,15 @@ pub const TOO_WIDE: u64 = 16;
 
 // A temporal row that lies below another: refused where a book is loaded in the lasting way.
 pub const NESTED: u64 = 17;
+
+// A desk of no kit or of too many, or a barcode given twice.
+pub const WRONG_KITS: u64 = 18;
+
+// A window of a kit above the last time.
+pub const WINDOW_TOO_LONG: u64 = 19;
+
+// A barcode that no kit of the desk has.
+pub const UNKNOWN_BARCODE: u64 = 20;
 
 // A step of tidying that does not fit.
 pub const DOES_NOT_FIT: u64 = 21;

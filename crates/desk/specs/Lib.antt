@@ -1,0 +1,4 @@
+pub mod Kits
+pub mod Private
+pub mod Standing
+pub mod Made

@@ -1,0 +1,4 @@
+pub mod Dialogue
+pub mod Bytes
+pub mod Does
+pub mod Longest

@@ -1,0 +1,11 @@
+pub mod Rows
+pub mod Places
+pub mod Words
+pub mod Past
+pub mod Means
+pub mod Opened
+pub mod Scanned
+pub mod Settling
+pub mod Theorems
+pub mod Loaded
+pub mod Examples

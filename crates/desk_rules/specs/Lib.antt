@@ -1,0 +1,5 @@
+pub mod Scans
+pub mod Words
+pub mod Rows
+pub mod Desk
+pub mod BookWords
