@@ -88,10 +88,10 @@ fn note_settled(monitor: &mut [u64; SIZE], n: u64, i: usize)
     requires { ⌜ (i < MOST-PROPERTIES) × (length (now monitor) ≡ SIZE) ⌝ }
     ensures { λ _. ⌜ EntryPut (now (monitor .entry)) i (settledNoted n (openNow (now (monitor .entry)) i) (entryOf (now (monitor .entry)) i)) (now (monitor .exit)) ⌝ }
 {
-    if entry_word(monitor, i, SETTLED_CALL) != 0 {
+    if memory::settled_at(monitor, i) == OPEN {
         return;
     }
-    if memory::settled_at(monitor, i) == OPEN {
+    if entry_word(monitor, i, SETTLED_CALL) != 0 {
         return;
     }
     put_word(monitor, i, SETTLED_CALL, n);

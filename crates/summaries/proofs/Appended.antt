@@ -14,10 +14,10 @@ use Rattle.pmtl.specs.declared.Answer.the-variants.{False, True, Open}
 use Rattle.pmtl.specs.Answer.{bitOf, digitOf, isOpen}
 use Rattle.report.specs.Lines.{CallLine}
 use Rattle.summaries.specs.Recount.{wordOn, isFalse, isSettled, acceptedOf, numbersIf, firstOf, lastOf, stretchOf, longestOf, recount}
-use Rattle.summaries.specs.Ledger.{Entry, orElse, noted}
+use Rattle.ledger.specs.Ledger.{Entry, orElse, noted}
 
 -- ---- one number more
-one-longer : {A : Type 0} (xs : List A) (x : A) → length (xs ++ x ∷ []) ≡ suc (length xs)
+pub one-longer : {A : Type 0} (xs : List A) (x : A) → length (xs ++ x ∷ []) ≡ suc (length xs)
 one-longer xs x = length-append xs (x ∷ []) ∙ (omega arith)
 
 new-last : (ns : List ℕ) (n : ℕ) → lastOf (ns ++ n ∷ []) ≡ n
@@ -113,7 +113,7 @@ module _ (test : CallLine → Bool) where
       rw (from-none (stretchOf test (ls ++ l ∷ [])) (longestOf test (ls ++ l ∷ [])) (stretch-within (ls ++ l ∷ [])), from-none (stretchOf test ls) (longestOf test ls) (stretch-within ls)) at (long-from 0 ls l)
 
 -- ---- one line more
-accepted-yes : (ls : List CallLine) (l : CallLine) → l .refusal ≡ ACCEPTED → acceptedOf (ls ++ l ∷ []) ≡ acceptedOf ls ++ l ∷ []
+pub accepted-yes : (ls : List CallLine) (l : CallLine) → l .refusal ≡ ACCEPTED → acceptedOf (ls ++ l ∷ []) ≡ acceptedOf ls ++ l ∷ []
 unfolding acceptedOf
 accepted-yes [] l e = rw (eq-eqb (l .refusal) ACCEPTED e)
 accepted-yes (k ∷ ls) l e = go (eqb (k .refusal) ACCEPTED) (accepted-yes ls l e)
@@ -123,7 +123,7 @@ accepted-yes (k ∷ ls) l e = go (eqb (k .refusal) ACCEPTED) (accepted-yes ls l 
     go true ih = ap (λ ks. k ∷ ks) ih
     go false ih = ih
 
-accepted-no : (ls : List CallLine) (l : CallLine) → ¬ (l .refusal ≡ ACCEPTED) → acceptedOf (ls ++ l ∷ []) ≡ acceptedOf ls
+pub accepted-no : (ls : List CallLine) (l : CallLine) → ¬ (l .refusal ≡ ACCEPTED) → acceptedOf (ls ++ l ∷ []) ≡ acceptedOf ls
 unfolding acceptedOf
 accepted-no [] l e = rw (ne-eqb (l .refusal) ACCEPTED e)
 accepted-no (k ∷ ls) l e = ap (λ ks. cond (eqb (k .refusal) ACCEPTED) (k ∷ ks) ks) (accepted-no ls l e)
@@ -137,9 +137,16 @@ accepted-numbered (k ∷ ls) ok = go (eqb (k .refusal) ACCEPTED) (accepted-numbe
     go true ih = (ok .0, ih)
     go false ih = ih
 
--- the entry that lines come to
+-- the entry that lines come to: a recount, but for how many were accepted, and the stretch that is not broken
 abbrev pub entryFrom : ℕ → List CallLine → Entry
-entryFrom p ls = record { summary = recount p ls; stretch = openFrom (isFalse p) 0 (acceptedOf ls) }
+entryFrom p ls = let s = recount p ls in record {
+  failed = s .failed;
+  first = s .first;
+  last = s .last;
+  longest = s .longest;
+  settled = s .settled;
+  stretch = openFrom (isFalse p) 0 (acceptedOf ls);
+}
 
 -- the line of a refused call changes nothing
 pub entry-refused : (p : ℕ) (ls : List CallLine) (l : CallLine) → ¬ (l .refusal ≡ ACCEPTED) → entryFrom p (ls ++ l ∷ []) ≡ entryFrom p ls
@@ -177,5 +184,5 @@ module _ (p : ℕ) (ls : List CallLine) (l : CallLine) (ok : Numbered ls) (accep
       go holds fails
     where
       go : (z : Bool) → isFalse p l ≡ not z → entryFrom p (ls ++ l ∷ []) ≡ noted (l .number) z (isOpen answer) (entryFrom p ls)
-      go true e = rw (accepted-yes ls l accepted, one-longer before l, settled-now (isOpen answer) settles, longest-more (isFalse p) before l, open-more (isFalse p) 0 before l, numbers-no (isFalse p) before l e, e)
-      go false e = rw (accepted-yes ls l accepted, one-longer before l, settled-now (isOpen answer) settles, longest-more (isFalse p) before l, open-more (isFalse p) 0 before l, numbers-yes (isFalse p) before l e, e, new-last (numbersIf (isFalse p) before) (l .number), one-longer (numbersIf (isFalse p) before) (l .number), first-stays (isFalse p) before (accepted-numbered ls ok) (l .number))
+      go true e = rw (accepted-yes ls l accepted, settled-now (isOpen answer) settles, longest-more (isFalse p) before l, open-more (isFalse p) 0 before l, numbers-no (isFalse p) before l e, e)
+      go false e = rw (accepted-yes ls l accepted, settled-now (isOpen answer) settles, longest-more (isFalse p) before l, open-more (isFalse p) 0 before l, numbers-yes (isFalse p) before l e, e, new-last (numbersIf (isFalse p) before) (l .number), one-longer (numbersIf (isFalse p) before) (l .number), first-stays (isFalse p) before (accepted-numbered ls ok) (l .number))

@@ -2,35 +2,41 @@
 use Prim.Native.Nat.{ℕ, zero, suc, _+_, _-_, _<_, _≤_, min}
 use native.Mathlib.Omega.{arith}
 use native.Mathlib.Decide.{decLt, ℕ-discrete}
-use mathlib.Core.Path.{_≡_, refl, sym, ap, ap₂, _∙_}
-use mathlib.Core.List.{List, [], _∷_, _++_, append-nil, append-assoc, reverse, reverseAux}
-use lib.ListN.{length, take, length-append}
+use mathlib.Core.Path.{_≡_, refl, sym, ap, _∙_}
+use mathlib.Core.List.{List, [], _∷_, _++_, append-nil, append-assoc, reverse, reverseAux, reverse-append}
+use lib.ListN.{length, take, drop, length-append, length-take, length-reverse, take-append-drop}
+use lib.Seq.{take-all}
 use borrow.Author.Tests.{eq-eqb}
 use Rattle.lists.specs.Lists.{listed}
 use Rattle.lists.proofs.Listed.{listed-at, listed-agree, listed-all}
 use Rattle.numbers.specs.Refusals.{ACCEPTED}
-use Rattle.pmtl.specs.Book.{Book, properties}
+use Rattle.pmtl.specs.Book.{Book, properties, propertyAt}
 use Rattle.pmtl.specs.Sets.{Way}
 use Rattle.pmtl.specs.Monitor.{State, value, initialIn}
 use Rattle.pmtl.specs.Settled.{settled}
 use Rattle.pmtl.specs.Calls.{Call, Outcome, call, afterIn}
-use Rattle.property_answers.specs.Verdict.{propertyAt, verdictIn}
+use Rattle.property_answers.specs.Verdict.{verdictIn}
 use Rattle.report.specs.Lines.{CallLine, wordOf, lineOf, linesOf}
 use Rattle.summaries.specs.Recount.{noWord, wordOn, acceptedOf, numbersIf, longestOf, recount}
-use Rattle.summaries.specs.Ledger.{LAST-COUNTED, Ledger, noEntry, blankLedger, entryAt, next, ledgerFrom, ledgerIn, LedgerInBounds}
-use Rattle.summaries.proofs.Appended.{Numbered, numbered-more, openFrom, entryFrom, entry-accepted, entry-refused}
-use Rattle.summaries.proofs.Noted.{notedAt, next-accepted, next-refused, next-past, number-next, blank-counts, next-counts}
+use Rattle.ledger.specs.Ledger.{LAST-COUNTED, Entry, Ledger, noEntry, blankLedger, entryAt, summaryFrom, summaryAt, next, ledgerFrom, ledgerIn, LedgerInBounds}
+use Rattle.summaries.proofs.Appended.{one-longer, Numbered, numbered-more, openFrom, accepted-yes, accepted-no, entryFrom, entry-accepted, entry-refused}
+use Rattle.ledger.proofs.Noted.{notedAt, next-accepted, next-refused, next-past, number-next, blank-counts, next-counts}
 
 -- ---- what lines come to
 abbrev pub tally : Book → List CallLine → Ledger
-tally b ls = record { number = length ls; entries = listed (λ p. entryFrom p ls) (length (properties b)) }
+tally b ls = record { number = length ls; accepted = length (acceptedOf ls); entries = listed (λ p. entryFrom p ls) (length (properties b)) }
 
-pub tally-at : (b : Book) (ls : List CallLine) (p : ℕ) → p < length (properties b) → entryAt (tally b ls .entries) p ≡ entryFrom p ls
-tally-at b ls p inside = listed-at (λ p. entryFrom p ls) noEntry (length (properties b)) p inside
+tally-entry : (b : Book) (ls : List CallLine) (p : ℕ) → p < length (properties b) → entryAt (tally b ls .entries) p ≡ entryFrom p ls
+tally-entry b ls p inside = listed-at (λ p. entryFrom p ls) noEntry (length (properties b)) p inside
+
+-- the summaries among them are recounts
+pub tally-at : (b : Book) (ls : List CallLine) (p : ℕ) → p < length (properties b) → summaryAt (tally b ls) p ≡ recount p ls
+unfolding recount
+tally-at b ls p inside = ap (summaryFrom (length (acceptedOf ls))) (tally-entry b ls p inside)
 
 tally-none : (b : Book) → blankLedger b ≡ tally b []
 unfolding recount acceptedOf numbersIf longestOf openFrom
-tally-none b = ap (λ es. record { number = 0; entries = es }) (sym (listed-all (λ p. entryFrom p []) noEntry (length (properties b)) (λ p h. refl)))
+tally-none b = ap (λ es. record { number = 0; accepted = 0; entries = es }) (sym (listed-all (λ p. entryFrom p []) noEntry (length (properties b)) (λ p h. refl)))
 
 -- ---- one call more, and its line
 word-on : (b : Book) (i : ℕ) (o : Outcome) → o .number ≡ ACCEPTED → (p : ℕ) → p < length (properties b) → wordOn p (lineOf b i o) ≡ wordOf (verdictIn b (o .state) p)
@@ -52,12 +58,24 @@ module _ (b : Book) (o : Outcome) (ls : List CallLine) (ok : Numbered ls) where
   unfolding verdictIn lineOf
   entry-now e p inside =
       let w = word-on b (suc (length ls)) o e p inside in
-      rw (tally-at b ls p inside)
+      rw (tally-entry b ls p inside)
       (sym (entry-accepted p ls line ok e (value (b .rows) (o .state) (propertyAt b p)) (ap (λ w. w .value) w) (settled (b .rows) (o .state) (propertyAt b p)) (ap (λ w. w .settled) w)))
 
   line-refused : ¬ (o .number ≡ ACCEPTED) → (p : ℕ) → p < length (properties b) → entryFrom p ls ≡ entryFrom p (ls ++ line ∷ [])
   unfolding lineOf
   line-refused e p inside = sym (entry-refused p ls line e)
+
+  counted-yes : o .number ≡ ACCEPTED → length (acceptedOf (ls ++ line ∷ [])) ≡ suc (length (acceptedOf ls))
+  unfolding lineOf
+  counted-yes e = ap (length {A = CallLine}) (accepted-yes ls line e) ∙ one-longer (acceptedOf ls) line
+
+  counted-no : ¬ (o .number ≡ ACCEPTED) → length (acceptedOf (ls ++ line ∷ [])) ≡ length (acceptedOf ls)
+  unfolding lineOf
+  counted-no e = ap (length {A = CallLine}) (accepted-no ls line e)
+
+  as-parts : {n n′ a a′ : ℕ} {es es′ : List Entry} → n ≡ n′ → a ≡ a′ → es ≡ es′
+      → _≡_ {A = Ledger} (record { number = n; accepted = a; entries = es }) (record { number = n′; accepted = a′; entries = es′ })
+  as-parts en ea ee = cc
 
   tally-more : length ls < LAST-COUNTED → next b o (tally b ls) ≡ tally b (ls ++ line ∷ [])
   tally-more h = go (ℕ-discrete (o .number) ACCEPTED)
@@ -65,10 +83,11 @@ module _ (b : Book) (o : Outcome) (ls : List CallLine) (ok : Numbered ls) where
       go : Dec (o .number ≡ ACCEPTED) → next b o (tally b ls) ≡ tally b (ls ++ line ∷ [])
       go (yes e) =
           next-accepted b o (tally b ls) h e
-          ∙ ap₂ (λ n es. record { number = n; entries = es }) (sym line-longer) (listed-agree (notedAt b o (tally b ls)) (λ p. entryFrom p (ls ++ line ∷ [])) (length (properties b)) (entry-now e))
+          ∙ as-parts (sym line-longer) (sym (counted-yes e))
+          (listed-agree (notedAt b o (tally b ls)) (λ p. entryFrom p (ls ++ line ∷ [])) (length (properties b)) (entry-now e))
       go (no e) =
           next-refused b o (tally b ls) h e
-          ∙ ap₂ (λ n es. record { number = n; entries = es }) (sym line-longer)
+          ∙ as-parts (sym line-longer) (sym (counted-no e))
           (listed-agree (λ p. entryFrom p ls) (λ p. entryFrom p (ls ++ line ∷ [])) (length (properties b)) (line-refused e))
 
 -- ---- calls, the oldest first
@@ -124,6 +143,19 @@ module _ (way : Way) (b : Book) where
   ledger-stays (k ∷ more) calls h =
       let o = call (b .rows) (afterIn way (b .rows) (more ++ calls)) k in
       ap (next b o) (ledger-stays more calls h) ∙ next-past b o (ledgerIn way b calls) (omega (arith, ledger-number calls))
+
+  -- so that it is that of the first calls, as far as they are counted
+  pub ledger-first : (calls : List Call) → ledgerIn way b (reverse calls) ≡ ledgerIn way b (reverse (take LAST-COUNTED calls))
+  ledger-first calls = go (decLt (length calls) LAST-COUNTED)
+    where
+      go : Dec (length calls < LAST-COUNTED) → ledgerIn way b (reverse calls) ≡ ledgerIn way b (reverse (take LAST-COUNTED calls))
+      go (yes h) = ap (λ ks. ledgerIn way b (reverse ks)) (sym (take-all LAST-COUNTED calls (omega arith)))
+      go (no h) =
+          let first = take LAST-COUNTED calls in
+          let later = drop LAST-COUNTED calls in
+          ap (λ ks. ledgerIn way b (reverse ks)) (sym (take-append-drop LAST-COUNTED calls))
+          ∙ ap (ledgerIn way b) (reverse-append first later)
+          ∙ ledger-stays (reverse later) (reverse first) (omega (arith, length-reverse first, length-take LAST-COUNTED calls))
 
   -- and its numbers are as they can be
   pub ledger-counts : (calls : List Call) → LedgerInBounds (length (properties b)) (ledgerIn way b calls)

@@ -15,9 +15,9 @@ use Rattle.pmtl.specs.Calls.{Call, firstOf, refusal, crowded, play, call, after
 use Rattle.pmtl.specs.Calls.Call.{time, state, stamped}
 use Rattle.property_answers.specs.Verdict.{verdictIn}
 use Rattle.report.specs.Lines.{nothing, told, CallLine, lineOf, linesOf}
-use Rattle.summaries.specs.Summary.{Summary}
+use Rattle.ledger.specs.declared.Summary.{Summary}
 use Rattle.summaries.specs.Recount.{acceptedOf, numbersIf, stretchOf, longestOf, recount}
-use Rattle.summaries.specs.Ledger.{Ledger, summaryAt, noted, entriesAfter, next, ledgerIn}
+use Rattle.ledger.specs.Ledger.{Ledger, summaryAt, noted, entriesAfter, next, ledgerIn}
 
 -- ---- of lines
 -- the line of an accepted call about one property, and that of a refused one
@@ -91,6 +91,6 @@ abbrev pub loanRefused : List Call
 loanRefused = stamped 60 (0 ∷ 1 ∷ 0 ∷ []) ∷ time 9 ∷ clear ∷ []
 
 pub refused-kept : ledgerSaid ordinary loanBook loanRefused
-    ≡ record { number = 3; entries = record { summary = record { accepted = 2; failed = 2; first = 1; last = 3; longest = 2; settled = 1 }; stretch = 2 } ∷ [] }
+    ≡ record { number = 3; accepted = 2; entries = record { failed = 2; first = 1; last = 3; longest = 2; settled = 1; stretch = 2 } ∷ [] }
 unfolding ledgerSaid
 refused-kept = refl

@@ -1,5 +1,4 @@
 pub mod Appended
-pub mod Noted
 pub mod Counting
 pub mod Stretches
 pub mod Settles

@@ -11,7 +11,7 @@ use Rattle.numbers.specs.Refusals.{ACCEPTED}
 use Rattle.pmtl.specs.declared.Answer.{Answer}
 use Rattle.pmtl.specs.declared.Answer.the-variants.{False, True, Open}
 use Rattle.pmtl.specs.Answer.{isOpen, known}
-use Rattle.pmtl.specs.Book.{Book, properties}
+use Rattle.pmtl.specs.Book.{Book, properties, propertyAt}
 use Rattle.pmtl.specs.Sets.{Way}
 use Rattle.pmtl.specs.Monitor.{initialIn}
 use Rattle.pmtl.specs.Settled.{settled}
@@ -20,9 +20,8 @@ use Rattle.pmtl.proofs.Answers.{settled-before}
 use Rattle.pmtl.proofs.Theorems.{refused-changes-nothing}
 use Rattle.lasts.specs.Flat.{Fit}
 use Rattle.lasts.proofs.EitherWay.{demand-3}
-use Rattle.property_answers.specs.Verdict.{propertyAt}
-use Rattle.summaries.specs.Ledger.{LAST-COUNTED, Entry, noEntry, entryAt, summaryAt, orElse, ledgerIn}
-use Rattle.summaries.proofs.Noted.{settled-now, or-else-over, entry-next, entries-refused}
+use Rattle.ledger.specs.Ledger.{LAST-COUNTED, Entry, noEntry, entryAt, summaryAt, orElse, ledgerIn}
+use Rattle.ledger.proofs.Noted.{settled-now, or-else-over, entry-next, entries-refused}
 use Rattle.summaries.proofs.Counting.{ledger-number}
 
 not-known : (x : Bool) → known x ≡ Open → ⊥
@@ -51,12 +50,12 @@ module _ (way : Way) (b : Book) (fit : Fit way (b .rows)) (p : ℕ) (inside : p 
   unfolding ledgerIn afterIn
   field-accepted ks k h e =
       let o = call (b .rows) (afterIn way (b .rows) ks) k in
-      ap (λ (x : Entry). x .summary .settled) (entry-next b o (ledgerIn way b ks) (omega (arith, ledger-number way b ks)) e p inside)
+      ap (λ (x : Entry). x .settled) (entry-next b o (ledgerIn way b ks) (omega (arith, ledger-number way b ks)) e p inside)
       ∙ settled-now (suc (ledgerIn way b ks .number)) _ (isOpen (answerOf (k ∷ ks))) (entryAt (ledgerIn way b ks .entries) p)
 
   field-refused : (ks : List Call) (k : Call) → ¬ (call (b .rows) (afterIn way (b .rows) ks) k .number ≡ ACCEPTED) → fieldOf (k ∷ ks) ≡ fieldOf ks
   unfolding ledgerIn
-  field-refused ks k e = ap (λ es. entryAt es p .summary .settled) (entries-refused b (call (b .rows) (afterIn way (b .rows) ks) k) (ledgerIn way b ks) e)
+  field-refused ks k e = ap (λ es. entryAt es p .settled) (entries-refused b (call (b .rows) (afterIn way (b .rows) ks) k) (ledgerIn way b ks) e)
 
   answer-refused : (ks : List Call) (k : Call) → ¬ (call (b .rows) (afterIn way (b .rows) ks) k .number ≡ ACCEPTED) → answerOf (k ∷ ks) ≡ answerOf ks
   unfolding afterIn
@@ -70,7 +69,7 @@ module _ (way : Way) (b : Book) (fit : Fit way (b .rows)) (p : ℕ) (inside : p 
   pub settled-zero : (calls : List Call) → length calls ≤ LAST-COUNTED → (fieldOf calls ≡ 0) ↔ (answerOf calls ≡ Open)
   unfolding ledgerIn afterIn initialIn
   settled-zero [] h =
-      (λ e. settled-before (b .rows) (initialIn way (b .rows)) refl (propertyAt b p), λ e. ap (λ (x : Entry). x .summary .settled) (getD-replicate (length (properties b)) p noEntry noEntry inside))
+      (λ e. settled-before (b .rows) (initialIn way (b .rows)) refl (propertyAt b p), λ e. ap (λ (x : Entry). x .settled) (getD-replicate (length (properties b)) p noEntry noEntry inside))
   settled-zero (k ∷ ks) h = go (ℕ-discrete (call (b .rows) (afterIn way (b .rows) ks) k .number) ACCEPTED) (settled-zero ks (omega arith))
     where
       go : Dec (call (b .rows) (afterIn way (b .rows) ks) k .number ≡ ACCEPTED) → (fieldOf ks ≡ 0) ↔ (answerOf ks ≡ Open) → (fieldOf (k ∷ ks) ≡ 0) ↔ (answerOf (k ∷ ks) ≡ Open)

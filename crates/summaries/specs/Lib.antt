@@ -1,4 +1,2 @@
-pub mod Summary
 pub mod Recount
 pub mod Renumbered
-pub mod Ledger

@@ -8,7 +8,7 @@ use lib.Dec.{ltb, eqb}
 use Rattle.numbers.specs.Refusals.{ACCEPTED}
 use Rattle.pmtl.specs.Book.{every}
 use Rattle.report.specs.Lines.{PropertyWord, wordsIn, CallLine}
-use Rattle.summaries.specs.Summary.{Summary}
+use Rattle.ledger.specs.declared.Summary.{Summary}
 
 -- a word for a property that is not there
 abbrev pub noWord : PropertyWord

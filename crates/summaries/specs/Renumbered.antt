@@ -1,7 +1,7 @@
 -- Lines and summaries whose calls are numbered anew. Definitions only.
 use Prim.Native.Nat.{ℕ}
 use Rattle.report.specs.Lines.{CallLine}
-use Rattle.summaries.specs.Summary.{Summary}
+use Rattle.ledger.specs.declared.Summary.{Summary}
 
 -- a call's line, by another number
 abbrev pub renumberedLine : (ℕ → ℕ) → CallLine → CallLine
