@@ -9,7 +9,9 @@
  *     book 0              the book was loaded; another number says why it was not, and nothing follows
  *     1 0 022 111 1       call 1 was accepted; a word for each property: value, early, settled; and the count
  *     2 7                 call 2 was refused with 7 and passed over
- *     end                 all was read; or `stop N`: reading ended with the number N
+ *     1 1 1 1 1 0         a summary of each property: accepted, failed, first, last, longest, settled
+ *     1 0 0 0 0 1
+ *     end                 all was read; or `stop N`: reading ended with the number N, and no summary stands before it
  *
  * In a word of three digits 0 is false, 1 is true and 2 is open. The settled answer is never taken back:
  * once it is 0 or 1, the property has that value then and after every further accepted call. The early
@@ -18,6 +20,10 @@
  * The count, the last word of an accepted call's line, says how full the fullest rule is: how many separate
  * stretches of time it remembers that are not over. 0 is none and 64 is full; a call that needs one more is then
  * refused with 11. From 48 on, think about the rule.
+ *
+ * A property's summary says how many calls were accepted, how many of these left the property false, the first and the
+ * last of these by call number (0 if none), how many of them came in a row where most did, and the call at which the
+ * property settled (0 if it is open). Calls are numbered from 1, refused ones, too.
  *
  * binefdar_report_strict is the same, but that it refuses a book of which a rule could ever need more than 64 of these
  * stretches. Then its one line is `book 15 ROW COUNT`: the first such row, counted from 0, and how many it could need.
@@ -67,7 +73,7 @@ extern "C" {
 #define BINEFDAR_LONGEST_REPORT 2300000
 
 /* The stack that a call may need, in bytes, with room to spare: of the books that were tried 127 Ands or Ors, each
- * inside the next, take the most, 71,456 bytes on x86-64 with what a thread itself takes. */
+ * inside the next, take the most, 73,200 bytes on x86-64 with what a thread itself takes. */
 #define BINEFDAR_STACK 131072
 
 uint64_t binefdar_report(const uint8_t *input, size_t input_length, uint8_t *report, size_t report_length);

@@ -7,6 +7,7 @@
 use bench::workloads::{jumps, with_calls_refused, workloads, Workload, MANY_RUNS, ONE_RUN};
 use bench::{plain, as_the_rust_knows};
 use judge::report::{self, Gaps, Nobody, LONGEST_INPUT};
+use judge::summaries::calls_of;
 use std::hint::black_box;
 use std::process::Command;
 use std::time::{Duration, Instant};
@@ -117,9 +118,9 @@ fn check(name: &str, texts: &[Vec<u8>; 2]) {
 /// Every call is accepted, or, in the second part, refused.
 fn check_accepted(name: &str, part: usize, expected: Vec<u8>) {
     let lines = String::from_utf8(expected).expect("a report is ASCII");
-    let accepted = lines.lines().filter(|l| l.split(' ').nth(1) == Some("0")).count();
-    // One line is the book's; with the calls refused the one more is the first call.
-    assert_eq!(accepted, if part == 0 { lines.lines().count() - 1 } else { 2 }, "{name}: accepted lines");
+    let accepted = calls_of(&lines).filter(|l| l.split(' ').nth(1) == Some("0")).count();
+    // With the calls refused the one is the first call.
+    assert_eq!(accepted, if part == 0 { calls_of(&lines).count() } else { 1 }, "{name}: accepted lines");
 }
 
 /// Calls that the judge of the lasting way may put in: at the ends of gaps alone, since these are far too long to walk.

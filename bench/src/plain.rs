@@ -1,5 +1,5 @@
 //! A straightforward Rust program over the original: text in, report out. It knows no settled answer, no limit on runs and no
-//! count of them, since the original has none of these: the third digit is always open, and the last word 0.
+//! count of them, since the original has none of these: the third digit is always open, and the last word 0, also that of a summary.
 
 use scan_core::{Oracle, TimeRange};
 use scan_pmtl::{Pmtl, PmtlOracle};
@@ -57,8 +57,35 @@ impl Words<'_> {
     }
 }
 
-/// The oracle and the state width that its atoms ask for.
-fn read_book(words: &mut Words) -> Result<(PmtlOracle, usize), u64> {
+/// What was counted of a property.
+#[derive(Clone, Default)]
+struct Tally {
+    failed: u64,
+    first: u64,
+    last: u64,
+    longest: u64,
+    /// Failed calls in a row, up to the last accepted one.
+    stretch: u64,
+}
+
+impl Tally {
+    fn note(&mut self, call: u64, holds: bool) {
+        if holds {
+            self.stretch = 0;
+            return;
+        }
+        self.failed += 1;
+        if self.first == 0 {
+            self.first = call;
+        }
+        self.last = call;
+        self.stretch += 1;
+        self.longest = self.longest.max(self.stretch);
+    }
+}
+
+/// The oracle, the state width that its atoms ask for, and how many properties there are.
+fn read_book(words: &mut Words) -> Result<(PmtlOracle, usize, usize), u64> {
     let mut rows = Vec::new();
     for _ in 0..words.count(MOST_ROWS)? {
         rows.push([words.next()?, words.next()?, words.next()?, words.next()?]);
@@ -94,7 +121,7 @@ fn read_book(words: &mut Words) -> Result<(PmtlOracle, usize), u64> {
     if refused.is_some() || formulae.iter().any(Option::is_some) {
         return Err(6);
     }
-    Ok((PmtlOracle::new(&assumes, &guarantees), width))
+    Ok((PmtlOracle::new(&assumes, &guarantees), width, assumes.len() + guarantees.len()))
 }
 
 /// How many operands the rows take, and the state width.
@@ -154,13 +181,17 @@ pub fn report(text: &[u8], out: &mut Vec<u8>) {
         return;
     }
     let mut words = Words { text, at: 0 };
-    let (mut oracle, width) = match read_book(&mut words) {
+    let (mut oracle, width, properties) = match read_book(&mut words) {
         Ok(book) => book,
         Err(number) => return line(out, b"book ", number),
     };
     line(out, b"book ", 0);
-    match calls(&mut words, &mut oracle, width, out) {
-        Ok(()) => out.extend_from_slice(b"end\n"),
+    let mut tallies = vec![Tally::default(); properties];
+    match calls(&mut words, &mut oracle, width, &mut tallies, out) {
+        Ok(accepted) => {
+            tallies.iter().for_each(|tally| push_summary(out, accepted, tally));
+            out.extend_from_slice(b"end\n");
+        }
         Err(number) => line(out, b"stop ", number),
     }
 }
@@ -185,7 +216,9 @@ fn push_number(out: &mut Vec<u8>, mut number: u64) {
     out.extend_from_slice(&digits[start..]);
 }
 
-fn calls(words: &mut Words, oracle: &mut PmtlOracle, width: usize, out: &mut Vec<u8>) -> Result<(), u64> {
+/// How many calls were accepted.
+fn calls(words: &mut Words, oracle: &mut PmtlOracle, width: usize, tallies: &mut [Tally], out: &mut Vec<u8>) -> Result<u64, u64> {
+    let mut accepted = 0;
     let mut clock = 0;
     let mut state: Vec<bool> = Vec::with_capacity(MOST_WIDTH as usize);
     for number in 1..=words.next()? {
@@ -223,14 +256,19 @@ fn calls(words: &mut Words, oracle: &mut PmtlOracle, width: usize, out: &mut Vec
         out.push(b' ');
         push_number(out, refusal);
         if refusal == 0 {
-            oracle.final_output_assumes().zip(oracle.output_assumes()).for_each(|answer| push_answer(out, answer));
-            oracle.final_output_guarantees().zip(oracle.output_guarantees()).for_each(|answer| push_answer(out, answer));
+            accepted += 1;
+            let assumes = oracle.final_output_assumes().zip(oracle.output_assumes());
+            let guarantees = oracle.final_output_guarantees().zip(oracle.output_guarantees());
+            for (tally, answer) in tallies.iter_mut().zip(assumes.chain(guarantees)) {
+                tally.note(number, answer.0);
+                push_answer(out, answer);
+            }
             out.extend_from_slice(b" 0");
         }
         out.push(b'\n');
     }
     match words.next() {
-        Err(1) => Ok(()),
+        Err(1) => Ok(accepted),
         Err(number) => Err(number),
         Ok(_) => Err(1),
     }
@@ -266,6 +304,14 @@ fn read_state(words: &mut Words, width: usize, state: &mut Vec<bool>) -> Result<
     } else {
         0
     })
+}
+
+fn push_summary(out: &mut Vec<u8>, accepted: u64, tally: &Tally) {
+    for number in [accepted, tally.failed, tally.first, tally.last, tally.longest] {
+        push_number(out, number);
+        out.push(b' ');
+    }
+    out.extend_from_slice(b"0\n");
 }
 
 fn push_answer(out: &mut Vec<u8>, (value, early): (bool, Option<bool>)) {

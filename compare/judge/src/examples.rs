@@ -1,6 +1,7 @@
 //! The examples of docs/REFERENCE.md, run through the report.
 
 use crate::report::{lasting, report, strictly, Gaps, Nobody, LONGEST_INPUT};
+use crate::summaries::calls_of;
 
 const MAX: &str = "18446744073709551615";
 
@@ -23,11 +24,10 @@ fn input_of(book: &str, calls: &[&str]) -> String {
     format!("{book}\n{}\n{}", calls.len(), calls.join("\n"))
 }
 
-/// The lines of a report after `book 0`.
+/// The lines of a report after `book 0`, without the summaries.
 fn after_book(report: &str) -> Vec<String> {
-    let mut lines = report.lines().map(str::to_string);
-    assert_eq!(lines.next().as_deref(), Some("book 0"));
-    lines.collect()
+    assert_eq!(report.lines().next(), Some("book 0"));
+    calls_of(report).chain(report.lines().last()).map(str::to_string).collect()
 }
 
 fn lines(book: &str, calls: &[&str]) -> Vec<String> {
@@ -52,7 +52,7 @@ fn values(book: &str, calls: &[&str]) -> String {
 #[test]
 fn whole_case() {
     let input = "3\n2 0 0 0\n8 1 0 18446744073709551615\n7 1 0 18446744073709551615\n2 0 1\n0\n1 2\n4\n1 1 0\n0 1\n1 1 1\n0 5\n";
-    assert_eq!(reported(input), "book 0\n1 0 000 1\n2 0 000 1\n3 0 010 1\n4 0 010 1\nend\n");
+    assert_eq!(reported(input), "book 0\n1 0 000 1\n2 0 000 1\n3 0 010 1\n4 0 010 1\n4 4 1 4 4 1\nend\n");
 }
 
 #[test]
@@ -192,6 +192,35 @@ fn refused_states() {
     assert_eq!(lines("0 0 0 0", &["1 0", "1 1 1", "1 1 2"]), ["1 0 0", "2 16", "3 16", "end"]);
 }
 
+/// The summaries: the lines between those of the calls and the last.
+fn summaries(book: &str, calls: &[&str]) -> Vec<String> {
+    let report = reported(&input_of(book, calls));
+    let lines: Vec<&str> = report.lines().collect();
+    assert_eq!(lines.last(), Some(&"end"));
+    lines[1 + calls.len()..lines.len() - 1].iter().map(|line| line.to_string()).collect()
+}
+
+#[test]
+fn a_refused_call_has_a_number_and_breaks_no_stretch() {
+    // a, then not a at the calls 2 and 4, a at 6, not a at 7; the calls 3 and 5 are refused.
+    let calls = ["1 1 1", "1 1 0", "1 1 2", "0 5", "0 4", "1 1 1", "1 1 0"];
+    assert_eq!(summaries("1 2 0 0 0 0 0 1 0", &calls), ["5 3 2 7 2 0"]);
+}
+
+#[test]
+fn a_summary_says_where_a_property_settled() {
+    // Historically a as an assume, and a as a guarantee: the first settles at call 4, the second never.
+    let book = format!("3 2 0 0 0 7 1 0 {MAX} 2 0 0 0 1 0 1 1 1 2");
+    assert_eq!(summaries(&book, &["1 1 1", "0 3", "0 2", "1 1 0", "1 1 1"]), ["4 2 4 5 2 4", "4 1 4 4 1 0"]);
+}
+
+#[test]
+fn summaries_of_no_call_and_none_before_stop() {
+    let book = "2 2 0 0 0 1 0 0 0 0 1 1 1 0";
+    assert_eq!(reported(&format!("{book} 0")), "book 0\n0 0 0 0 0 0\n0 0 0 0 0 0\nend\n");
+    assert_eq!(reported(&format!("{book} 1 0 4 0")), "book 0\n1 0 111 022 0\nstop 1\n");
+}
+
 #[test]
 fn stops() {
     let book = "0 0 0 0";
@@ -230,11 +259,11 @@ fn strict_loading() {
         let ordinary = reported(&input);
         String::from_utf8(strictly(input.as_bytes(), ordinary.as_bytes())).expect("a report is ASCII")
     };
-    assert_eq!(report("8 1 127 127"), "book 0\nend\n");
+    assert_eq!(report("8 1 127 127"), "book 0\n0 0 0 0 0 0\nend\n");
     assert_eq!(report("8 1 128 128"), "book 15 1 65\n");
-    assert_eq!(report("7 1 0 9223372036854775807"), "book 0\nend\n");
+    assert_eq!(report("7 1 0 9223372036854775807"), "book 0\n0 0 0 0 0 0\nend\n");
     assert_eq!(report("7 1 9223372036854775807 9223372036854775807"), "book 15 1 4611686018427387904\n");
-    assert_eq!(report(&format!("8 1 9223372036854775807 {MAX}")), "book 0\nend\n");
+    assert_eq!(report(&format!("8 1 9223372036854775807 {MAX}")), "book 0\n0 0 0 0 0 0\nend\n");
 }
 
 #[test]
@@ -303,7 +332,7 @@ fn since_in_the_lasting_way() {
 fn books_that_the_lasting_way_does_not_take() {
     let nested = |range: &str| format!("3 2 0 0 0 7 1 0 5 8 1 {range} 2 0 1 0 1 2 0");
     let strictly_lasting = |input: &str| String::from_utf8(strictly(input.as_bytes(), lastingly(input).as_bytes())).expect("ASCII");
-    assert_eq!(reported(&nested("0 5")), "book 0\nend\n");
+    assert_eq!(reported(&nested("0 5")), "book 0\n0 0 0 0 0 0\nend\n");
     assert_eq!(lastingly(&nested("0 5")), "book 17\n");
     assert_eq!(strictly_lasting(&nested("0 5")), "book 17\n");
     // 15 comes before 17, and 6 before both.

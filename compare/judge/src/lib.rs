@@ -8,6 +8,7 @@ pub mod original;
 pub mod report;
 pub mod rules;
 pub mod runs;
+pub mod summaries;
 pub mod text;
 
 #[cfg(test)]

@@ -4,6 +4,7 @@ use crate::book::{self, Book, Row, COULD_RUN_OUT, MAX, NESTED, PASSES_LIMIT};
 use crate::monitor::{Monitor, ACCEPTED, MOST_WIDTH};
 use crate::original::Original;
 use crate::rules::Answer;
+use crate::summaries::summaries;
 use crate::text::{Reader, BAD_WORD, ENDS_EARLY};
 use std::io::Write;
 use std::ops::Range;
@@ -115,12 +116,13 @@ fn stop_line(out: &mut Vec<u8>, number: u64, watch: &mut impl Watch) {
     out.extend_from_slice(format!("stop {number}\n").as_bytes());
 }
 
-/// A line for each call; then `ENDED`, or the number that stops the reading; none where too many calls would be put in.
+/// A line for each call; then the summaries and `ENDED`, or the number that stops the reading; none where too many calls would be put in.
 fn call_lines(way: Way, words: &mut Reader, book: Book, out: &mut Vec<u8>, watch: &mut impl Watch) -> Result<Option<u64>, String> {
     let count = match words.next_word() {
         Ok(count) => count,
         Err(number) => return Ok(Some(number)),
     };
+    let start = out.len();
     let mut pair = Pair { way, original: Original::new(&book), monitor: Monitor::new(book) };
     for number in 1..=count {
         let call = match read_call(words) {
@@ -137,7 +139,11 @@ fn call_lines(way: Way, words: &mut Reader, book: Book, out: &mut Vec<u8>, watch
     }
     Ok(Some(match words.next_word() {
         Ok(_) => ENDS_EARLY,
-        Err(ENDS_EARLY) => ENDED,
+        Err(ENDS_EARLY) => {
+            let summaries = summaries(&out[start..], pair.monitor.book.properties().count());
+            out.extend_from_slice(&summaries);
+            ENDED
+        }
         Err(number) => number,
     }))
 }

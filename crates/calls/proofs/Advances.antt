@@ -29,14 +29,15 @@ use Rattle.memory.specs.Layout.{ROWS, ROW, ATOMS, OWNERS, SET, VALUES, TOLD, EA
 use Rattle.memory.specs.Memory.{begunWord, clockOf, widthWord, temporals, rowCount, kindAt, slotAt, ownerAt, setStart, slotWords, propertyRow, valueAt, toldAt, rowsOf, wayOf, setOf, stateOf, isOne, rangeAt}
 use Rattle.memory.specs.Tables.{valueOf, propertyCount, Valued, Told, Answered, Moving, Unused, Tables}
 use Rattle.memory.specs.Kept.{Sound, Kept}
-use Rattle.memory.specs.Alike.{Alike}
+use Rattle.memory.specs.Alike.{Alike, SameLedger}
 use Rattle.memory.proofs.Rows.{rows-length}
+use Rattle.memory.proofs.Ledger.{ledger-self}
 use Rattle.memory.proofs.Alike.{alike-on, alike-filled, alike-sound, alike-set, alike-rows, alike-state}
 use Rattle.memory.proofs.Stepped.{Stepped, kept-step, step-book, rows-of-same, kind-same, slot-same, width-same, way-same, temporals-same, assumes-same, guarantees-same, property-same}
 use Rattle.row_answers.specs.Told.{earlyTold}
 use Rattle.row_answers.proofs.Told.{told-early, told-settled, early-same, settled-same}
 use Rattle.tables.specs.Puts.{valuesPut, toldPut, countPut, toldAgain, earlyPut, settledNow, settledPut}
-use Rattle.tables.proofs.Puts.{few-properties, answer-same, told-told, told-still, told-and-asked, count-alike, count-counts, count-valued, count-told, count-moving, count-answered, count-unused}
+use Rattle.tables.proofs.Puts.{few-properties, answer-same, told-told, told-still, told-and-asked, count-alike, count-ledger, count-counts, count-valued, count-told, count-moving, count-answered, count-unused}
 use Rattle.set_change.specs.Change.{changed, countedFrom}
 use Rattle.set_change.proofs.Changes.{changed-under}
 use Rattle.calls.specs.Private.{Bytes, snapOf, stepOf, ownRenew, renewOver, countsFrom, timeStep, ahead, setAfter, valueAfter, clocked, Planned, Written, Atoms, Moved, Tried, TriedBoth, Fitting, Asked, Due, Advanced}
@@ -286,6 +287,11 @@ module _
         (step-now-by (ownRenew st) (rowsOf m) st (snapOf c atoms) ∙ sym (ap₂ (λ (t : ℕ) (bs : List Bool). record { clock = t; atoms = bs }) clock-now atoms-are))
         (sym sets-are)
 
+    beyond-now : (i : ℕ) → VALUES + rowCount m ≤ i → getD m₂ i 0 ≡ getD m i 0
+    beyond-now i h =
+        let n = kept .sound .book .narrow in
+        a .above i (omega arith) ∙ v .beyond i h
+
     pub played : {ns : List Snap} → Leads m ns st c atoms → Advanced m ns m₂ 0
     played leads =
         let e = leads ∙ one-played m st c atoms roomy in
@@ -294,6 +300,7 @@ module _
           state = state-after ∙ sym (ap (λ (o : Outcome). o .state) e);
           book = step-book m m₂ (kept .sound) stepped;
           refused = λ ne. absurd (ne refl);
+          ledger = record { words = λ i h. let rows = kept .sound .book .few in beyond-now i (omega arith) };
         }
 
     -- and what stands in its tables
@@ -302,11 +309,6 @@ module _
 
     rows-now : rowCount m₂ ≡ rowCount m
     rows-now = stepped .rows-same
-
-    beyond-now : (i : ℕ) → VALUES + rowCount m ≤ i → getD m₂ i 0 ≡ getD m i 0
-    beyond-now i h =
-        let n = kept .sound .book .narrow in
-        a .above i (omega arith) ∙ v .beyond i h
 
     valued-now : Valued m₂
     valued-now =
@@ -368,7 +370,7 @@ module _
 unmoved : {m : List ℕ} (st : State) (c : ℕ) (atoms : List ℕ) {ns : List Snap} → Leads m ns st c atoms → crowded (stepOf m (ownRenew st) st c atoms) ≡ true → Advanced m ns m 11
 unmoved {m} st c atoms leads e =
     let q = leads ∙ none-played m st c atoms e in
-    record { number = sym (ap (λ (o : Outcome). o .number) q); state = sym (ap (λ (o : Outcome). o .state) q); book = refl; refused = λ ne. refl }
+    record { number = sym (ap (λ (o : Outcome). o .number) q); state = sym (ap (λ (o : Outcome). o .state) q); book = refl; refused = λ ne. refl; ledger = ledger-self m }
 
 -- ---- a call that was tried
 module _ {m : List ℕ} {st : State} {c : ℕ} {atoms m₁ : List ℕ} {r : ℕ} (tried : Tried m (ownRenew st) st c atoms m₁ r) where
@@ -396,11 +398,11 @@ module _ {m : List ℕ} {st : State} {c : ℕ} {atoms m₁ : List ℕ} {r : ℕ}
 -- ---- what is due, once it was told and asked
 module _ {m : List ℕ} {first : Bool} (due : Due m first) where
   -- something new was told, or it is the first accepted call
-  pub renewed-asked : {m₁ m₂ : List ℕ} → m₁ ≡ countPut (toldPut m) → m₂ ≡ settledPut (earlyPut m₁) → Alike m m₂ × Tables m₂
+  pub renewed-asked : {m₁ m₂ : List ℕ} → m₁ ≡ countPut (toldPut m) → m₂ ≡ settledPut (earlyPut m₁) → Alike m m₂ × Tables m₂ × SameLedger m m₂
   renewed-asked e₁ e₂ = told-and-asked (due .sound) (due .valued) (due .moving) (due .unused) (e₂ ∙ ap (λ (x : List ℕ). settledPut (earlyPut x)) e₁)
 
   -- nothing new but the count: the digits are those that stand there
-  pub renewed-still : {m₁ : List ℕ} → m₁ ≡ countPut (toldPut m) → toldAgain m (temporals m) ≡ true → first ≡ false → Alike m m₁ × Tables m₁
+  pub renewed-still : {m₁ : List ℕ} → m₁ ≡ countPut (toldPut m) → toldAgain m (temporals m) ≡ true → first ≡ false → Alike m m₁ × Tables m₁ × SameLedger m m₁
   renewed-still e₁ again not-first =
       let still = told-still m (temporals m) again in
       let sound = due .sound in
@@ -419,6 +421,7 @@ module _ {m : List ℕ} {first : Bool} (due : Due m first) where
           counts = count-counts sound;
           unused = count-unused sound (due .unused);
         },
+        count-ledger sound,
       )
 
 -- a plan of the step from the state that the modes leave is one from any state that leads to the same

@@ -1,6 +1,6 @@
 -- The public calls, arm by arm: refused for themselves, or played. Assumes nothing.
 use Prim.Native.Nat.{ℕ, _≤_, _<_}
-use mathlib.Core.Path.{_≡_, refl, sym, ap, _∙_}
+use mathlib.Core.Path.{_≡_, refl, sym, ap, ap₂, _∙_}
 use mathlib.Core.Logic.{⊎-elim}
 use mathlib.Core.Bool.{Bool, true, false, true≢false}
 use mathlib.Core.List.{List, [], _∷_}
@@ -10,33 +10,37 @@ use lib.Dec.{ltb, eqb}
 use borrow.Author.Tests.{lt-ltb, le-ltb, ltb-false, ne-eqb, eq-eqb}
 use Rattle.numbers.specs.Limits.{LAST-TIME, MOST-ATOMS}
 use Rattle.lists.proofs.Tests.{either, fails-by}
-use Rattle.pmtl.specs.Book.{widthOf, some}
+use Rattle.ledger.specs.Ledger.{next}
+use Rattle.pmtl.specs.Book.{Book, properties, widthOf, some}
 use Rattle.pmtl.specs.Sets.{Renew}
 use Rattle.pmtl.specs.Monitor.{Snap, State}
-use Rattle.pmtl.specs.Calls.{Call, turns, timeRefusal, stateRefusal, firstOf, refusal, crowded, play, call}
+use Rattle.pmtl.specs.Calls.{Call, Outcome, turns, timeRefusal, stateRefusal, firstOf, refusal, crowded, play, call}
 use Rattle.pmtl.specs.Calls.Call.{time, state, stamped}
 use Rattle.pmtl.proofs.Answers.{step-way-by}
 use Rattle.pmtl.proofs.Calls.{timely, well-stated}
 use Rattle.memory.specs.Layout.{SIZE}
-use Rattle.memory.specs.Memory.{begunWord, clockOf, widthWord, rowsOf, bookOf, stateOf, atomsOf}
-use Rattle.memory.specs.Tables.{Tables}
+use Rattle.memory.specs.Memory.{begunWord, clockOf, widthWord, rowsOf, bookOf, stateOf, ledgerOf, atomsOf}
+use Rattle.memory.specs.Tables.{propertyCount, Tables}
 use Rattle.memory.specs.Kept.{BookKept, Sound, Kept}
-use Rattle.memory.specs.Alike.{Alike}
+use Rattle.memory.specs.Alike.{Alike, SameLedger}
 use Rattle.memory.proofs.Alike.{alike-sound, alike-book, alike-state}
-use Rattle.calls.specs.Private.{Bytes, snapOf, ownRenew, timeStep, Atoms, Moved, Tried, TriedBoth, Due, Advanced}
+use Rattle.memory.proofs.Ledger.{ledger-self, ledger-on, ledger-same, ledger-kept}
+use Rattle.memory.proofs.Properties.{properties-length}
+use Rattle.calls.specs.Private.{Bytes, snapOf, ownRenew, timeStep, Atoms, Moved, Tried, TriedBoth, Due, Done, Advanced}
+use Rattle.notes.specs.Noting.{numbered, CallNoted}
 use Rattle.calls.specs.Called.{Called}
 use Rattle.calls.proofs.Plans.{some-hit}
 use Rattle.calls.proofs.Heads.{old-same, old-bytes, old-atoms}
 use Rattle.calls.proofs.Advances.{Leads, played, due, has-room, tried-moved, tried-refused, tried-stands}
 
 -- ---- a call that is refused for itself, and one that is not
-called-refused : {m : List ℕ} {k : Call} {n : ℕ} → Kept m → refusal (rowsOf m) (stateOf m .now) k ≡ n → (n ≡ 0 → ⊥) → Called k m m n
+called-refused : {m : List ℕ} {k : Call} {n : ℕ} → Kept m → refusal (rowsOf m) (stateOf m .now) k ≡ n → (n ≡ 0 → ⊥) → Done k m m n
 unfolding call bookOf
 called-refused {m} {k} {n} kept e ne =
     let q = ne-eqb n 0 ne in
-    record { number = sym (rw (e, q) e); state = sym (rw (e, q)); book = refl; refused = λ z. refl; kept = kept }
+    record { number = sym (rw (e, q) e); state = sym (rw (e, q)); book = refl; refused = λ z. refl; ledger = ledger-self m; kept = kept }
 
-called-played : {m m′ : List ℕ} {k : Call} {r : ℕ} {ns : List Snap} → refusal (rowsOf m) (stateOf m .now) k ≡ 0 → ns ≡ turns (stateOf m .now) k → Advanced m ns m′ r → Kept m′ → Called k m m′ r
+called-played : {m m′ : List ℕ} {k : Call} {r : ℕ} {ns : List Snap} → refusal (rowsOf m) (stateOf m .now) k ≡ 0 → ns ≡ turns (stateOf m .now) k → Advanced m ns m′ r → Kept m′ → Done k m m′ r
 unfolding call bookOf
 called-played {m} {m′} {k} {r} e en a kept =
     record {
@@ -44,20 +48,29 @@ called-played {m} {m′} {k} {r} e en a kept =
       state = a .state ∙ ap (λ (ns : List Snap). play (rowsOf m) (stateOf m) (stateOf m) ns .state) en ∙ sym (rw e);
       book = a .book;
       refused = a .refused;
+      ledger = a .ledger;
       kept = kept;
     }
 
+-- memories with the same book have as many properties
+same-count : {m m′ : List ℕ} → BookKept m → BookKept m′ → bookOf m′ ≡ bookOf m → propertyCount m′ ≡ propertyCount m
+same-count {m} {m′} kept kept′ same = sym (properties-length m′ kept′) ∙ ap (λ (b : Book). length (properties b)) same ∙ properties-length m kept
+
 -- a call that was accepted, once what is due was told and asked
-pub advanced-renewed : {m m₁ m₂ : List ℕ} {ns : List Snap} → Advanced m ns m₁ 0 → Sound m₁ → Alike m₁ m₂ × Tables m₂ → Advanced m ns m₂ 0 × Kept m₂
-advanced-renewed a sound t = (
-  record {
-    number = a .number;
-    state = alike-state sound (t .0) ∙ a .state;
-    book = alike-book sound (t .0) ∙ a .book;
-    refused = λ ne. absurd (ne refl);
-  },
-  record { sound = alike-sound sound (t .0); tables = t .1 },
-)
+pub advanced-renewed : {m m₁ m₂ : List ℕ} {ns : List Snap} → Kept m → Advanced m ns m₁ 0 → Sound m₁ → Alike m₁ m₂ × Tables m₂ × SameLedger m₁ m₂ → Advanced m ns m₂ 0 × Kept m₂
+advanced-renewed {m} {m₁} {m₂} kept a sound t =
+    let book : bookOf m₂ ≡ bookOf m = alike-book sound (t .0) ∙ a .book in
+    let sound₂ = alike-sound sound (t .0) in
+    let same = ledger-on (a .ledger) (t .2) in (
+      record {
+        number = a .number;
+        state = alike-state sound (t .0) ∙ a .state;
+        book = book;
+        refused = λ ne. absurd (ne refl);
+        ledger = same;
+      },
+      record { sound = sound₂; tables = t .1; ledger = ledger-kept (same-count (kept .sound .book) (sound₂ .book) book) same (kept .ledger) },
+    )
 
 -- ---- what is wrong with a time, and with a state
 module _ (m : List ℕ) {t clock : ℕ} (ec : clock ≡ clockOf m) where
@@ -115,7 +128,7 @@ enough bytes = let e = bytes .long in omega arith
 
 -- ---- a time call
 module _ {m : List ℕ} (kept : Kept m) (t : ℕ) {late : ℕ} (el : late ≡ timeRefusal (stateOf m .now) t) where
-  pub time-wrong : (late ≡ 0 → ⊥) → Called (time t) m m late
+  pub time-wrong : (late ≡ 0 → ⊥) → Done (time t) m m late
   unfolding refusal
   time-wrong ne = called-refused kept (sym el) ne
 
@@ -123,12 +136,12 @@ module _ {m : List ℕ} (kept : Kept m) (t : ℕ) {late : ℕ} (el : late ≡ ti
     pub in-range : t ≤ LAST-TIME
     in-range = timely (stateOf m .now) t (sym el ∙ in-time) .1
 
-    time-played : {m′ : List ℕ} {r : ℕ} → Advanced m (snapOf t (atomsOf m) ∷ []) m′ r → Kept m′ → Called (time t) m m′ r
+    time-played : {m′ : List ℕ} {r : ℕ} → Advanced m (snapOf t (atomsOf m) ∷ []) m′ r → Kept m′ → Done (time t) m m′ r
     unfolding refusal stateOf
     time-played a kept′ = called-played (sym el ∙ in-time) (ap (λ (bs : List Bool). record { clock = t; atoms = bs } ∷ []) (old-atoms (kept .sound))) a kept′
 
     module _ {m₁ : List ℕ} {r : ℕ} (tried : Tried m (ownRenew (stateOf m)) (stateOf m) t (atomsOf m) m₁ r) where
-      pub time-full : (r ≡ 0 → ⊥) → Called (time t) m m₁ r
+      pub time-full : (r ≡ 0 → ⊥) → Done (time t) m m₁ r
       time-full ne = let q = tried-refused tried refl ne in time-played (q .0) (rw (q .1) kept)
 
       -- its atoms stand there already
@@ -138,15 +151,15 @@ module _ {m : List ℕ} (kept : Kept m) (t : ℕ) {late : ℕ} (el : late ≡ ti
       pub time-due : r ≡ 0 → {first : Bool} → first ≡ eqb (begunWord m) 0 → Due m₁ first
       time-due z ef = due kept in-range (old-bytes (kept .sound)) (has-room tried z) (tried-moved tried z) (stands z) refl ef
 
-      pub time-done : {m₂ : List ℕ} → r ≡ 0 → Alike m₁ m₂ × Tables m₂ → Called (time t) m m₂ 0
+      pub time-done : {m₂ : List ℕ} → r ≡ 0 → Alike m₁ m₂ × Tables m₂ × SameLedger m₁ m₂ → Done (time t) m m₂ 0
       time-done z renewed =
           let a = played kept in-range (old-bytes (kept .sound)) (has-room tried z) (tried-moved tried z) (stands z) refl refl in
-          let q = advanced-renewed a (time-due z refl .sound) renewed in
+          let q = advanced-renewed kept a (time-due z refl .sound) renewed in
           time-played (q .0) (q .1)
 
 -- ---- a state call
 module _ {m : List ℕ} (kept : Kept m) (s : List ℕ) {wrong : ℕ} (ew : wrong ≡ stateRefusal (rowsOf m) s) where
-  pub state-wrong : (wrong ≡ 0 → ⊥) → Called (state s) m m wrong
+  pub state-wrong : (wrong ≡ 0 → ⊥) → Done (state s) m m wrong
   unfolding refusal
   state-wrong ne = called-refused kept (sym ew) ne
 
@@ -158,13 +171,13 @@ module _ {m : List ℕ} (kept : Kept m) (s : List ℕ) {wrong : ℕ} (ew : wrong
       pub state-timely : (Kept m × (clock ≤ LAST-TIME)) × (true ≡ true → (widthWord m ≤ length s) × (clock ≡ clockOf m))
       state-timely = ((kept, rw ec (kept .sound .clock)), λ e. (enough new-bytes, ec))
 
-      state-played : {m′ : List ℕ} {r : ℕ} → Advanced m (snapOf clock s ∷ []) m′ r → Kept m′ → Called (state s) m m′ r
+      state-played : {m′ : List ℕ} {r : ℕ} → Advanced m (snapOf clock s ∷ []) m′ r → Kept m′ → Done (state s) m m′ r
       unfolding refusal stateOf
       state-played a kept′ =
           called-played (sym ew ∙ right) (ap (λ (c : ℕ). snapOf c s ∷ []) ec) a kept′
 
       module _ {m₁ : List ℕ} {r : ℕ} (tried : Tried m (ownRenew (stateOf m)) (stateOf m) clock s m₁ r) where
-        pub state-full : (r ≡ 0 → ⊥) → Called (state s) m m₁ r
+        pub state-full : (r ≡ 0 → ⊥) → Done (state s) m m₁ r
         state-full ne = let q = tried-refused tried refl ne in state-played (q .0) (rw (q .1) kept)
 
         pub state-roomy : r ≡ 0 → (length m₁ ≡ SIZE) × (length s ≤ MOST-ATOMS)
@@ -174,15 +187,15 @@ module _ {m : List ℕ} (kept : Kept m) (s : List ℕ) {wrong : ℕ} (ew : wrong
           pub state-due : {first : Bool} → first ≡ eqb (begunWord m) 0 → Due m₂ first
           state-due ef = due kept (state-timely .0 .1) new-bytes (has-room tried z) (tried-moved tried z) a refl ef
 
-          pub state-done : {m₃ : List ℕ} → Alike m₂ m₃ × Tables m₃ → Called (state s) m m₃ 0
+          pub state-done : {m₃ : List ℕ} → Alike m₂ m₃ × Tables m₃ × SameLedger m₂ m₃ → Done (state s) m m₃ 0
           state-done renewed =
               let p = played kept (state-timely .0 .1) new-bytes (has-room tried z) (tried-moved tried z) a refl refl in
-              let q = advanced-renewed p (state-due refl .sound) renewed in
+              let q = advanced-renewed kept p (state-due refl .sound) renewed in
               state-played (q .0) (q .1)
 
 -- ---- a stamped call
 module _ {m : List ℕ} (kept : Kept m) (t : ℕ) (s : List ℕ) {late : ℕ} (el : late ≡ timeRefusal (stateOf m .now) t) where
-  pub stamped-late : (late ≡ 0 → ⊥) → Called (stamped t s) m m late
+  pub stamped-late : (late ≡ 0 → ⊥) → Done (stamped t s) m m late
   unfolding refusal firstOf
   stamped-late ne = called-refused kept (rw (← el) (rw (ne-eqb late 0 ne))) ne
 
@@ -190,7 +203,7 @@ module _ {m : List ℕ} (kept : Kept m) (t : ℕ) (s : List ℕ) {late : ℕ} (e
     time-fine : timeRefusal (stateOf m .now) t ≡ 0
     time-fine = sym el ∙ in-time
 
-    pub stamped-wrong : (wrong ≡ 0 → ⊥) → Called (stamped t s) m m wrong
+    pub stamped-wrong : (wrong ≡ 0 → ⊥) → Done (stamped t s) m m wrong
     unfolding refusal firstOf
     stamped-wrong ne = called-refused kept (rw (eq-eqb (timeRefusal (stateOf m .now) t) 0 time-fine) (sym ew)) ne
 
@@ -210,7 +223,7 @@ module _ {m : List ℕ} (kept : Kept m) (t : ℕ) (s : List ℕ) {late : ℕ} (e
       abbrev snaps : List Snap
       snaps = snapOf t (atomsOf m) ∷ snapOf t s ∷ []
 
-      stamped-played : {m′ : List ℕ} {r : ℕ} → Advanced m snaps m′ r → Kept m′ → Called (stamped t s) m m′ r
+      stamped-played : {m′ : List ℕ} {r : ℕ} → Advanced m snaps m′ r → Kept m′ → Done (stamped t s) m m′ r
       unfolding refusal firstOf stateOf
       stamped-played a kept′ =
           called-played (rw (eq-eqb (timeRefusal (stateOf m .now) t) 0 time-fine) state-fine)
@@ -228,10 +241,10 @@ module _ {m : List ℕ} (kept : Kept m) (t : ℕ) (s : List ℕ) {late : ℕ} (e
 
       none-between : crowded between ≡ true → Advanced m snaps m 11
       unfolding play
-      none-between e = record { number = sym (rw (e, play)); state = sym (rw (e, play)); book = refl; refused = λ ne. refl }
+      none-between e = record { number = sym (rw (e, play)); state = sym (rw (e, play)); book = refl; refused = λ ne. refl; ledger = ledger-self m }
 
       module _ {m₁ : List ℕ} {r : ℕ} (tried : TriedBoth m t (atomsOf m) s m₁ r) where
-        pub stamped-full : (r ≡ 0 → ⊥) → Called (stamped t s) m m₁ r
+        pub stamped-full : (r ≡ 0 → ⊥) → Done (stamped t s) m m₁ r
         stamped-full ne =
             ⊎-elim
             (λ (f : crowded between ≡ true). let q = tried .between f in stamped-played (rw (q .0, q .1) (none-between f)) (rw (q .1) kept))
@@ -252,8 +265,22 @@ module _ {m : List ℕ} (kept : Kept m) (t : ℕ) (s : List ℕ) {late : ℕ} (e
             pub stamped-due : {first : Bool} → first ≡ eqb (begunWord m) 0 → Due m₂ first
             stamped-due ef = due kept small bytes (has-room last z) (tried-moved last z) a own ef
 
-            pub stamped-done : {m₃ : List ℕ} → Alike m₂ m₃ × Tables m₃ → Called (stamped t s) m m₃ 0
+            pub stamped-done : {m₃ : List ℕ} → Alike m₂ m₃ × Tables m₃ × SameLedger m₂ m₃ → Done (stamped t s) m m₃ 0
             stamped-done renewed =
                 let p = played kept small bytes (has-room last z) (tried-moved last z) a own (leads roomy) in
-                let q = advanced-renewed p (stamped-due refl .sound) renewed in
+                let q = advanced-renewed kept p (stamped-due refl .sound) renewed in
                 stamped-played (q .0) (q .1)
+
+-- ---- and then noted
+pub done-noted : {k : Call} {m m₁ m₂ : List ℕ} {r : ℕ} → Kept m → Done k m m₁ r → CallNoted m₁ r m₂ → Called k m m₂ r
+done-noted {k} {m} {m₁} {m₂} {r} kept d n =
+    let o : Outcome = call (bookOf m .rows) (stateOf m) k in
+    let left : record { number = r; state = stateOf m₁ } ≡ o = ap₂ (λ (x : ℕ) (st : State). record { number = x; state = st }) (d .number) (d .state) in
+    record {
+      number = d .number;
+      state = n .state ∙ d .state;
+      book = n .book ∙ d .book;
+      ledger = n .ledger ∙ ap₂ (λ (b : Book) (x : Outcome). next b x (ledgerOf m₁)) (d .book) left ∙ ap (next (bookOf m) o) (ledger-same (same-count (kept .sound .book) (d .kept .sound .book) (d .book)) (d .ledger));
+      refused = λ ne. n .refused ne ∙ ap numbered (d .refused ne);
+      kept = n .kept;
+    }

@@ -12,12 +12,13 @@ use Rattle.pmtl.specs.Answer.{bitOf}
 use Rattle.pmtl.specs.Book.{start, stop, mapRow}
 use Rattle.pmtl.specs.Sets.{Renew, ordinary, lasting, renewedIn, setRuleBy}
 use Rattle.pmtl.specs.Monitor.{Snap, State, setAt, valueRule, value, stepBy}
-use Rattle.pmtl.specs.Calls.{crowded, play}
+use Rattle.pmtl.specs.Calls.{Call, crowded, play, call}
 use Rattle.book.specs.Rows.{temporal, ATOM, HISTORICALLY}
 use Rattle.memory.specs.Layout.{ATOMS, SETS, SET, VALUES, SIZE, BEGUN, CLOCK}
 use Rattle.memory.specs.Memory.{rowCount, rangeAt, begunWord, clockOf, temporals, kindAt, argAt, lowerAt, upperAt, slotAt, ownerAt, slotWords, wayWord, atomsOf, valueAt, earlyAt, settledAt, rowOf, rowsOf, bookOf, stateOf, isOne}
 use Rattle.memory.specs.Tables.{propertyCount, Valued, Moving, Unused}
-use Rattle.memory.specs.Kept.{Sound}
+use Rattle.memory.specs.Kept.{Sound, Kept}
+use Rattle.memory.specs.Alike.{SameLedger}
 use Rattle.tables.specs.Puts.{earlyDigit, settledDigit}
 use Rattle.set_change.specs.Change.{changed, spannedIf, countedFrom, bothOf, modeIn}
 use Rattle.calls.specs.declared.RowPlan.{RowPlan}
@@ -231,9 +232,19 @@ pub record Due (m : List ℕ) (first : Bool) : Type 0 where
   pub unused : Unused m
   pub asked : Asked m first
 
--- what a call leaves that is not refused for itself: the snapshots played, the newest state or the old one
+-- what a call leaves before it is noted: k made on m handed back r and left m′, with the ledger of m
+pub record Done (k : Call) (m m′ : List ℕ) (r : ℕ) : Type 0 where
+  pub number : r ≡ call (bookOf m .rows) (stateOf m) k .number
+  pub state : stateOf m′ ≡ call (bookOf m .rows) (stateOf m) k .state
+  pub book : bookOf m′ ≡ bookOf m
+  pub refused : (r ≡ 0 → ⊥) → m′ ≡ m
+  pub ledger : SameLedger m m′
+  pub kept : Kept m′
+
+-- what one leaves that is not refused for itself: the snapshots played, the newest state or the old one
 pub record Advanced (m : List ℕ) (ns : List Snap) (m′ : List ℕ) (r : ℕ) : Type 0 where
   pub number : r ≡ play (rowsOf m) (stateOf m) (stateOf m) ns .number
   pub state : stateOf m′ ≡ play (rowsOf m) (stateOf m) (stateOf m) ns .state
   pub book : bookOf m′ ≡ bookOf m
   pub refused : (r ≡ 0 → ⊥) → m′ ≡ m
+  pub ledger : SameLedger m m′

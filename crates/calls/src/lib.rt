@@ -1,4 +1,5 @@
-// The calls of a monitor: planned, and then carried out in place. A call that is refused changes nothing.
+// The calls of a monitor: planned, then carried out in place, and noted. A call that is refused changes nothing but the number of the
+// call.
 ghost use mathlib.Core.Path.{_≡_};
 ghost use mathlib.Core.Bool.{true, false, cond, not, _||_};
 ghost use mathlib.Core.List.{map};
@@ -15,9 +16,9 @@ ghost use Rattle.memory.specs.Layout.{SET, VALUES, SIZE};
 ghost use Rattle.memory.specs.Memory.{rowCount, clockOf, widthWord, temporals, kindAt, setStart, slotWords, movesAt, rangeAt, rowOf, rowsOf, stateOf, atomsOf, isOne};
 ghost use Rattle.memory.specs.Tables.{Tables};
 ghost use Rattle.memory.specs.Kept.{BookKept, Sound, Kept};
-ghost use Rattle.memory.specs.Alike.{Alike};
+ghost use Rattle.memory.specs.Alike.{Alike, SameLedger};
 ghost use Rattle.set_change.specs.Change.{changed, spannedIf, bothOf};
-ghost use Rattle.calls.specs.Private.{ahead, atomsFor, ownRenew, spansIn, renewOver, countsFrom, heldIn, Named, modeAt, setAfter, rowPlan, Unplanned, Leading, RowTried, clocked, Bounded, Slot, Planned, Timely, Held, Roomy, Fit, Fitting, Written, Atoms, Tried, TriedBoth, Due};
+ghost use Rattle.calls.specs.Private.{ahead, atomsFor, ownRenew, spansIn, renewOver, countsFrom, heldIn, Named, modeAt, setAfter, rowPlan, Unplanned, Leading, RowTried, clocked, Bounded, Slot, Planned, Timely, Held, Roomy, Fit, Fitting, Written, Atoms, Tried, TriedBoth, Due, Done};
 ghost use Rattle.calls.specs.Called.{Called};
 ghost use Rattle.book.specs.Rows.{HISTORICALLY};
 ghost use Rattle.numbers.specs.Limits.{LAST-TIME, MOST-ATOMS, MOST-ROWS, MOST-TEMPORALS};
@@ -383,7 +384,7 @@ fn advance_both(monitor: &mut [u64; SIZE], clock: u64, state: &[u8]) -> u64
 // the properties asked again.
 fn renew(monitor: &mut [u64; SIZE], first: bool)
     requires { ⌜ Due (now monitor) first ⌝ }
-    ensures { λ _. ⌜ Alike (now (monitor .entry)) (now (monitor .exit)) × Tables (now (monitor .exit)) ⌝ }
+    ensures { λ _. ⌜ Alike (now (monitor .entry)) (now (monitor .exit)) × Tables (now (monitor .exit)) × SameLedger (now (monitor .entry)) (now (monitor .exit)) ⌝ }
 {
     if first {
         tables::retell(monitor);
@@ -447,7 +448,7 @@ fn state_number(monitor: &[u64; SIZE], state: &[u8]) -> u64
 // The clock becomes `time`, and every row is evaluated anew. The answer is 0, or the number of the refusal: then nothing changed.
 fn time_call(monitor: &mut [u64; SIZE], time: u64) -> u64
     requires { ⌜ Kept (now monitor) ⌝ }
-    ensures { λ r. ⌜ Called (Call.time time) (now (monitor .entry)) (now (monitor .exit)) r ⌝ }
+    ensures { λ r. ⌜ Done (Call.time time) (now (monitor .entry)) (now (monitor .exit)) r ⌝ }
 {
     let late = time_number(monitor, time);
     if late != ACCEPTED {
@@ -465,7 +466,7 @@ fn time_call(monitor: &mut [u64; SIZE], time: u64) -> u64
 // The atoms become the bytes of `state`, and every row is evaluated anew. The answer is as that of `time_call`.
 fn state_call(monitor: &mut [u64; SIZE], state: &[u8]) -> u64
     requires { ⌜ Kept (now monitor) ⌝ }
-    ensures { λ r. ⌜ Called (Call.state (now (state .entry))) (now (monitor .entry)) (now (monitor .exit)) r ⌝ }
+    ensures { λ r. ⌜ Done (Call.state (now (state .entry))) (now (monitor .entry)) (now (monitor .exit)) r ⌝ }
 {
     let wrong = state_number(monitor, state);
     if wrong != ACCEPTED {
@@ -486,7 +487,7 @@ fn state_call(monitor: &mut [u64; SIZE], state: &[u8]) -> u64
 // answer is as that of `time_call`.
 fn stamped_call(monitor: &mut [u64; SIZE], time: u64, state: &[u8]) -> u64
     requires { ⌜ Kept (now monitor) ⌝ }
-    ensures { λ r. ⌜ Called (Call.stamped time (now (state .entry))) (now (monitor .entry)) (now (monitor .exit)) r ⌝ }
+    ensures { λ r. ⌜ Done (Call.stamped time (now (state .entry))) (now (monitor .entry)) (now (monitor .exit)) r ⌝ }
 {
     let late = time_number(monitor, time);
     if late != ACCEPTED {
@@ -507,12 +508,13 @@ fn stamped_call(monitor: &mut [u64; SIZE], time: u64, state: &[u8]) -> u64
 }
 
 // A time call. Its number, 0 or that of the refusal, comes with a count: how many runs the fullest set has, as the monitor is now, which
-// is one look. Where the call was refused nothing changed.
+// is one look. Where the call was refused nothing changed but the number of the call.
 pub fn update_time(monitor: &mut [u64; SIZE], time: u64) -> Tally
     requires { ⌜ Kept (now monitor) ⌝ }
     ensures { λ r. ⌜ Called (Call.time time) (now (monitor .entry)) (now (monitor .exit)) (r .number) × (r .count ≡ fullest (stateOf (now (monitor .exit)))) ⌝ }
 {
     let number = time_call(monitor, time);
+    notes::note(monitor, number);
     let count = memory::fullest(monitor);
     Tally { number, count }
 }
@@ -523,6 +525,7 @@ pub fn update_state(monitor: &mut [u64; SIZE], state: &[u8]) -> Tally
     ensures { λ r. ⌜ Called (Call.state (now (state .entry))) (now (monitor .entry)) (now (monitor .exit)) (r .number) × (r .count ≡ fullest (stateOf (now (monitor .exit)))) ⌝ }
 {
     let number = state_call(monitor, state);
+    notes::note(monitor, number);
     let count = memory::fullest(monitor);
     Tally { number, count }
 }
@@ -533,6 +536,7 @@ pub fn update_stamped(monitor: &mut [u64; SIZE], time: u64, state: &[u8]) -> Tal
     ensures { λ r. ⌜ Called (Call.stamped time (now (state .entry))) (now (monitor .entry)) (now (monitor .exit)) (r .number) × (r .count ≡ fullest (stateOf (now (monitor .exit)))) ⌝ }
 {
     let number = stamped_call(monitor, time, state);
+    notes::note(monitor, number);
     let count = memory::fullest(monitor);
     Tally { number, count }
 }

@@ -6,11 +6,12 @@ use mathlib.Core.Bool.{cond, not}
 use mathlib.Core.List.{List}
 use lib.ListN.{length, getD}
 use Rattle.pmtl.specs.declared.Answer.the-variants.{False, Open}
+use Rattle.pmtl.specs.Book.{propertyAt}
 use Rattle.pmtl.specs.Monitor.{value}
 use Rattle.pmtl.specs.Settled.{settled}
 use Rattle.pmtl.proofs.Answers.{settled-out}
 use Rattle.property_answers.specs.declared.Verdict.{Verdict}
-use Rattle.property_answers.specs.Verdict.{propertyAt, verdictIn, verdictOf}
+use Rattle.property_answers.specs.Verdict.{verdictIn, verdictOf}
 use Rattle.desk_rules.specs.Scans.{Kit, kitAt, Scan, windows, deskOf, stopped, taken}
 use Rattle.desk_rules.specs.Rows.{deskRows, guarantee, guaranteesFrom, deskBook}
 use Rattle.desk_rules.specs.Desk.{deskAfter}

@@ -1,5 +1,6 @@
 pub mod Kits
 pub mod Writing
+pub mod Counted
 pub mod Standing
 pub mod Holding
 pub mod Theorems

@@ -15,8 +15,10 @@ use Rattle.pmtl.specs.declared.Answer.{Answer}
 use Rattle.pmtl.specs.Answer.{isFalse}
 use Rattle.pmtl.specs.Book.{Rows, Book}
 use Rattle.pmtl.specs.Monitor.{State, initial}
-use Rattle.pmtl.specs.Calls.{stamped, state, Outcome, call}
-use Rattle.memory.specs.Memory.{bookOf, stateOf}
+use Rattle.pmtl.specs.Calls.{Call, stamped, state, Outcome, call}
+use Rattle.pmtl.proofs.Calls.{refused-stays}
+use Rattle.ledger.specs.Ledger.{blankLedger, next, ledgerFrom}
+use Rattle.memory.specs.Memory.{bookOf, stateOf, ledgerOf}
 use Rattle.memory.specs.Kept.{Kept}
 use Rattle.book.specs.declared.loading.Loading.the-variants.{Strict}
 use Rattle.book.specs.Judging.{Loaded}
@@ -37,9 +39,11 @@ use Rattle.property_answers.specs.Verdict.{verdictOf}
 use Rattle.desk.specs.declared.Scanned.{Scanned}
 use Rattle.desk.specs.declared.Slip.the-variants.{Quiet, Stop}
 use Rattle.desk.specs.Kits.{MOST-BARCODES, kitsIn}
+use Rattle.desk.specs.Counted.{pulseCalls, callsAt, callsIn, deskLedger}
 use Rattle.desk.specs.Standing.{TABLE-SIZE, tableOf, codesIn, After, Stands, Opens, Leaves, slipFor, Scans}
 use Rattle.desk.specs.Private.{BookPut, SetUp, Ready}
 use Rattle.desk.proofs.Kits.{kits-length, codes-many}
+use Rattle.desk.proofs.Counted.{call-small, one-counted, both-counted, known-calls, unknown-calls}
 
 -- ---- the table
 pub table-put : (m w w₁ w₂ : List ℕ) (n : ℕ) → length w ≡ TABLE-SIZE → w₁ ≡ replicate (length w) 0 → w₂ ≡ sets (set w₁ 0 (3 * n)) 1 (codes (kitsIn m n))
@@ -81,6 +85,7 @@ set-up kits fine words w end m r e p l =
     record {
       book = l .book ∙ ap (λ (x : Loaded). x .book) said;
       state = l .state ∙ ap (λ (x : Loaded). initial (x .book .rows)) said;
+      ledger = l .ledger ∙ ap (λ (x : Loaded). blankLedger (x .book)) said;
       kept = l .kept;
     }
 
@@ -92,12 +97,13 @@ pub none-given-fine : (words : List ℕ) → Fine (kitsIn words 0)
 none-given-fine words = rw (none-given words) none-fine
 
 opened : (kits : List Kit) (table m : List ℕ) (r : ℕ) (desk : List Kit) → desk ≡ deskOf kits → r ≡ openNumber kits → table ≡ tableOf desk → SetUp desk m → Opens kits table m r
-unfolding deskAfter
+unfolding deskAfter deskLedger
 opened kits table m r desk e n t s =
     let after : After kits [] table m = record {
       barcodes = t ∙ ap tableOf e;
       book = s .book ∙ ap (λ ks. deskBook (windows ks)) e;
       state = s .state ∙ ap (λ ks. initial (deskRows (windows ks))) e;
+      ledger = s .ledger ∙ ap (λ ks. blankLedger (deskBook (windows ks))) e;
       kept = s .kept;
     } in
     record { number = n; after = after; stands = record { kits = kits; scans = []; after = after } }
@@ -137,28 +143,35 @@ module _ (m : List ℕ) (t width place : ℕ) (ready : Ready m t width place) (h
   first = call b (stateOf m) (stamped t (oneOn width place))
 
   pub pulse-refused : (m′ bytes : List ℕ) (r : ℕ) → bytes ≡ take width (set (replicate MOST-BARCODES 0) place 1) → Called (stamped t bytes) m m′ r → ¬ (r ≡ 0)
-      → Leaves (pulse b width (stateOf m) t place) m m′ r
+      → Leaves (pulse b width (stateOf m) t place) (pulseCalls b width (stateOf m) t place) m m′ r
   unfolding pulse
   pulse-refused m′ bytes r e c n =
       let q = on-is width place bytes (ready .few) here e in
-      let k : r ≡ first .number = c .number ∙ ap (λ bs. call b (stateOf m) (stamped t bs) .number) q in
-      let o = neither-cleared b width (stateOf m) first (λ z. n (k ∙ z)) in
+      let made : call b (stateOf m) (stamped t bytes) ≡ first = ap (λ bs. call b (stateOf m) (stamped t bs)) q in
+      let k : r ≡ first .number = c .number ∙ ap (λ (x : Outcome). x .number) made in
+      let out : ¬ (first .number ≡ 0) = λ z. n (k ∙ z) in
+      let o = neither-cleared b width (stateOf m) first out in
       record {
         number = k ∙ sym (ap (λ (x : Outcome). x .number) o);
-        state = ap stateOf (c .refused n) ∙ sym (ap (λ (x : Outcome). x .state) o);
+        state = c .state ∙ ap (λ (x : Outcome). x .state) made ∙ refused-stays b (stateOf m) (stamped t (oneOn width place)) out ∙ sym (ap (λ (x : Outcome). x .state) o);
         book = c .book;
-        refused = c .refused;
+        ledger = c .ledger ∙ ap (λ (x : Outcome). next (bookOf m) x (ledgerOf m)) made ∙ sym (one-counted (bookOf m) width (stateOf m) (ledgerOf m) t place out);
+        unknown = λ z. absurd (omega (arith, call-small b (stateOf m) (stamped t (oneOn width place))));
+        refused = λ h known. c .refused h;
         kept = c .kept;
       }
 
   pub pulse-taken : (m₁ m₂ on off : List ℕ) (r q : ℕ) → on ≡ take width (set (replicate MOST-BARCODES 0) place 1) → Called (stamped t on) m m₁ r → r ≡ 0
-      → off ≡ take width (replicate MOST-BARCODES 0) → Called (state off) m₁ m₂ q → Leaves (pulse b width (stateOf m) t place) m m₂ q
+      → off ≡ take width (replicate MOST-BARCODES 0) → Called (state off) m₁ m₂ q
+      → Leaves (pulse b width (stateOf m) t place) (pulseCalls b width (stateOf m) t place) m m₂ q
   unfolding pulse
   pulse-taken m₁ m₂ on off r q e c z f d =
       let s = on-is width place on (ready .few) here e in
       let w = off-is width off (ready .few) f in
-      let k : r ≡ first .number = c .number ∙ ap (λ bs. call b (stateOf m) (stamped t bs) .number) s in
-      let u : stateOf m₁ ≡ first .state = c .state ∙ ap (λ bs. call b (stateOf m) (stamped t bs) .state) s in
+      let made : call b (stateOf m) (stamped t on) ≡ first = ap (λ bs. call b (stateOf m) (stamped t bs)) s in
+      let k : r ≡ first .number = c .number ∙ ap (λ (x : Outcome). x .number) made in
+      let u : stateOf m₁ ≡ first .state = c .state ∙ ap (λ (x : Outcome). x .state) made in
+      let j : ledgerOf m₁ ≡ next (bookOf m) first (ledgerOf m) = c .ledger ∙ ap (λ (x : Outcome). next (bookOf m) x (ledgerOf m)) made in
       let v : bookOf m₁ .rows ≡ b = ap (λ (x : Book). x .rows) (c .book) in
       let o = both-cleared b width (stateOf m) first (sym k ∙ z) (ready .clears) in
       let second : call (bookOf m₁ .rows) (stateOf m₁) (state off) ≡ call b (first .state) (state (clear width)) = rw (v, u, w) in
@@ -167,24 +180,38 @@ module _ (m : List ℕ) (t width place : ℕ) (ready : Ready m t width place) (h
         number = zero ∙ sym (ap (λ (x : Outcome). x .number) o);
         state = d .state ∙ ap (λ (x : Outcome). x .state) second ∙ sym (ap (λ (x : Outcome). x .state) o);
         book = d .book ∙ c .book;
-        refused = λ n. absurd (n zero);
+        ledger = d .ledger ∙ rw (second, c .book, j) (sym (both-counted (bookOf m) width (stateOf m) (ledgerOf m) t place (sym k ∙ z)));
+        unknown = λ h. absurd (omega (arith, zero));
+        refused = λ n known. absurd (n zero);
         kept = d .kept;
       }
 
 -- ---- a scan by its barcode's place
-leaves-as : (o o′ : Outcome) (m m′ : List ℕ) (r : ℕ) → o ≡ o′ → Leaves o m m′ r → Leaves o′ m m′ r
-leaves-as o o′ m m′ r e l = rw (← e) l
+leaves-as : (o o′ : Outcome) (ks ks′ : List Call) (m m′ : List ℕ) (r : ℕ) → o ≡ o′ → ks ≡ ks′ → Leaves o ks m m′ r → Leaves o′ ks′ m m′ r
+leaves-as o o′ ks ks′ m m′ r e f l = rw (← e, ← f) l
 
-pub scanned-known : (b : Rows) (st : State) (m m′ : List ℕ) (t width place r : ℕ) → place < width → Leaves (pulse b width st t place) m m′ r
-    → Leaves (scannedAt b width st t place) m m′ r
+pub scanned-known : (b : Rows) (st : State) (m m′ : List ℕ) (t width place r : ℕ) → place < width → Leaves (pulse b width st t place) (pulseCalls b width st t place) m m′ r
+    → Leaves (scannedAt b width st t place) (callsAt b width st t place) m m′ r
 unfolding scannedAt
-scanned-known b st m m′ t width place r h l = leaves-as (pulse b width st t place) (scannedAt b width st t place) m m′ r (rw (lt-ltb place width h, scannedAt)) l
+scanned-known b st m m′ t width place r h l =
+    leaves-as (pulse b width st t place) (scannedAt b width st t place) (pulseCalls b width st t place) (callsAt b width st t place) m m′ r
+    (rw (lt-ltb place width h, scannedAt))
+    (sym (known-calls b width st t place h))
+    l
 
-pub scanned-unknown : (m : List ℕ) (t width place : ℕ) → width ≤ place → Kept m → Leaves (scannedAt (bookOf m .rows) width (stateOf m) t place) m m UNKNOWN-BARCODE
-unfolding scannedAt
-scanned-unknown m t width place h k = leaves-as (record { number = UNKNOWN-BARCODE; state = stateOf m }) (scannedAt (bookOf m .rows) width (stateOf m) t place) m m UNKNOWN-BARCODE
+pub scanned-unknown : (m : List ℕ) (t width place : ℕ) → width ≤ place → Kept m
+    → Leaves (scannedAt (bookOf m .rows) width (stateOf m) t place) (callsAt (bookOf m .rows) width (stateOf m) t place) m m UNKNOWN-BARCODE
+unfolding scannedAt ledgerFrom
+scanned-unknown m t width place h k =
+    leaves-as (record { number = UNKNOWN-BARCODE; state = stateOf m }) (scannedAt (bookOf m .rows) width (stateOf m) t place)
+    []
+    (callsAt (bookOf m .rows) width (stateOf m) t place)
+    m
+    m
+    UNKNOWN-BARCODE
     (rw (le-ltb place width h, scannedAt))
-    (record { number = refl; state = refl; book = refl; refused = λ n. refl; kept = k })
+    (sym (unknown-calls (bookOf m .rows) width (stateOf m) t place h))
+    (record { number = refl; state = refl; book = refl; ledger = refl; unknown = λ e. refl; refused = λ n known. absurd (known refl); kept = k })
 
 -- ---- a scan at a desk
 place-inside : (c : ℕ) (xs : List ℕ) → placeOf c xs ≤ length xs
@@ -222,12 +249,14 @@ module _ {kits : List Kit} {scans : List Scan} {table m : List ℕ} (a : After k
       }
 
   -- what it leaves is a desk after one scan more
-  pub after-scan : (e : Scan) (m′ : List ℕ) (n : ℕ) → Leaves (scannedIn (bookOf m .rows) (codesIn table) (stateOf m) e) m m′ n → After kits (e ∷ scans) table m′
-  unfolding deskAfter
+  pub after-scan : (e : Scan) (m′ : List ℕ) (n : ℕ)
+      → Leaves (scannedIn (bookOf m .rows) (codesIn table) (stateOf m) e) (callsIn (bookOf m .rows) (codesIn table) (stateOf m) e) m m′ n → After kits (e ∷ scans) table m′
+  unfolding deskAfter deskLedger
   after-scan e m′ n l = record {
     barcodes = a .barcodes;
     book = l .book ∙ a .book;
     state = l .state ∙ rw (a .book, after-codes, a .state);
+    ledger = l .ledger ∙ rw (a .book, after-codes, a .state, a .ledger);
     kept = l .kept;
   }
 
@@ -251,15 +280,16 @@ unfolding slipFor
 quiet-after kit before after r q e f g h = rw (← e, f, ← g, h)
 
 pub scan-made : (table m m′ xs : List ℕ) (t c width place : ℕ) (r : Scanned) (before after : Verdict) → Stands table m → width ≡ getD table 0 0 → xs ≡ part 1 width table
-    → place ≡ placeOf c xs → Leaves (scannedAt (bookOf m .rows) width (stateOf m) t place) m m′ (r .number) → before ≡ verdictOf m (place / 3) → after ≡ verdictOf m′ (place / 3)
+    → place ≡ placeOf c xs → Leaves (scannedAt (bookOf m .rows) width (stateOf m) t place) (callsAt (bookOf m .rows) width (stateOf m) t place) m m′ (r .number) → before ≡ verdictOf m (place / 3) → after ≡ verdictOf m′ (place / 3)
     → r .slip ≡ slipFor (place / 3) (before .settled) (after .settled) → Scans (record { hour = t; barcode = c }) table m m′ r
 scan-made table m m′ xs t c width place r before after s w x p l v v′ q =
     let y : xs ≡ codesIn table = x ∙ ap (λ n. part 1 n table) w in
     let z : place ≡ placeOf c (codesIn table) = p ∙ ap (placeOf c) y in
     let k : width ≡ length (codesIn table) = w ∙ after-count (s .after) ∙ sym (ap length (after-codes (s .after))) in
-    let o : Leaves (scannedAt (bookOf m .rows) (length (codesIn table)) (stateOf m) t (placeOf c (codesIn table))) m m′ (r .number) = rw (← k, ← z) l in
+    let e : Scan = record { hour = t; barcode = c } in
+    let o : Leaves (scannedIn (bookOf m .rows) (codesIn table) (stateOf m) e) (callsIn (bookOf m .rows) (codesIn table) (stateOf m) e) m m′ (r .number) = rw (← k, ← z) l in
     record {
       leaves = o;
       slip = rw (← z, ← v, ← v′) q;
-      stands = record { kits = s .kits; scans = record { hour = t; barcode = c } ∷ s .scans; after = after-scan (s .after) (record { hour = t; barcode = c }) m′ (r .number) o };
+      stands = record { kits = s .kits; scans = e ∷ s .scans; after = after-scan (s .after) e m′ (r .number) o };
     }

@@ -11,7 +11,9 @@ use lib.ListN.{length}
 use borrow.Author.Tests.{not-false}
 use Rattle.lists.proofs.Tests.{fails-by, not-no}
 use Rattle.pmtl.specs.declared.Answer.the-variants.{False, Open}
+use Rattle.numbers.specs.Refusals.{ACCEPTED, UNKNOWN-BARCODE}
 use Rattle.memory.proofs.Same.{same-words}
+use Rattle.notes.specs.Noting.{numbered}
 use Rattle.property_answers.specs.Verdict.{verdictOf}
 use Rattle.desk_rules.specs.Scans.{Kit, kitAt, Scan, deskOf, stopped, scanNumber, taken}
 use Rattle.desk_rules.specs.Words.{Stopped}
@@ -74,9 +76,13 @@ module _ {kits : List Kit} {es : List Scan} {table m : List ℕ} (made : Made ki
     pub only-these-numbers : Few (r .number)
     only-these-numbers = rw (scan-number ∙ sym (number-in-desk-terms kits es e)) (few-numbers kits es e)
 
-    -- a refused scan changes nothing
-    pub refused-changes-nothing : ¬ (r .number ≡ 0) → m′ ≡ m
-    refused-changes-nothing = s .leaves .refused
+    -- a barcode of no kit changes nothing
+    pub unknown-changes-nothing : r .number ≡ UNKNOWN-BARCODE → m′ ≡ m
+    unknown-changes-nothing = s .leaves .unknown
+
+    -- a scan of a kit that is refused changes the number of the monitor's calls, and nothing else
+    pub refused-changes-nothing-else : ¬ (r .number ≡ ACCEPTED) → ¬ (r .number ≡ UNKNOWN-BARCODE) → m′ ≡ numbered m
+    refused-changes-nothing-else = s .leaves .refused
 
 -- ---- what is allowed for one input coincides
 -- kits opened and any list of scans leave one table and one memory
@@ -84,13 +90,13 @@ pub made-unique : {kits : List Kit} {es : List Scan} {table table′ m m′ : Li
 made-unique {m = m} {m′} made made′ =
     let a = made-after made in
     let b = made-after made′ in
-    (a .barcodes ∙ sym (b .barcodes), same-words m m′ (a .kept) (b .kept) (a .book ∙ sym (b .book)) (a .state ∙ sym (b .state)))
+    (a .barcodes ∙ sym (b .barcodes), same-words m m′ (a .kept) (b .kept) (a .book ∙ sym (b .book)) (a .state ∙ sym (b .state)) (a .ledger ∙ sym (b .ledger)))
 
 -- a scan at a desk has one answer and leaves one memory
 pub scan-unique : {e : Scan} {table m m₁ m₂ : List ℕ} {r q : Scanned} → Scans e table m m₁ r → Scans e table m m₂ q → (r .number ≡ q .number) × (r .slip ≡ q .slip) × (m₁ ≡ m₂)
 scan-unique {e} {table} {m} {m₁} {m₂} s t =
     let x = s .leaves in
     let y = t .leaves in
-    let same : m₁ ≡ m₂ = same-words m₁ m₂ (x .kept) (y .kept) (x .book ∙ sym (y .book)) (x .state ∙ sym (y .state)) in
+    let same : m₁ ≡ m₂ = same-words m₁ m₂ (x .kept) (y .kept) (x .book ∙ sym (y .book)) (x .state ∙ sym (y .state)) (x .ledger ∙ sym (y .ledger)) in
     let kit = kitOf table e in
     (x .number ∙ sym (y .number), s .slip ∙ ap (λ m′. slipFor kit (verdictOf m kit .settled) (verdictOf m′ kit .settled)) same ∙ sym (t .slip), same)

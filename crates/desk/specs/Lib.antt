@@ -1,4 +1,5 @@
 pub mod Kits
+pub mod Counted
 pub mod Private
 pub mod Standing
 pub mod Made

@@ -7,7 +7,8 @@ use Rattle.numbers.specs.Limits.{ROW-WORDS, MOST-KITS}
 use Rattle.numbers.specs.Refusals.{ACCEPTED}
 use Rattle.pmtl.specs.Monitor.{initial}
 use Rattle.pmtl.specs.Calls.{stamped, state, call}
-use Rattle.memory.specs.Memory.{bookOf, stateOf}
+use Rattle.ledger.specs.Ledger.{blankLedger}
+use Rattle.memory.specs.Memory.{bookOf, stateOf, ledgerOf}
 use Rattle.memory.specs.Kept.{Kept}
 use Rattle.desk_rules.specs.Scans.{Kit, windows}
 use Rattle.desk_rules.specs.Rows.{KIT-ROWS, KIT-OPERANDS, deskRows, deskBook}
@@ -27,10 +28,11 @@ pub record BookPut (ws m : List ℕ) (end : ℕ) : Type 0 where
   pub inside : end ≤ length m
   pub are : take end m ≡ bookWords ws
 
--- the memory holds a fresh monitor of the book of a desk of kits
+-- the memory holds a fresh monitor of the book of a desk of kits, and a blank ledger
 pub record SetUp (kits : List Kit) (m : List ℕ) : Type 0 where
   pub book : bookOf m ≡ deskBook (windows kits)
   pub state : stateOf m ≡ initial (deskRows (windows kits))
+  pub ledger : ledgerOf m ≡ blankLedger (deskBook (windows kits))
   pub kept : Kept m
 
 -- an atom of so many can go on and off at this time: if the first state is accepted, so is the second

@@ -5,13 +5,15 @@ use mathlib.Core.Bool.{cond}
 use mathlib.Core.List.{List, [], _∷_}
 use lib.ListN.{length, getD, replicate}
 use lib.Seq.{sets}
-use Rattle.numbers.specs.Refusals.{ACCEPTED}
+use Rattle.numbers.specs.Refusals.{ACCEPTED, UNKNOWN-BARCODE}
 use Rattle.lists.specs.Lists.{part}
 use Rattle.pmtl.specs.declared.Answer.{Answer}
 use Rattle.pmtl.specs.Answer.{isFalse}
-use Rattle.pmtl.specs.Calls.{Outcome}
-use Rattle.memory.specs.Memory.{bookOf, stateOf}
+use Rattle.pmtl.specs.Calls.{Call, Outcome}
+use Rattle.ledger.specs.Ledger.{ledgerFrom}
+use Rattle.memory.specs.Memory.{bookOf, stateOf, ledgerOf}
 use Rattle.memory.specs.Kept.{Kept}
+use Rattle.notes.specs.Noting.{numbered}
 use Rattle.property_answers.specs.Verdict.{verdictOf}
 use Rattle.desk_rules.specs.Scans.{Kit, Scan, codes, windows, openNumber, deskOf}
 use Rattle.desk_rules.specs.Rows.{KIT-ATOMS, deskBook}
@@ -20,6 +22,7 @@ use Rattle.desk.specs.declared.Slip.{Slip}
 use Rattle.desk.specs.declared.Slip.the-variants.{Quiet, Stop}
 use Rattle.desk.specs.declared.Scanned.{Scanned}
 use Rattle.desk.specs.Kits.{MOST-BARCODES}
+use Rattle.desk.specs.Counted.{callsIn, deskLedger}
 
 -- ---- the table of barcodes
 abbrev pub TABLE-SIZE : ℕ
@@ -43,6 +46,7 @@ pub record After (kits : List Kit) (scans : List Scan) (table m : List ℕ) : Ty
   pub barcodes : table ≡ tableOf (deskOf kits)
   pub book : bookOf m ≡ deskBook (windows (deskOf kits))
   pub state : stateOf m ≡ deskAfter (deskOf kits) scans
+  pub ledger : ledgerOf m ≡ deskLedger (deskOf kits) scans
   pub kept : Kept m
 
 -- they came from calls made here
@@ -58,12 +62,15 @@ pub record Opens (kits : List Kit) (table m : List ℕ) (r : ℕ) : Type 0 where
   pub after : After kits [] table m
   pub stands : Stands table m
 
--- where a call has this outcome, it handed back r and left m′ of m; refused, it changed nothing
-pub record Leaves (o : Outcome) (m m′ : List ℕ) (r : ℕ) : Type 0 where
+-- where a scan has this outcome and makes these calls, it handed back r and left m′ of m; an unknown barcode changed nothing, and what else is refused is
+-- one call: all but its number is as it was
+pub record Leaves (o : Outcome) (calls : List Call) (m m′ : List ℕ) (r : ℕ) : Type 0 where
   pub number : r ≡ o .number
   pub state : stateOf m′ ≡ o .state
   pub book : bookOf m′ ≡ bookOf m
-  pub refused : (r ≡ ACCEPTED → ⊥) → m′ ≡ m
+  pub ledger : ledgerOf m′ ≡ ledgerFrom (bookOf m) (stateOf m) (ledgerOf m) calls
+  pub unknown : r ≡ UNKNOWN-BARCODE → m′ ≡ m
+  pub refused : (r ≡ ACCEPTED → ⊥) → (r ≡ UNKNOWN-BARCODE → ⊥) → m′ ≡ numbered m
   pub kept : Kept m′
 
 -- the stop slip of a kit prints where its settled answer has just become false
@@ -76,6 +83,6 @@ kitOf table e = placeOf (e .barcode) (codesIn table) / KIT-ATOMS
 
 -- a scan at a desk handed back r and left m′ of m
 pub record Scans (e : Scan) (table m m′ : List ℕ) (r : Scanned) : Type 0 where
-  pub leaves : Leaves (scannedIn (bookOf m .rows) (codesIn table) (stateOf m) e) m m′ (r .number)
+  pub leaves : Leaves (scannedIn (bookOf m .rows) (codesIn table) (stateOf m) e) (callsIn (bookOf m .rows) (codesIn table) (stateOf m) e) m m′ (r .number)
   pub slip : r .slip ≡ slipFor (kitOf table e) (verdictOf m (kitOf table e) .settled) (verdictOf m′ (kitOf table e) .settled)
   pub stands : Stands table m′

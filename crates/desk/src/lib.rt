@@ -15,6 +15,7 @@ ghost use Rattle.property_answers.specs.Verdict.{verdictOf};
 ghost use Rattle.desk_rules.specs.Scans.{Scan, Fine};
 ghost use Rattle.desk_rules.specs.Desk.{pulse, scannedAt};
 ghost use Rattle.desk.specs.Kits.{kitsIn};
+ghost use Rattle.desk.specs.Counted.{pulseCalls, callsAt};
 ghost use Rattle.desk.specs.Standing.{TABLE-SIZE, tableOf, Stands, Opens, Leaves, slipFor, kitCount, Scans};
 ghost use Rattle.desk.specs.Private.{SetUp, Ready};
 use book_words::MOST_BOOK_WORDS;
@@ -107,7 +108,7 @@ fn first_of(state: &[u8], width: usize) -> &[u8]
 fn on_and_off(monitor: &mut [u64; SIZE], time: u64, width: usize, place: usize) -> u64
     requires { ⌜ Ready (now monitor) time width place ⌝ }
     requires { ⌜ place < width ⌝ }
-    ensures { λ r. ⌜ Leaves (pulse (bookOf (now (monitor .entry)) .rows) width (stateOf (now (monitor .entry))) time place) (now (monitor .entry)) (now (monitor .exit)) r ⌝ }
+    ensures { λ r. ⌜ Leaves (pulse (bookOf (now (monitor .entry)) .rows) width (stateOf (now (monitor .entry))) time place) (pulseCalls (bookOf (now (monitor .entry)) .rows) width (stateOf (now (monitor .entry))) time place) (now (monitor .entry)) (now (monitor .exit)) r ⌝ }
 {
     let mut on = [0u8; MOST_BARCODES];
     on[place] = 1;
@@ -122,7 +123,7 @@ fn on_and_off(monitor: &mut [u64; SIZE], time: u64, width: usize, place: usize) 
 // A scan of the barcode at a place among so many, or of none of them.
 fn scan_at(monitor: &mut [u64; SIZE], time: u64, width: usize, place: usize) -> u64
     requires { ⌜ Ready (now monitor) time width place ⌝ }
-    ensures { λ r. ⌜ Leaves (scannedAt (bookOf (now (monitor .entry)) .rows) width (stateOf (now (monitor .entry))) time place) (now (monitor .entry)) (now (monitor .exit)) r ⌝ }
+    ensures { λ r. ⌜ Leaves (scannedAt (bookOf (now (monitor .entry)) .rows) width (stateOf (now (monitor .entry))) time place) (callsAt (bookOf (now (monitor .entry)) .rows) width (stateOf (now (monitor .entry))) time place) (now (monitor .entry)) (now (monitor .exit)) r ⌝ }
 {
     if place < width {
         return on_and_off(monitor, time, width, place);
@@ -154,7 +155,8 @@ fn slip_for(kit: usize, before: Answer, after: Answer) -> Slip
     Slip::Quiet
 }
 
-// A scan: the barcode's atom goes on and off, whole or not at all. What is refused changes nothing.
+// A scan: the barcode's atom goes on and off, whole or not at all. A barcode of no kit changes nothing; a time that is refused changes
+// nothing but the number of the monitor's calls.
 pub fn scan(
     time: u64,
     barcode: u64,

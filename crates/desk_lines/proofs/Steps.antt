@@ -19,6 +19,7 @@ use Rattle.desk.specs.declared.Slip.{Slip}
 use Rattle.desk.specs.declared.Slip.the-variants as of-slip
 use Rattle.desk.specs.declared.Scanned as of-scan
 use Rattle.desk.specs.Kits.{KIT-WORDS, kitsIn}
+use Rattle.desk.specs.Counted.{deskLedger}
 use Rattle.desk.specs.Standing.{codesIn, kitOf, Stands, Opens, Scans}
 use Rattle.line_words.specs.Line.{lineSupply, blank, wordAt, numberFor}
 use Rattle.desk_lines.specs.declared.Stage.{Stage}
@@ -113,11 +114,11 @@ unfolding kitGiven
 giving-last count given d h = rw (le-ltb given count h)
 
 opens-so : {kits : List Kit} (d : Held) {words table m : List ℕ} {n : ℕ} {r : Heard} → words ≡ d .words → Opens kits table m n → r ≡ openHeard n → Does (opening kits d) r words table m
-unfolding opening deskAfter
+unfolding opening deskAfter deskLedger
 opens-so {kits} d {n = n} e o h =
     record {
       heard = h ∙ ap openHeard (o .number);
-      held = rw (e, o .after .barcodes, o .after .book, o .after .state);
+      held = rw (e, o .after .barcodes, o .after .book, o .after .state, o .after .ledger);
       good = counts-as h (open-counts n) (o .stands);
     }
 
@@ -179,7 +180,7 @@ scanned-so i e words {table} {m} {m′} {q} {event} sc v =
     let after : verdictOf m′ k ≡ verdictIn (bookOf m) (o .state) k = rw (l .book, l .state) in
     record {
       heard = ap (says (Opened i)) (v ∙ rw (l .number, sc .slip, after));
-      held = rw (l .book, l .state);
+      held = rw (l .book, l .state, l .ledger);
       good = record { counts = tt; stands = sc .stands };
     }
 

@@ -9,6 +9,7 @@ use Rattle.numbers.specs.Refusals.{ACCEPTED, WRONG-KITS}
 use Rattle.text.specs.Words.{Supply}
 use Rattle.pmtl.specs.Book.{Book}
 use Rattle.pmtl.specs.Monitor.{State, initial}
+use Rattle.ledger.specs.Ledger.{Ledger, blankLedger}
 use Rattle.property_answers.specs.Verdict.{verdictIn}
 use Rattle.desk_rules.specs.Scans.{Kit, Scan, windows, openNumber, deskOf}
 use Rattle.desk_rules.specs.Rows.{deskRows, deskBook}
@@ -16,6 +17,7 @@ use Rattle.desk_rules.specs.Desk.{scannedIn}
 use Rattle.desk.specs.declared.Slip.{Slip}
 use Rattle.desk.specs.declared.Slip.the-variants as of-slip
 use Rattle.desk.specs.Kits.{KIT-WORDS, kitsIn}
+use Rattle.desk.specs.Counted.{ledgerWith}
 use Rattle.desk.specs.Standing.{tableOf, codesIn, kitOf, slipFor}
 use Rattle.line_words.specs.Line.{lineSupply, blank, wordAt, numberFor}
 use Rattle.desk_lines.specs.declared.Stage.{Stage}
@@ -24,12 +26,13 @@ use Rattle.desk_lines.specs.declared.Event.{Event}
 use Rattle.desk_lines.specs.declared.Event.the-variants.{Nothing, Desk, Scanned, Stopped}
 use Rattle.desk_lines.specs.declared.Heard.{Heard}
 
--- what stays from line to line beside the stage: the words of the kits so far, the table of barcodes, and the monitor's book and state
+-- what stays from line to line beside the stage: the words of the kits so far, the table of barcodes, and the monitor's book, state and ledger
 pub record Held : Type 0 where
   pub words : List ℕ
   pub table : List ℕ
   pub book : Book
   pub state : State
+  pub ledger : Ledger
 
 -- what a line does: the stage after it and what is to be said, and what stays
 pub record Reply : Type 0 where
@@ -62,7 +65,7 @@ abbrev pub kitPut : ℕ → Supply → List ℕ → List ℕ
 kitPut k s words = sets words (KIT-WORDS * k) (wordAt s 0 ∷ wordAt s 1 ∷ wordAt s 2 ∷ wordAt s 3 ∷ [])
 
 abbrev pub withKit : ℕ → Supply → Held → Held
-withKit k s d = record { words = kitPut k s (d .words); table = d .table; book = d .book; state = d .state }
+withKit k s d = record { words = kitPut k s (d .words); table = d .table; book = d .book; state = d .state; ledger = d .ledger }
 
 -- the desk of kits: opened or refused
 unfoldable pub openHeard : ℕ → Heard
@@ -76,6 +79,7 @@ opening kits d = record {
     table = tableOf (deskOf kits);
     book = deskBook (windows (deskOf kits));
     state = initial (deskRows (windows (deskOf kits)));
+    ledger = blankLedger (deskBook (windows (deskOf kits)));
   };
 }
 
@@ -109,7 +113,7 @@ scanning i e d =
     let k = kitOf (d .table) e in
     record {
       heard = says (Opened i) (scanEvent i (o .number) (slipFor k (verdictIn (d .book) (d .state) k .settled) (verdictIn (d .book) (o .state) k .settled)));
-      held = record { words = d .words; table = d .table; book = d .book; state = o .state };
+      held = record { words = d .words; table = d .table; book = d .book; state = o .state; ledger = ledgerWith (d .book) (codesIn (d .table)) (d .state) (d .ledger) e };
     }
 
 -- a bad line is passed over: it has its number and what is wrong with it

@@ -5,7 +5,7 @@ use mathlib.Core.List.{List}
 use lib.ListN.{length}
 use Rattle.numbers.specs.Limits.{MOST-KITS}
 use Rattle.text.specs.Words.{Supply}
-use Rattle.memory.specs.Memory.{bookOf, stateOf}
+use Rattle.memory.specs.Memory.{bookOf, stateOf, ledgerOf}
 use Rattle.buffer_writer.specs.Buffer.{handed, inBuffer}
 use Rattle.desk.specs.Standing.{Stands}
 use Rattle.desk_lines.specs.declared.Stage.{Stage}
@@ -18,7 +18,7 @@ use Rattle.desk_lines.specs.Longest.{LONGEST-ANSWER}
 
 -- what stays, in words, a table and a monitor's memory
 abbrev pub heldOf : List ℕ → List ℕ → List ℕ → Held
-heldOf words table m = record { words = words; table = table; book = bookOf m; state = stateOf m }
+heldOf words table m = record { words = words; table = table; book = bookOf m; state = stateOf m; ledger = ledgerOf m }
 
 -- where kits are given, another is to come, and there are not too many
 abbrev pub Counts : Stage → Type 0

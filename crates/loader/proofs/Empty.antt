@@ -102,7 +102,7 @@ module _ (way : Way) (m : List ℕ) (long : length m ≡ SIZE) (word : wayWord m
   empty-state = rw (way-read way m word, head 0 (omega arith), head 1 (omega arith), head 2 (omega arith), head 3 (omega arith), listed)
 
   empty-holds : Holds way emptyBook m
-  empty-holds = record { book = empty-book; state = empty-state; sound = empty-sound; unused = empty-unused }
+  empty-holds = record { book = empty-book; state = empty-state; sound = empty-sound; unused = empty-unused; blank = λ i h. rest i (omega arith) }
 
 -- ---- what `store_empty` writes
 pub emptied-holds : (way : Way) (m : List ℕ) {m₁ : List ℕ} {word : ℕ} → length m ≡ SIZE → m₁ ≡ replicate (length m) 0 → word ≡ wordFor way → Holds way emptyBook (set m₁ 7 word)

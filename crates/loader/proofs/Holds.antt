@@ -275,6 +275,7 @@ module _ (way : Way) (s : Sections) (m : List ℕ) (ok : Accepted s) (st : Stand
           settled = λ i p q. zero-from (SETTLED + i) (omega arith);
           moves = λ r p q. zero-from (MOVES + r) (omega arith);
         };
+        blank = λ i h. zero-from i (omega arith);
       }
 
 -- ---- what `store` writes, one after the other

@@ -4,5 +4,6 @@ pub mod Puts
 pub mod Rows
 pub mod Stands
 pub mod Holds
+pub mod Blank
 pub mod Loads
 pub mod Nested

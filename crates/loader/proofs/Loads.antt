@@ -1,16 +1,19 @@
 -- What loading leaves, accepted and refused. Assumes nothing.
-use Prim.Native.Nat.{ℕ}
+use Prim.Native.Nat.{ℕ, _≤_}
 use mathlib.Core.Path.{_≡_, refl, sym, ap, ap₂, _∙_}
 use mathlib.Core.Bool.{Bool, true, false}
 use mathlib.Core.List.{List}
+use lib.ListN.{getD}
 use Rattle.pmtl.specs.Book.{Book, emptyBook}
 use Rattle.pmtl.specs.Sets.{Way}
 use Rattle.pmtl.specs.Monitor.{State, initialIn}
+use Rattle.memory.specs.Layout.{LEDGER}
 use Rattle.memory.specs.Memory.{rowsOf, bookOf, wayOf, stateOf}
 use Rattle.memory.specs.Kept.{Sound}
 use Rattle.memory.specs.Tables.{Tables}
-use Rattle.memory.specs.Alike.{Alike}
+use Rattle.memory.specs.Alike.{Alike, SameLedger}
 use Rattle.memory.proofs.Alike.{alike-sound, alike-book, alike-state}
+use Rattle.ledger.specs.Ledger.{blankLedger}
 use Rattle.book.specs.declared.loading.Loading.{Loading}
 use Rattle.book.specs.Judging.{Loaded, bookIn, loaded}
 use Rattle.book.specs.Placing.{partsOf, Placed, PlacedBy}
@@ -21,6 +24,7 @@ use Rattle.book.proofs.Excess.{accepted-roomed, refused-roomed}
 use Rattle.book.proofs.Admitted.{taken-stays, nested-refused}
 use Rattle.loader.specs.Loading.{Loads}
 use Rattle.loader.specs.Private.{Accepted, Holds, Stored}
+use Rattle.loader.proofs.Blank.{ledger-blank, kept-blank}
 
 module _ (way : Loading) (words : List ℕ) (number n o a g : ℕ) (p : PlacedBy way words number n o a g) where
   -- a book that is accepted is accepted in ordinary loading, as the same book
@@ -56,22 +60,25 @@ module _ {w : Way} {b : Book} {m m′ : List ℕ} (h : Holds w b m) (alike : Ali
   unfolding stateOf initialIn bookOf
   worked-taken = ap₂ takes (ap (λ (st : State). st .way) worked-state) (ap (λ (x : Book). x .rows) worked-book)
 
-worked : (way : Loading) {b : Book} {m m′ : List ℕ} → Holds (wayIn way) b m → Alike m m′ → Tables m′ → (words : List ℕ) {l : Loaded} {r : ℕ} → loadedBy way words ≡ l → b ≡ l .book
+worked : (way : Loading) {b : Book} {m m′ : List ℕ} → Holds (wayIn way) b m → Alike m m′ → Tables m′ → SameLedger m m′ → (words : List ℕ) {l : Loaded} {r : ℕ} → loadedBy way words ≡ l → b ≡ l .book
     → r ≡ l .number → Loads way words m′ r
-worked way h alike tables words is eb er =
+worked way {m′ = m′} h alike tables same words is eb er =
+    let sound = worked-sound h alike in
+    let blank : (i : ℕ) → LEDGER ≤ i → getD m′ i 0 ≡ 0 = λ i p. same .words i p ∙ h .blank i p in
     record {
       number = rw is er;
       book = rw is (worked-book h alike ∙ eb);
       state = rw is (worked-state h alike ∙ ap (λ (x : Book). initialIn (wayIn way) (x .rows)) eb);
-      kept = record { sound = worked-sound h alike; tables = tables };
+      ledger = rw is (ledger-blank (sound .book) blank ∙ ap blankLedger (worked-book h alike ∙ eb));
+      kept = record { sound = sound; tables = tables; ledger = kept-blank (sound .book) blank };
     }
 
 module _ {way : Loading} {words m m′ : List ℕ} {r : ℕ} (st : Stored way words m r) (alike : Alike m m′) {t : Bool} (et : t ≡ takes (wayOf m′) (rowsOf m′)) where
   judged-so : {z : Bool} → t ≡ z → takes (wayIn way) (roomed way (loaded words) .book .rows) ≡ z
   judged-so e = sym (et ∙ worked-taken (st .held) alike) ∙ e
 
-  pub loads-taken : Tables m′ → t ≡ true → Loads way words m′ r
-  loads-taken tables e = worked way (st .held) alike tables words (taken-stays (wayIn way) (roomed way (loaded words)) (judged-so e)) refl (st .number)
+  pub loads-taken : Tables m′ → SameLedger m m′ → t ≡ true → Loads way words m′ r
+  loads-taken tables same e = worked way (st .held) alike tables same words (taken-stays (wayIn way) (roomed way (loaded words)) (judged-so e)) refl (st .number)
 
-  pub loads-nested : {m₁ m₂ : List ℕ} → t ≡ false → Holds (wayIn way) emptyBook m₁ → Alike m₁ m₂ → Tables m₂ → Loads way words m₂ 17
-  loads-nested e empty alike₂ tables = worked way empty alike₂ tables words (nested-refused (wayIn way) (roomed way (loaded words)) (judged-so e)) refl refl
+  pub loads-nested : {m₁ m₂ : List ℕ} → t ≡ false → Holds (wayIn way) emptyBook m₁ → Alike m₁ m₂ → Tables m₂ → SameLedger m₁ m₂ → Loads way words m₂ 17
+  loads-nested e empty alike₂ tables same = worked way empty alike₂ tables same words (nested-refused (wayIn way) (roomed way (loaded words)) (judged-so e)) refl refl

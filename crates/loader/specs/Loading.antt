@@ -3,14 +3,16 @@ use Prim.Native.Nat.{ℕ}
 use mathlib.Core.Path.{_≡_}
 use mathlib.Core.List.{List}
 use Rattle.pmtl.specs.Monitor.{initialIn}
-use Rattle.memory.specs.Memory.{bookOf, stateOf}
+use Rattle.ledger.specs.Ledger.{blankLedger}
+use Rattle.memory.specs.Memory.{bookOf, stateOf, ledgerOf}
 use Rattle.book.specs.declared.loading.Loading.{Loading}
 use Rattle.book.specs.Loading.{wayIn, loadedBy}
 use Rattle.memory.specs.Kept.{Kept}
 
--- words were loaded in a way: r was handed back, and the memory m holds the book and a fresh monitor; a refused book gives an empty one
+-- words were loaded in a way: r was handed back, and the memory m holds the book, a fresh monitor and a blank ledger; a refused book gives an empty one
 pub record Loads (way : Loading) (words m : List ℕ) (r : ℕ) : Type 0 where
   pub number : r ≡ loadedBy way words .number
   pub book : bookOf m ≡ loadedBy way words .book
   pub state : stateOf m ≡ initialIn (wayIn way) (loadedBy way words .book .rows)
+  pub ledger : ledgerOf m ≡ blankLedger (loadedBy way words .book)
   pub kept : Kept m

@@ -3,13 +3,13 @@ use Prim.Native.Nat.{ℕ, zero, suc, _+_, _*_, _/_, _≤_, _<_, max}
 use mathlib.Core.Path.{_≡_}
 use mathlib.Core.Bool.{true, cond}
 use mathlib.Core.List.{List, [], _∷_}
-use lib.ListN.{length, set, replicate}
+use lib.ListN.{length, getD, set, replicate}
 use lib.Seq.{paste}
 use lib.Dec.{eqb}
 use Rattle.pmtl.specs.Book.{Book}
 use Rattle.pmtl.specs.Sets.{Way, ordinary, lasting}
 use Rattle.pmtl.specs.Monitor.{initialIn}
-use Rattle.memory.specs.Layout.{ROWS, ROW, OPERANDS, PROPERTIES, OWNERS, SIZE, ASSUMES, GUARANTEES, ROW-COUNT, TEMPORALS, WIDTH, WAY}
+use Rattle.memory.specs.Layout.{ROWS, ROW, OPERANDS, PROPERTIES, OWNERS, SIZE, ASSUMES, GUARANTEES, ROW-COUNT, TEMPORALS, WIDTH, WAY, LEDGER}
 use Rattle.book.specs.Rows.{temporal, ATOM}
 use Rattle.lists.specs.Lists.{put}
 use Rattle.memory.specs.Memory.{bookOf, stateOf}
@@ -87,12 +87,13 @@ pub record Accepted (s : Sections) : Type 0 where
   pub few : Few s
   pub good : judged s ≡ ACCEPTED
 
--- the memory holds a book, with a fresh monitor in a way; its tables are not worked out yet
+-- the memory holds a book, with a fresh monitor in a way, and nothing is counted; its tables are not worked out yet
 pub record Holds (way : Way) (b : Book) (m : List ℕ) : Type 0 where
   pub book : bookOf m ≡ b
   pub state : stateOf m ≡ initialIn way (b .rows)
   pub sound : Sound m
   pub unused : Unused m
+  pub blank : (i : ℕ) → LEDGER ≤ i → getD m i 0 ≡ 0
 
 -- that of words, accepted or refused as far as the words alone tell, and the number that is handed back
 pub record Stored (way : Loading) (words m : List ℕ) (r : ℕ) : Type 0 where

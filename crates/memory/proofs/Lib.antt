@@ -2,6 +2,8 @@ pub mod Rows
 pub mod Sets
 pub mod Stepped
 pub mod Codes
+pub mod Ledger
+pub mod Properties
 pub mod Same
 pub mod Alike
 pub mod Bits

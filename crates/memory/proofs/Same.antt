@@ -1,4 +1,4 @@
--- Two kept memories that hold the same monitor are equal, word for word. Assumes nothing.
+-- Two kept memories that hold the same monitor are equal, word for word: all but the ledger, and the ledger, too, where that is the same. Assumes nothing.
 use Prim.Native.Nat.{ℕ, zero, suc, _+_, _*_, _-_, _/_, _%_, _≤_, _<_}
 use mathlib.Core.Path.{_≡_, refl, sym, ap, ap₂, _∙_}
 use mathlib.Core.Bool.{Bool, true, false, cond}
@@ -17,13 +17,15 @@ use Rattle.pmtl.specs.Sets.{Way, ordinary, lasting}
 use Rattle.pmtl.specs.Monitor.{State, fullest, value}
 use Rattle.pmtl.specs.Early.{early}
 use Rattle.pmtl.specs.Settled.{settled}
-use Rattle.memory.specs.Layout.{ROWS, ROW, OPERANDS, PROPERTIES, ATOMS, OWNERS, SETS, SET, VALUES, TOLD, EARLY, SETTLED, MOVES, FULLEST, SIZE}
+use Rattle.memory.specs.Layout.{ROWS, ROW, OPERANDS, PROPERTIES, ATOMS, OWNERS, SETS, SET, VALUES, TOLD, EARLY, SETTLED, MOVES, FULLEST, LEDGER, TAKEN, ENTRIES, ENTRY, SIZE}
 use Rattle.lists.specs.Lists.{part, listed}
-use Rattle.memory.specs.Memory.{rowCount, begunWord, clockOf, widthWord, temporals, assumeCount, guaranteeCount, wayWord, kindAt, argAt, lowerAt, upperAt, startAt, slotAt, operandsOf, ownerAt, setStart, slotWords, propertyRow, valueAt, toldAt, earlyAt, settledAt, movesAt, fullestWord, rowOf, rowsOf, bookOf, isOne, wayOf, setOf, stateOf}
+use Rattle.memory.specs.Memory.{rowCount, begunWord, clockOf, widthWord, temporals, assumeCount, guaranteeCount, wayWord, kindAt, argAt, lowerAt, upperAt, startAt, slotAt, operandsOf, ownerAt, setStart, slotWords, propertyRow, valueAt, toldAt, earlyAt, settledAt, movesAt, fullestWord, numberWord, takenWord, entryStart, entryWord, rowOf, rowsOf, bookOf, isOne, wayOf, setOf, stateOf, entryOf, ledgerOf}
 use Rattle.memory.specs.Tables.{standing, propertyCount}
 use Rattle.book.specs.Rows.{countOf}
+use Rattle.ledger.specs.Ledger.{Entry, Ledger, entryAt}
 use Rattle.lists.proofs.Listed.{listed-at}
 use Rattle.memory.proofs.Rows.{rows-length, row-at}
+use Rattle.memory.proofs.Ledger.{ledger-entry}
 use Rattle.memory.specs.Kept.{startTo, slotTo, Sound, Kept}
 use Rattle.lists.proofs.Parts.{word-at, part-length, part-at}
 use Rattle.memory.proofs.Codes.{kindOf, argOf, lowerOf, upperOf, takenBy, Spelled, spelled-by}
@@ -396,8 +398,9 @@ module _ (m m′ : List ℕ) (k : Kept m) (k′ : Kept m′) (same-book : bookOf
   in-part : (a i : ℕ) → a ≤ i → getD m (a + (i - a)) 0 ≡ getD m′ (a + (i - a)) 0 → getD m i 0 ≡ getD m′ i 0
   in-part a i h e = word-at m i (a + (i - a)) (omega arith) ∙ e ∙ word-at m′ (a + (i - a)) i (omega arith)
 
-  by-parts : (i : ℕ) → i < SIZE → getD m i 0 ≡ getD m′ i 0
-  by-parts i h =
+  -- all but the ledger
+  pub same-below : (i : ℕ) → i < LEDGER → getD m i 0 ≡ getD m′ i 0
+  same-below i h =
       ⊎-elim (below i) (λ p₁.
       ⊎-elim (λ q. in-part VALUES i p₁ (same-value (i - VALUES) (omega arith))) (λ p₂.
       ⊎-elim (λ q. in-part TOLD i p₂ (same-told (i - TOLD) (omega arith))) (λ p₃.
@@ -411,7 +414,53 @@ module _ (m m′ : List ℕ) (k : Kept m) (k′ : Kept m′) (same-book : bookOf
       (lt-or-ge i TOLD))
       (lt-or-ge i VALUES)
 
-  pub same-words : m ≡ m′
-  same-words =
-      let l = k .sound .book .long in
-      ext-getD 0 m m′ (l ∙ sym (k′ .sound .book .long)) (λ i h. by-parts i (omega arith))
+  -- ---- and all of it, where the ledgers are the same
+  module _ (same-ledger : ledgerOf m ≡ ledgerOf m′) where
+    same-properties : propertyCount m ≡ propertyCount m′
+    same-properties = ap₂ (λ (a g : ℕ). a + g) (below 5 (omega arith)) (below 6 (omega arith))
+
+    same-number : numberWord m ≡ numberWord m′
+    unfolding ledgerOf
+    same-number = ap (λ (l : Ledger). l .number) same-ledger
+
+    same-taken-count : takenWord m ≡ takenWord m′
+    unfolding ledgerOf
+    same-taken-count = ap (λ (l : Ledger). l .accepted) same-ledger
+
+    same-entry : (p : ℕ) → p < propertyCount m → entryOf m p ≡ entryOf m′ p
+    same-entry p h = sym (ledger-entry m p h) ∙ ap (λ (l : Ledger). entryAt (l .entries) p) same-ledger ∙ ledger-entry m′ p (let e = same-properties in omega arith)
+
+    same-entry-word : (p j : ℕ) → p < propertyCount m → j < ENTRY → entryWord m p j ≡ entryWord m′ p j
+    unfolding entryOf
+    same-entry-word p zero h q = ap (λ (e : Entry). e .failed) (same-entry p h)
+    same-entry-word p (suc zero) h q = ap (λ (e : Entry). e .first) (same-entry p h)
+    same-entry-word p (suc (suc zero)) h q = ap (λ (e : Entry). e .last) (same-entry p h)
+    same-entry-word p (suc (suc (suc zero))) h q = ap (λ (e : Entry). e .longest) (same-entry p h)
+    same-entry-word p (suc (suc (suc (suc zero)))) h q = ap (λ (e : Entry). e .settled) (same-entry p h)
+    same-entry-word p (suc (suc (suc (suc (suc zero))))) h q = ap (λ (e : Entry). e .stretch) (same-entry p h)
+    same-entry-word p (suc (suc (suc (suc (suc (suc j)))))) h q = absurd (omega arith)
+
+    same-in-entries : (i : ℕ) → ENTRIES ≤ i → i < SIZE → getD m i 0 ≡ getD m′ i 0
+    same-in-entries i l u =
+        let p : ℕ = (i - ENTRIES) / ENTRY in
+        let j : ℕ = (i - ENTRIES) % ENTRY in
+        let e : i ≡ entryStart p + j = omega arith in
+        let n = same-properties in
+        ⊎-elim
+        (λ h. word-at m i (entryStart p + j) e ∙ same-entry-word p j h (omega arith) ∙ word-at m′ (entryStart p + j) i (sym e))
+        (λ h. k .ledger .rest i (omega arith) u ∙ sym (k′ .ledger .rest i (omega arith) u))
+        (lt-or-ge p (propertyCount m))
+
+    by-parts : (i : ℕ) → i < SIZE → getD m i 0 ≡ getD m′ i 0
+    by-parts i h =
+        ⊎-elim (same-below i) (λ p₁.
+        ⊎-elim (λ q. word-at m i LEDGER (omega arith) ∙ same-number ∙ word-at m′ LEDGER i (omega arith)) (λ p₂.
+        ⊎-elim (λ q. word-at m i TAKEN (omega arith) ∙ same-taken-count ∙ word-at m′ TAKEN i (omega arith)) (λ p₃. same-in-entries i p₃ h)
+        (lt-or-ge i ENTRIES))
+        (lt-or-ge i TAKEN))
+        (lt-or-ge i LEDGER)
+
+    pub same-words : m ≡ m′
+    same-words =
+        let l = k .sound .book .long in
+        ext-getD 0 m m′ (l ∙ sym (k′ .sound .book .long)) (λ i h. by-parts i (omega arith))

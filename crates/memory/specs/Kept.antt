@@ -10,9 +10,10 @@ use Rattle.pmtl.specs.Book.{widthOf}
 use Rattle.pmtl.specs.Answer.{bitOf}
 use Rattle.book.specs.Rows.{countOf, temporal, ATOM, HISTORICALLY, SINCE}
 use Rattle.book.specs.Judging.{formGood}
-use Rattle.memory.specs.Layout.{ROWS, ROW, OPERANDS, PROPERTIES, ATOMS, OWNERS, SET, SIZE}
-use Rattle.memory.specs.Memory.{rowCount, begunWord, clockOf, widthWord, temporals, assumeCount, guaranteeCount, wayWord, kindAt, argAt, lowerAt, upperAt, startAt, slotAt, operandAt, ownerAt, atomAt, slotWords, rowsOf}
-use Rattle.memory.specs.Tables.{Tables}
+use Rattle.memory.specs.Layout.{ROWS, ROW, OPERANDS, PROPERTIES, ATOMS, OWNERS, SET, ENTRIES, ENTRY, SIZE}
+use Rattle.memory.specs.Memory.{rowCount, begunWord, clockOf, widthWord, temporals, assumeCount, guaranteeCount, wayWord, kindAt, argAt, lowerAt, upperAt, startAt, slotAt, operandAt, ownerAt, atomAt, slotWords, rowsOf, ledgerOf}
+use Rattle.ledger.specs.Ledger.{LedgerInBounds}
+use Rattle.memory.specs.Tables.{propertyCount, Tables}
 
 -- ---- a loaded book, as the loader leaves it: what reading it needs
 pub record RowKept (m : List ℕ) (r : ℕ) : Type 0 where
@@ -78,7 +79,13 @@ pub record Sound (m : List ℕ) : Type 0 where
   pub atoms : (i : ℕ) → i < widthWord m → atomAt m i ≤ 1
   pub sets : (j : ℕ) → j < MOST-TEMPORALS → Good (slotWords m j)
 
--- the memory came from calls made here: it is sound, and its tables say what the monitor that it holds answers
+-- the ledger: numbers that can stand there, and words not in use are 0
+pub record LedgerKept (m : List ℕ) : Type 0 where
+  pub bounds : LedgerInBounds (propertyCount m) (ledgerOf m)
+  pub rest : (i : ℕ) → ENTRIES + ENTRY * propertyCount m ≤ i → i < SIZE → getD m i 0 ≡ 0
+
+-- the memory came from calls made here: it is sound, its tables say what the monitor that it holds answers, and its ledger can be one
 pub record Kept (m : List ℕ) : Type 0 where
   pub sound : Sound m
   pub tables : Tables m
+  pub ledger : LedgerKept m

@@ -86,6 +86,39 @@ MOVES = SETTLED + MOST-PROPERTIES
 abbrev pub FULLEST : ℕ
 FULLEST = MOVES + MOST-ROWS
 
+-- the ledger: the number of the last call; how many calls were accepted; and an entry for each property
+abbrev pub LEDGER : ℕ
+LEDGER = FULLEST + 1
+
+abbrev pub TAKEN : ℕ
+TAKEN = LEDGER + 1
+
+abbrev pub ENTRIES : ℕ
+ENTRIES = TAKEN + 1
+
+-- words of an entry, and what each says: how many calls failed; the first and the last of them; the longest stretch; the call at which the property
+-- settled; the stretch that reaches to the last accepted call
+abbrev pub ENTRY : ℕ
+ENTRY = 6
+
+abbrev pub FAILED : ℕ
+FAILED = 0
+
+abbrev pub FIRST : ℕ
+FIRST = 1
+
+abbrev pub LAST : ℕ
+LAST = 2
+
+abbrev pub LONGEST : ℕ
+LONGEST = 3
+
+abbrev pub SETTLED-CALL : ℕ
+SETTLED-CALL = 4
+
+abbrev pub STRETCH : ℕ
+STRETCH = 5
+
 -- all words
 abbrev pub SIZE : ℕ
-SIZE = FULLEST + 1
+SIZE = ENTRIES + ENTRY * MOST-PROPERTIES

@@ -11,8 +11,9 @@ use Rattle.pmtl.specs.Book.{Range, Row, Rows, Book}
 use Rattle.pmtl.specs.Sets.{Way, ordinary, lasting}
 use Rattle.pmtl.specs.Monitor.{State}
 use Rattle.book.specs.Rows.{rowFrom, temporal}
+use Rattle.ledger.specs.Ledger.{Entry, Ledger}
 use Rattle.memory.specs.declared.RowWords.{RowWords}
-use Rattle.memory.specs.Layout.{ROW-COUNT, BEGUN, CLOCK, WIDTH, TEMPORALS, ASSUMES, GUARANTEES, WAY, ROWS, ROW, OPERANDS, PROPERTIES, ATOMS, OWNERS, SETS, SET, VALUES, TOLD, EARLY, SETTLED, MOVES, FULLEST}
+use Rattle.memory.specs.Layout.{ROW-COUNT, BEGUN, CLOCK, WIDTH, TEMPORALS, ASSUMES, GUARANTEES, WAY, ROWS, ROW, OPERANDS, PROPERTIES, ATOMS, OWNERS, SETS, SET, VALUES, TOLD, EARLY, SETTLED, MOVES, FULLEST, LEDGER, TAKEN, ENTRIES, ENTRY, FAILED, FIRST, LAST, LONGEST, SETTLED-CALL, STRETCH}
 
 -- ---- words read off a memory
 abbrev pub rowCount : List ℕ → ℕ
@@ -116,6 +117,19 @@ movesAt m r = getD m (MOVES + r) 0
 abbrev pub fullestWord : List ℕ → ℕ
 fullestWord m = getD m FULLEST 0
 
+-- ---- the ledger: the number of the last call, how many were accepted, where the entry of property p begins, and its words
+abbrev pub numberWord : List ℕ → ℕ
+numberWord m = getD m LEDGER 0
+
+abbrev pub takenWord : List ℕ → ℕ
+takenWord m = getD m TAKEN 0
+
+abbrev pub entryStart : ℕ → ℕ
+entryStart p = ENTRIES + ENTRY * p
+
+abbrev pub entryWord : List ℕ → ℕ → ℕ → ℕ
+entryWord m p word = getD m (entryStart p + word) 0
+
 -- ---- the monitor that a memory holds: its book
 unfoldable pub rowOf : List ℕ → ℕ → Row ℕ
 rowOf m r = rowFrom (kindAt m r) (argAt m r) (lowerAt m r) (upperAt m r) (drop (startAt m r) (operandsOf m))
@@ -146,4 +160,22 @@ stateOf m = record {
   begun = isOne (begunWord m);
   now = record { clock = clockOf m; atoms = listed (λ i. isOne (atomAt m i)) (widthWord m) };
   sets = listed (setOf m) (rowCount m);
+}
+
+-- and its ledger
+unfoldable pub entryOf : List ℕ → ℕ → Entry
+entryOf m p = record {
+  failed = entryWord m p FAILED;
+  first = entryWord m p FIRST;
+  last = entryWord m p LAST;
+  longest = entryWord m p LONGEST;
+  settled = entryWord m p SETTLED-CALL;
+  stretch = entryWord m p STRETCH;
+}
+
+unfoldable pub ledgerOf : List ℕ → Ledger
+ledgerOf m = record {
+  number = numberWord m;
+  accepted = takenWord m;
+  entries = listed (entryOf m) (assumeCount m + guaranteeCount m);
 }

@@ -3,8 +3,8 @@ ghost use mathlib.Core.Path.{_≡_};
 ghost use Prim.Native.Nat.{_<_};
 ghost use lib.ListN.{getD};
 ghost use Rattle.numbers.specs.Limits.{MOST-ROWS, MOST-OPERANDS, MOST-PROPERTIES, MOST-TEMPORALS};
-ghost use Rattle.memory.specs.Layout.{SIZE};
-ghost use Rattle.memory.specs.Memory.{rowCount, begunWord, clockOf, widthWord, temporals, assumeCount, guaranteeCount, wayWord, kindAt, argAt, lowerAt, upperAt, startAt, wordsAt, slotAt, operandAt, propertyRow, ownerAt, slotWords, valueAt, toldAt, earlyAt, settledAt, movesAt, fullestWord, isOne};
+ghost use Rattle.memory.specs.Layout.{ENTRY, SIZE};
+ghost use Rattle.memory.specs.Memory.{rowCount, begunWord, clockOf, widthWord, temporals, assumeCount, guaranteeCount, wayWord, kindAt, argAt, lowerAt, upperAt, startAt, wordsAt, slotAt, operandAt, propertyRow, ownerAt, slotWords, valueAt, toldAt, earlyAt, settledAt, movesAt, fullestWord, numberWord, takenWord, entryWord, isOne};
 ghost use Rattle.memory.specs.Kept.{BookKept};
 ghost use Rattle.memory.specs.Tables.{propertyCount};
 use numbers::MOST_ATOMS;
@@ -90,8 +90,31 @@ pub const GONE: u64 = 2;
 
 pub const NEITHER: u64 = 0;
 
+// The ledger: the number of the last call, how many calls were accepted, and an entry for each property.
+pub const LEDGER: usize = FULLEST + 1;
+
+pub const TAKEN: usize = LEDGER + 1;
+
+pub const ENTRIES: usize = TAKEN + 1;
+
+// An entry's words: how many calls failed, the first and the last of them, the longest stretch, the call at which the property settled,
+// and the stretch that reaches to the last accepted call.
+pub const ENTRY: usize = 6;
+
+pub const FAILED: usize = 0;
+
+pub const FIRST: usize = 1;
+
+pub const LAST: usize = 2;
+
+pub const LONGEST: usize = 3;
+
+pub const SETTLED_CALL: usize = 4;
+
+pub const STRETCH: usize = 5;
+
 // All words.
-pub const SIZE: usize = FULLEST + 1;
+pub const SIZE: usize = ENTRIES + ENTRY * MOST_PROPERTIES;
 
 // The word at a place.
 pub fn word(monitor: &[u64; SIZE], at: usize) -> u64
@@ -317,4 +340,26 @@ pub fn settled_at(monitor: &[u64; SIZE], i: usize) -> u64
     ensures { λ r. ⌜ r ≡ settledAt (now (monitor .entry)) i ⌝ }
 {
     monitor[SETTLED + i]
+}
+
+// The number of the last call.
+pub fn last_call(monitor: &[u64; SIZE]) -> u64
+    ensures { λ r. ⌜ r ≡ numberWord (now (monitor .entry)) ⌝ }
+{
+    monitor[LEDGER]
+}
+
+// How many calls were accepted.
+pub fn taken(monitor: &[u64; SIZE]) -> u64
+    ensures { λ r. ⌜ r ≡ takenWord (now (monitor .entry)) ⌝ }
+{
+    monitor[TAKEN]
+}
+
+// A word of a property's entry.
+pub fn entry_word(monitor: &[u64; SIZE], i: usize, word: usize) -> u64
+    requires { ⌜ (i < MOST-PROPERTIES) × (word < ENTRY) ⌝ }
+    ensures { λ r. ⌜ r ≡ entryWord (now (monitor .entry)) i word ⌝ }
+{
+    monitor[ENTRIES + ENTRY * i + word]
 }

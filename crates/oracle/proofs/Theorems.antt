@@ -1,15 +1,17 @@
 -- What loading, in each of its ways, and the calls promise over any list of calls: the memory holds the definitions' monitor after those calls, so
 -- that the demands hold of the answers that the code hands back. The history is that of the way of monitoring: of the accepted calls, or with a
 -- time call put in at every instant between. Nothing is assumed.
-use Prim.Native.Nat.{ℕ, _≤_}
-use mathlib.Core.Path.{_≡_, refl, sym, ap, ap₂, _∙_}
+use Prim.Native.Nat.{ℕ, suc, _≤_, _<_}
+use mathlib.Core.Path.{_≡_, sym, ap, ap₂, _∙_}
+use native.Mathlib.Omega.{arith}
 use mathlib.Core.Logic.{_↔_}
 use mathlib.Core.Bool.{Bool, true, not}
 use mathlib.Core.List.{List, _∷_, _++_}
+use lib.ListN.{getD}
 use Rattle.numbers.specs.Refusals.{ACCEPTED}
 use Rattle.numset.specs.Runs.{has}
 use Rattle.pmtl.specs.Answer.{known}
-use Rattle.pmtl.specs.Book.{Range, mapRow, Book, rowAt}
+use Rattle.pmtl.specs.Book.{Range, mapRow, Book, propertyAt, rowAt}
 use Rattle.pmtl.specs.Book.Row.{historically, once, since}
 use Rattle.pmtl.specs.Monitor.{State, setAt, fullest, value}
 use Rattle.pmtl.specs.Early.{early}
@@ -22,11 +24,14 @@ use Rattle.pmtl.proofs.Doubled.{doubled as doubled-call}
 use Rattle.lasts.specs.Lasting.{historyIn}
 use Rattle.lasts.proofs.Loaded.{words-fit}
 use Rattle.lasts.proofs.EitherWay.{value-is as value-in, early-is as early-in, settled-is as settled-in, count-is as count-in, sets-are-instants as sets-in, demand-2 as means, demand-3 as stays, once-holds as once-means, historically-holds as historically-means, since-holds as since-means, never-eleven as strict-never}
-use Rattle.memory.specs.Memory.{clockOf, bookOf, stateOf}
+use Rattle.ledger.specs.Ledger.{LAST-COUNTED, Ledger, next, ledgerIn}
+use Rattle.ledger.proofs.Noted.{next-accepted}
+use Rattle.memory.specs.Layout.{FULLEST, LEDGER}
+use Rattle.memory.specs.Memory.{clockOf, bookOf, stateOf, ledgerOf}
 use Rattle.memory.specs.Kept.{Kept}
-use Rattle.memory.proofs.Same.{same-words}
+use Rattle.memory.proofs.Same.{same-below, same-words}
 use Rattle.property_answers.specs.declared.Verdict.{Verdict}
-use Rattle.property_answers.specs.Verdict.{propertyAt, verdictIn, verdictOf}
+use Rattle.property_answers.specs.Verdict.{verdictIn, verdictOf}
 use Rattle.calls.specs.Called.{Called}
 use Rattle.book.specs.declared.loading.Loading.{Loading}
 use Rattle.book.specs.Judging.{loaded}
@@ -52,6 +57,16 @@ unfolding afterIn
 made-state (loads l) = l .state
 made-state (calls k made c) =
     c .state ∙ ap₂ (λ (b : Book) (st : State). call (b .rows) st k .state) (made-book made) (made-state made)
+
+-- and the ledger of those calls
+next-same : (k : Call) {b b′ : Book} {st st′ : State} {l l′ : Ledger} → b ≡ b′ → st ≡ st′ → l ≡ l′ → next b (call (b .rows) st k) l ≡ next b′ (call (b′ .rows) st′ k) l′
+next-same k eb es el = cc
+
+pub made-ledger : {way : Loading} {words : List ℕ} {ks : List Call} {m : List ℕ} → Made way words ks m → ledgerOf m ≡ ledgerIn (wayIn way) (bookSaid way words) ks
+unfolding ledgerIn
+made-ledger (loads l) = l .ledger
+made-ledger (calls k made c) =
+    c .ledger ∙ next-same k (made-book made) (made-state made) (made-ledger made)
 
 -- a call handed back the definitions' number
 pub made-number : {way : Loading} {words : List ℕ} {ks : List Call} {m m′ : List ℕ} {k : Call} {r : ℕ} → Made way words ks m → Called k m m′ r
@@ -159,29 +174,37 @@ module _ {way : Loading} {words : List ℕ} {ks : List Call} {m : List ℕ} (mad
 -- a call on a memory has one answer and leaves one memory
 pub called-unique : {k : Call} {m m′ m″ : List ℕ} {r q : ℕ} → Called k m m′ r → Called k m m″ q → (r ≡ q) × (m′ ≡ m″)
 called-unique {k} {m} {m′} {m″} c d =
-    (c .number ∙ sym (d .number), same-words m′ m″ (c .kept) (d .kept) (c .book ∙ sym (d .book)) (c .state ∙ sym (d .state)))
+    (c .number ∙ sym (d .number), same-words m′ m″ (c .kept) (d .kept) (c .book ∙ sym (d .book)) (c .state ∙ sym (d .state)) (c .ledger ∙ sym (d .ledger)))
 
 -- so have words loaded and any list of calls
 pub made-unique : {way : Loading} {words : List ℕ} {ks : List Call} {m m′ : List ℕ} → Made way words ks m → Made way words ks m′ → m ≡ m′
 made-unique {way} {words} {ks} {m} {m′} a b =
-    same-words m m′ (made-kept a) (made-kept b) (made-book a ∙ sym (made-book b)) (made-state a ∙ sym (made-state b))
+    same-words m m′ (made-kept a) (made-kept b) (made-book a ∙ sym (made-book b)) (made-state a ∙ sym (made-state b)) (made-ledger a ∙ sym (made-ledger b))
 
--- ---- a call that changes nothing
--- where the definitions' call leaves their state as it is, the call hands back 0 and leaves the memory, word for word
+-- ---- a call that changes nothing but the ledger
+-- where the definitions' call leaves their state as it is, the call hands back 0 and leaves the memory, word for word up to the ledger
 pub stays-word-for-word : {way : Loading} {words : List ℕ} {ks : List Call} {m m′ : List ℕ} {k : Call} {r : ℕ} → Made way words ks m → Called k m m′ r
-    → call (bookSaid way words .rows) (afterIn (wayIn way) (bookSaid way words .rows) ks) k ≡ unchanged (afterIn (wayIn way) (bookSaid way words .rows) ks) → (r ≡ ACCEPTED) × (m′ ≡ m)
+    → call (bookSaid way words .rows) (afterIn (wayIn way) (bookSaid way words .rows) ks) k ≡ unchanged (afterIn (wayIn way) (bookSaid way words .rows) ks)
+    → (r ≡ ACCEPTED) × ((i : ℕ) → i < LEDGER → getD m′ i 0 ≡ getD m i 0)
 unfolding afterIn
 stays-word-for-word {m = m} {m′ = m′} {k = k} made c e =
     let state-is = made-state (calls k made c) ∙ ap (λ (o : Outcome). o .state) e ∙ sym (made-state made) in
-    (made-number made c ∙ ap (λ (o : Outcome). o .number) e, same-words m′ m (c .kept) (made-kept made) (c .book) state-is)
+    (made-number made c ∙ ap (λ (o : Outcome). o .number) e, same-below m′ m (c .kept) (made-kept made) (c .book) state-is)
 
--- DOUBLED: an accepted call made again at once with the same content hands back 0 and the same count, and the memory stays, word for word
-pub doubled : {way : Loading} {words : List ℕ} {ks : List Call} {m m′ m″ : List ℕ} {k : Call} {r q : ℕ} → Made way words ks m → Called k m m′ r → r ≡ ACCEPTED → Called k m′ m″ q
-    → (q ≡ ACCEPTED) × (m″ ≡ m′)
-doubled {way} {words} {ks} {k = k} made first taken second =
-    stays-word-for-word (calls k made first) second
-    (doubled-call (wayIn way) (bookSaid way words .rows) (words-fit way words .ordered) ks k (sym (made-number made first) ∙ taken))
+-- DOUBLED: an accepted call made again at once with the same content hands back 0 and the same count, and the memory stays, word for word up to the
+-- ledger
+module _ {way : Loading} {words : List ℕ} {ks : List Call} {m m′ m″ : List ℕ} {k : Call} {r q : ℕ} (made : Made way words ks m) (first : Called k m m′ r) (taken : r ≡ ACCEPTED) (second : Called k m′ m″ q) where
+  pub doubled : (q ≡ ACCEPTED) × ((i : ℕ) → i < LEDGER → getD m″ i 0 ≡ getD m′ i 0)
+  doubled =
+      stays-word-for-word (calls k made first) second
+      (doubled-call (wayIn way) (bookSaid way words .rows) (words-fit way words .ordered) ks k (sym (made-number made first) ∙ taken))
 
-pub doubled-count : {way : Loading} {words : List ℕ} {ks : List Call} {m m′ m″ : List ℕ} {k : Call} {r q count again : ℕ} → Made way words ks m → Called k m m′ r → r ≡ ACCEPTED → Called k m′ m″ q
-    → count ≡ fullest (stateOf m′) → again ≡ fullest (stateOf m″) → again ≡ count
-doubled-count made first taken second e e′ = e′ ∙ ap (λ (m : List ℕ). fullest (stateOf m)) (doubled made first taken second .1) ∙ sym e
+  pub doubled-count : {count again : ℕ} → count ≡ fullest (stateOf m′) → again ≡ fullest (stateOf m″) → again ≡ count
+  doubled-count e e′ = e′ ∙ sym (second .kept .tables .counts .right) ∙ doubled .1 FULLEST (omega arith) ∙ first .kept .tables .counts .right ∙ sym e
+
+  -- in the ledger it is a call of its own, and one more that was accepted
+  pub doubled-is-counted : ledgerOf m′ .number < LAST-COUNTED → (ledgerOf m″ .number ≡ suc (ledgerOf m′ .number)) × (ledgerOf m″ .accepted ≡ suc (ledgerOf m′ .accepted))
+  doubled-is-counted h =
+      let o = call (bookOf m′ .rows) (stateOf m′) k in
+      let e = second .ledger ∙ next-accepted (bookOf m′) o (ledgerOf m′) h (sym (second .number) ∙ doubled .0) in
+      (ap (λ (l : Ledger). l .number) e, ap (λ (l : Ledger). l .accepted) e)

@@ -1,5 +1,5 @@
 // The library's face, `PmtlOracle` of the original in lent words: a book is loaded into a memory, calls are made on it, and it answers
-// of its properties. A program uses this crate and none of those below it.
+// of its properties and tells what was counted of them. A program uses this crate and none of those below it.
 ghost use mathlib.Core.Path.{_≡_};
 ghost use Rattle.memory.specs.Kept.{Kept};
 ghost use Rattle.property_answers.specs.Verdict.{propertiesIn};
@@ -19,6 +19,7 @@ pub use book::strict::first_excess;
 pub use calls::update_stamped;
 pub use calls::update_state;
 pub use calls::update_time;
+pub use ledger::Summary;
 pub use loader::load;
 pub use loader::load_by;
 pub use loader::load_lasting;
@@ -36,6 +37,8 @@ pub use property_answers::Verdicts;
 pub use property_answers::all;
 pub use property_answers::answers;
 pub use property_answers::of_property;
+pub use property_summaries::summaries;
+pub use property_summaries::summary_of;
 
 // How many properties the book has, assumes and guarantees.
 pub fn property_count(monitor: &[u64; SIZE]) -> usize

@@ -9,7 +9,7 @@ use lib.ListN.{length, getD, take, drop, length-map, List·getD-map}
 use lib.Seq.{ext-getD, take-at}
 use lib.Dec.{ltb}
 use Rattle.numbers.specs.Limits.{LAST-TIME, MOST-ATOMS}
-use Rattle.pmtl.specs.Book.{Book, properties}
+use Rattle.pmtl.specs.Book.{Book, properties, propertyAt}
 use Rattle.pmtl.specs.Sets.{Way, ordinary}
 use Rattle.pmtl.specs.Monitor.{State, value}
 use Rattle.pmtl.specs.Early.{early}
@@ -20,7 +20,7 @@ use Rattle.lists.proofs.Listed.{listed-length, listed-at, listed-agree}
 use Rattle.book.specs.declared.loading.Loading.{Loading}
 use Rattle.book.specs.Loading.{wayIn}
 use Rattle.property_answers.specs.declared.Verdict.{Verdict}
-use Rattle.property_answers.specs.Verdict.{propertyAt, verdictIn, verdictOf, propertiesIn, answersNumber, answersList}
+use Rattle.property_answers.specs.Verdict.{verdictIn, verdictOf, propertiesIn, answersNumber, answersList}
 use Rattle.calls.specs.Called.{Called}
 use Rattle.oracle.specs.Made.{Made, bookSaid}
 use Rattle.oracle.proofs.Theorems.{made-book, made-state, made-number, made-verdict}

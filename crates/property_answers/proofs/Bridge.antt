@@ -5,27 +5,26 @@ use native.Mathlib.Decide.{decLt}
 use mathlib.Core.Path.{_≡_, refl, sym, ap, _∙_}
 use mathlib.Core.Bool.{Bool, cond}
 use mathlib.Core.List.{List, _++_}
-use lib.ListN.{length, getD, take, drop, List·getD-eq-default, length-take, length-drop}
-use lib.Seq.{getD-take, getD-drop, take-add, drop-drop}
+use lib.ListN.{length, getD, drop, List·getD-eq-default}
 use borrow.Author.Tests.{lt-ltb, le-ltb}
-use Rattle.lists.specs.Lists.{part, listed, filledTo}
+use Rattle.lists.specs.Lists.{listed, filledTo}
 use Rattle.lists.proofs.Listed.{listed-at}
-use Rattle.lists.proofs.Filled.{any-default, filledTo-is}
+use Rattle.lists.proofs.Filled.{filledTo-is}
 use Rattle.pmtl.specs.declared.Answer.{Answer}
 use Rattle.pmtl.specs.declared.Answer.the-variants.{False, True, Open}
 use Rattle.pmtl.specs.Answer.{digitOf}
-use Rattle.pmtl.specs.Book.{properties}
+use Rattle.pmtl.specs.Book.{properties, propertyAt}
 use Rattle.pmtl.specs.Monitor.{value}
 use Rattle.pmtl.specs.Early.{early}
 use Rattle.pmtl.specs.Settled.{settled}
 use Rattle.pmtl.proofs.Answers.{value-out, early-out, settled-out}
-use Rattle.memory.specs.Layout.{PROPERTIES}
 use Rattle.memory.specs.Memory.{rowCount, assumeCount, guaranteeCount, propertyRow, valueAt, earlyAt, settledAt, isOne, rowsOf, bookOf, stateOf}
 use Rattle.memory.specs.Tables.{propertyCount}
 use Rattle.memory.specs.Kept.{Kept}
 use Rattle.memory.proofs.Bits.{bit-back}
+use Rattle.memory.proofs.Properties.{properties-length, property-is}
 use Rattle.property_answers.specs.declared.Verdict.{Verdict}
-use Rattle.property_answers.specs.Verdict.{propertyAt, verdictIn, verdictOf, propertiesIn, answersNumber, answersList}
+use Rattle.property_answers.specs.Verdict.{verdictIn, verdictOf, propertiesIn, answersNumber, answersList}
 use Rattle.property_answers.specs.Private.{answerOf, absent, blank, Answered}
 
 -- a verdict is its three answers
@@ -35,25 +34,8 @@ together ev ee es = cc
 
 -- ---- the properties of a memory's book
 module _ (m : List ℕ) where
-  properties-are : properties (bookOf m) ≡ part PROPERTIES (assumeCount m + guaranteeCount m) m
-  unfolding bookOf
-  properties-are = sym (take-add (assumeCount m) (guaranteeCount m) (drop PROPERTIES m) ∙ ap (λ l. take (assumeCount m) (drop PROPERTIES m) ++ take (guaranteeCount m) l) (drop-drop (assumeCount m) PROPERTIES m))
-
-  pub properties-length : Kept m → propertiesIn m ≡ assumeCount m + guaranteeCount m
-  properties-length kept =
-      let long = kept .sound .book .long in
-      let a = kept .sound .book .assumes-few in
-      let g = kept .sound .book .guarantees-few in
-      rw properties-are (simp (length-take, length-drop) (omega arith))
-
-  pub property-is : Kept m → (i : ℕ) → i < assumeCount m + guaranteeCount m → propertyAt (bookOf m) i ≡ getD m (PROPERTIES + i) 0
-  property-is kept i h =
-      let long = properties-length kept in
-      any-default (properties (bookOf m)) i (length (bookOf m .rows)) 0 (omega arith)
-      ∙ ap (λ l. getD l i 0) properties-are ∙ getD-take _ (drop PROPERTIES m) i 0 h ∙ getD-drop PROPERTIES m i 0
-
   property-out : Kept m → (i : ℕ) → assumeCount m + guaranteeCount m ≤ i → propertyAt (bookOf m) i ≡ length (bookOf m .rows)
-  property-out kept i h = let long = properties-length kept in List·getD-eq-default (properties (bookOf m)) _ (omega arith)
+  property-out kept i h = let long = properties-length m (kept .sound .book) in List·getD-eq-default (properties (bookOf m)) _ (omega arith)
 
   -- the answers of a property that is not there
   pub verdict-out : Kept m → (i : ℕ) → assumeCount m + guaranteeCount m ≤ i → verdictOf m i ≡ absent
@@ -75,7 +57,7 @@ pub verdict-in : {m : List ℕ} → Kept m → (i : ℕ) → i < propertyCount m
     → ds ≡ settledAt m i → s ≡ answerOf ds → verdictOf m i ≡ record { value = v; early = e; settled = s }
 unfolding verdictIn bookOf
 verdict-in {m} kept i h {row} is ev ede ee eds es =
-    let p : propertyAt (bookOf m) i ≡ propertyRow m i = property-is m kept i h in
+    let p : propertyAt (bookOf m) i ≡ propertyRow m i = property-is m (kept .sound .book) i h in
     let inside : propertyRow m i < rowCount m = kept .sound .book .properties i h in
     together
     (ap (value (rowsOf m) (stateOf m)) p ∙ sym (ev ∙ ap (λ (r : ℕ). isOne (valueAt m r)) is ∙ ap isOne (kept .tables .valued .right (propertyRow m i) inside) ∙ bit-back _))
@@ -84,7 +66,7 @@ verdict-in {m} kept i h {row} is ev ede ee eds es =
 
 -- ---- all answers into a lent list
 pub few-properties : (m : List ℕ) → Kept m → propertiesIn m ≤ 32
-few-properties m kept = let e = properties-length m kept in let a = kept .sound .book .assumes-few in let g = kept .sound .book .guarantees-few in omega arith
+few-properties m kept = let e = properties-length m (kept .sound .book) in let a = kept .sound .book .assumes-few in let g = kept .sound .book .guarantees-few in omega arith
 
 module _ (m : List ℕ) {room count : ℕ} {list : List Verdict} (count-is : count ≡ propertiesIn m) (list-is : list ≡ listed (verdictOf m) 32) where
   -- the list is too short, or not

@@ -2,9 +2,9 @@
 use Prim.Native.Nat.{ℕ}
 use mathlib.Core.Bool.{cond}
 use mathlib.Core.List.{List, _++_}
-use lib.ListN.{length, getD, drop}
+use lib.ListN.{length, drop}
 use lib.Dec.{ltb}
-use Rattle.pmtl.specs.Book.{Book, properties}
+use Rattle.pmtl.specs.Book.{Book, properties, propertyAt}
 use Rattle.pmtl.specs.Monitor.{State, value}
 use Rattle.pmtl.specs.Early.{early}
 use Rattle.pmtl.specs.Settled.{settled}
@@ -12,10 +12,6 @@ use Rattle.memory.specs.Memory.{bookOf, stateOf}
 use Rattle.lists.specs.Lists.{listed}
 use Rattle.property_answers.specs.declared.Verdict.{Verdict}
 use Rattle.numbers.specs.Refusals.{ACCEPTED, LIST-TOO-SHORT}
-
--- the row of property i, assumes first; a row that is not there if there is no such property
-abbrev pub propertyAt : Book → ℕ → ℕ
-propertyAt b i = getD (properties b) i (length (b .rows))
 
 -- the answers of property i in a state
 unfoldable pub verdictIn : Book → State → ℕ → Verdict

@@ -11,6 +11,8 @@ use Rattle.pmtl.specs.Book.{Rows, some}
 use Rattle.pmtl.specs.Monitor.{Snap, State}
 use Rattle.pmtl.specs.Calls.{Call, Outcome, timeRefusal, stateRefusal, firstOf, turns, refusal, play, call}
 use Rattle.pmtl.specs.Calls.Call.{state, stamped}
+use Rattle.ledger.specs.Ledger.{next}
+use Rattle.memory.specs.Memory.{bookOf, stateOf, ledgerOf}
 use Rattle.calls.specs.Called.{Called}
 use Rattle.text_reader.specs.Reads.{byteOf}
 
@@ -66,11 +68,12 @@ unfolding refusal
 stamped-bytewise t = by-parts (stamped t) (λ b now ws. ap (firstOf (timeRefusal now t)) (same-wrong b ws)) (λ now ws. rw (same-bits ws))
 
 pub as-words : (asCall : List ℕ → Call) → Bytewise asCall → (ws : List ℕ) {m m′ : List ℕ} {r : ℕ} → Called (asCall (map byteOf ws)) m m′ r → Called (asCall ws) m m′ r
-as-words asCall same ws c =
+as-words asCall same ws {m} c =
     record {
       number = c .number ∙ ap (λ (o : Outcome). o .number) (same _ _ ws);
       state = c .state ∙ ap (λ (o : Outcome). o .state) (same _ _ ws);
       book = c .book;
+      ledger = c .ledger ∙ ap (λ (o : Outcome). next (bookOf m) o (ledgerOf m)) (same (bookOf m .rows) (stateOf m) ws);
       refused = c .refused;
       kept = c .kept;
     }

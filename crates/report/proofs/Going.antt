@@ -12,8 +12,9 @@ use Rattle.text.proofs.Supplies.{word, refused as ended}
 use Rattle.pmtl.specs.Book.{Rows, Book}
 use Rattle.pmtl.specs.Sets.{Way}
 use Rattle.pmtl.specs.Monitor.{State, initialIn}
-use Rattle.pmtl.specs.Calls.{Outcome, call}
-use Rattle.memory.specs.Memory.{bookOf, stateOf}
+use Rattle.pmtl.specs.Calls.{Call, Outcome, call}
+use Rattle.ledger.specs.Ledger.{Ledger, blankLedger, next as nextLedger, ledgerFrom}
+use Rattle.memory.specs.Memory.{bookOf, stateOf, ledgerOf}
 use Rattle.book.specs.Reading.{got, refused}
 use Rattle.book.specs.declared.loading.Loading.{Loading}
 use Rattle.book.specs.declared.strict.Excess.{Excess}
@@ -30,12 +31,18 @@ use Rattle.buffer_writer.specs.Finish.{finish, Wrote}
 use Rattle.report.specs.declared.text_calls.Turn.{Turn}
 use Rattle.report.specs.declared.text_calls.Turn.the-variants.{Made, Stopped}
 use Rattle.numbers.specs.Limits.{LONGEST-INPUT}
-use Rattle.report.specs.Lines.{callFrom, orStop, endingOf, callsFrom, callsAfter, lineOf, linesOf, linesFrom, callLines, bookThen, bookLines, lines}
+use Rattle.report.specs.Lines.{CallsRead, callThen, callFrom, orStop, endingOf, callsFrom, callsAfter, lineOf, linesOf, endLines, linesFrom, callLines, bookThen, bookLines, lines}
 use Rattle.report.specs.Report.{bookLine, stopLine, callLine, lastLine, line, written, report}
 use Rattle.report.specs.Private.{CallMade, Turned}
 
 outcome-is : {o : Outcome} {n : ℕ} {st : State} → n ≡ o .number → st ≡ o .state → o ≡ record { number = n; state = st }
 outcome-is e f = rw (e, f)
+
+-- the line of one call, and the lines after it
+one-call : (b : Book) (done : ℕ) (st : State) (l : Ledger) (k : Call) (r : CallsRead) {o : Outcome} → call (b .rows) st k ≡ o
+    → written (linesFrom b done st l (callThen k r)) ≡ callLine (lineOf b (suc done) o) ++ written (linesFrom b (suc done) (o .state) (nextLedger b o l) r)
+unfolding written line linesFrom linesOf ledgerFrom
+one-call b done st l k r e = ap (λ (o : Outcome). callLine (lineOf b (suc done) o) ++ written (linesFrom b (suc done) (o .state) (nextLedger b o l) r)) e
 
 -- ---- the lines of the calls: so many are done, and what is still owed comes to what was owed at first
 pub record Going (input : List ℕ) (from count : ℕ) (m₀ out₀ : List ℕ) (start : ℕ) (m out : List ℕ) (at cursor done : ℕ) : Type 0 where
@@ -44,7 +51,7 @@ pub record Going (input : List ℕ) (from count : ℕ) (m₀ out₀ : List ℕ) 
   pub kept : Kept m
   pub book : bookOf m ≡ bookOf m₀
   pub on : supplyFrom input cursor .ending ≡ supplyFrom input from .ending
-  pub owed : finish out at (written (linesFrom (bookOf m₀) done (stateOf m) (callsFrom (supplyFrom input from .ending) (count - done) (supplyFrom input cursor .words)))) ≡ finish out₀ start (written (linesFrom (bookOf m₀) 0 (stateOf m₀) (callsFrom (supplyFrom input from .ending) count (supplyFrom input from .words))))
+  pub owed : finish out at (written (linesFrom (bookOf m₀) done (stateOf m) (ledgerOf m) (callsFrom (supplyFrom input from .ending) (count - done) (supplyFrom input cursor .words)))) ≡ finish out₀ start (written (linesFrom (bookOf m₀) 0 (stateOf m₀) (ledgerOf m₀) (callsFrom (supplyFrom input from .ending) count (supplyFrom input from .words))))
 
 pub go-start : (input : List ℕ) (from count : ℕ) (m out : List ℕ) (start : ℕ) → Kept m → Going input from count m out start m out start from 0
 go-start input from count m out start k =
@@ -63,12 +70,21 @@ module _ {input : List ℕ} {from count : ℕ} {m₀ out₀ : List ℕ} {start :
     made : call (bookOf m₀ .rows) (stateOf m) (c .what) ≡ record { number = r; state = stateOf m′ }
     made = rw (← g .book) (outcome-is (c .called .number) (c .called .state))
 
+    noted : nextLedger (bookOf m₀) (record { number = r; state = stateOf m′ }) (ledgerOf m) ≡ ledgerOf m′
+    noted = ap (λ (o : Outcome). nextLedger (bookOf m₀) o (ledgerOf m)) (sym made) ∙ ap (λ (b : Book). nextLedger b (call (b .rows) (stateOf m) (c .what)) (ledgerOf m)) (sym (g .book)) ∙ sym (c .called .ledger)
+
     asked : callFrom (supplyFrom input from .ending) (supplyFrom input cursor .words) ≡ got (c .what) (supplyFrom input next .words)
     asked = rw (g .on) at (c .read)
 
-    step : (k : ℕ) → count - done ≡ suc k → written (linesFrom (bookOf m₀) done (stateOf m) (callsFrom (supplyFrom input from .ending) (count - done) (supplyFrom input cursor .words))) ≡ callLine (lineOf (bookOf m₀) (done + 1) (record { number = r; state = stateOf m′ })) ++ written (linesFrom (bookOf m₀) (done + 1) (stateOf m′) (callsFrom (supplyFrom input from .ending) k (supplyFrom input next .words)))
-    unfolding written line linesFrom linesOf callsFrom orStop
-    step k e = rw (e, asked, made, add-one)
+    call-read : (k : ℕ) → callsFrom (supplyFrom input from .ending) (suc k) (supplyFrom input cursor .words) ≡ callThen (c .what) (callsFrom (supplyFrom input from .ending) k (supplyFrom input next .words))
+    unfolding callsFrom orStop
+    call-read k = rw asked
+
+    step : (k : ℕ) → count - done ≡ suc k → written (linesFrom (bookOf m₀) done (stateOf m) (ledgerOf m) (callsFrom (supplyFrom input from .ending) (count - done) (supplyFrom input cursor .words))) ≡ callLine (lineOf (bookOf m₀) (done + 1) (record { number = r; state = stateOf m′ })) ++ written (linesFrom (bookOf m₀) (done + 1) (stateOf m′) (ledgerOf m′) (callsFrom (supplyFrom input from .ending) k (supplyFrom input next .words)))
+    step k e =
+        let rest = callsFrom (supplyFrom input from .ending) k (supplyFrom input next .words) in
+        rw (e, call-read k) (one-call (bookOf m₀) done (stateOf m) (ledgerOf m) (c .what) rest made)
+        ∙ ap₂ (λ (n : ℕ) (l : Ledger). callLine (lineOf (bookOf m₀) n (record { number = r; state = stateOf m′ })) ++ written (linesFrom (bookOf m₀) n (stateOf m′) l rest)) (sym (add-one done)) noted
 
     pub go-more : {out′ : List ℕ} {at′ : ℕ} → done < count → Wrote out at (callLine (lineOf (bookOf m′) (done + 1) (record { number = r; state = stateOf m′ }))) out′ at′ → length out′ ≡ length out → Going input from count m₀ out₀ start m′ out′ at′ next (done + 1)
     go-more h w z =
@@ -80,38 +96,38 @@ module _ {input : List ℕ} {from count : ℕ} {m₀ out₀ : List ℕ} {start :
           kept = c .called .kept;
           book = b;
           on = c .ending-on ∙ g .on;
-          owed = sym (w′ .same (written (linesFrom (bookOf m₀) (done + 1) (stateOf m′) (callsFrom (supplyFrom input from .ending) (count - (done + 1)) (supplyFrom input next .words))))) ∙ sym (ap (finish out at) (step (count - (done + 1)) (omega arith))) ∙ g .owed;
+          owed = sym (w′ .same (written (linesFrom (bookOf m₀) (done + 1) (stateOf m′) (ledgerOf m′) (callsFrom (supplyFrom input from .ending) (count - (done + 1)) (supplyFrom input next .words))))) ∙ sym (ap (finish out at) (step (count - (done + 1)) (omega arith))) ∙ g .owed;
         }
 
-  halt : {n : ℕ} (k : ℕ) → callFrom (supplyFrom input cursor .ending) (supplyFrom input cursor .words) ≡ refused n → count - done ≡ suc k → written (linesFrom (bookOf m₀) done (stateOf m) (callsFrom (supplyFrom input from .ending) (count - done) (supplyFrom input cursor .words))) ≡ stopLine n
-  unfolding written line lastLine linesFrom linesOf callsFrom orStop
+  halt : {n : ℕ} (k : ℕ) → callFrom (supplyFrom input cursor .ending) (supplyFrom input cursor .words) ≡ refused n → count - done ≡ suc k → written (linesFrom (bookOf m₀) done (stateOf m) (ledgerOf m) (callsFrom (supplyFrom input from .ending) (count - done) (supplyFrom input cursor .words))) ≡ stopLine n
+  unfolding written line lastLine linesFrom linesOf endLines callsFrom orStop
   halt {n} k e f = let a = rw (g .on) at e in rw (f, a) (append-nil (stopLine n))
 
   go-refused : (m′ : List ℕ) {t : Turn} {n : ℕ} → Next m′ t → t ≡ Stopped n → callFrom (supplyFrom input cursor .ending) (supplyFrom input cursor .words) ≡ refused n
   unfolding Turned
   go-refused m′ k e = rw e at k
 
-  pub go-stop : (m′ : List ℕ) {t : Turn} {h : Handed} {n k : ℕ} → Next m′ t → t ≡ Stopped n → done < count → h ≡ finish out at (stopLine k) → k ≡ n → h ≡ finish out₀ start (written (linesFrom (bookOf m₀) 0 (stateOf m₀) (callsFrom (supplyFrom input from .ending) count (supplyFrom input from .words))))
+  pub go-stop : (m′ : List ℕ) {t : Turn} {h : Handed} {n k : ℕ} → Next m′ t → t ≡ Stopped n → done < count → h ≡ finish out at (stopLine k) → k ≡ n → h ≡ finish out₀ start (written (linesFrom (bookOf m₀) 0 (stateOf m₀) (ledgerOf m₀) (callsFrom (supplyFrom input from .ending) count (supplyFrom input from .words))))
   go-stop m′ {n = n} c e l p f =
       p ∙ ap (λ (x : ℕ). finish out at (stopLine x)) f
       ∙ sym (ap (finish out at) (halt (count - (done + 1)) (go-refused m′ c e) (omega arith))) ∙ g .owed
 
-  none : count - done ≡ zero → written (linesFrom (bookOf m₀) done (stateOf m) (callsFrom (supplyFrom input from .ending) (count - done) (supplyFrom input cursor .words))) ≡ lastLine (endingOf (supplyFrom input from .ending) (supplyFrom input cursor .words))
-  unfolding written line linesFrom linesOf callsFrom
-  none e = rw e (append-nil (lastLine _))
+  none : count - done ≡ zero → written (linesFrom (bookOf m₀) done (stateOf m) (ledgerOf m) (callsFrom (supplyFrom input from .ending) (count - done) (supplyFrom input cursor .words))) ≡ written (endLines (ledgerOf m) (endingOf (supplyFrom input from .ending) (supplyFrom input cursor .words)))
+  unfolding linesFrom linesOf ledgerFrom callsFrom
+  none e = rw e
 
-  pub go-end : {h : Handed} → count ≤ done → h ≡ finish out at (lastLine (endingOf (supplyFrom input cursor .ending) (supplyFrom input cursor .words))) → h ≡ finish out₀ start (written (linesFrom (bookOf m₀) 0 (stateOf m₀) (callsFrom (supplyFrom input from .ending) count (supplyFrom input from .words))))
+  pub go-end : {h : Handed} → count ≤ done → h ≡ finish out at (written (endLines (ledgerOf m) (endingOf (supplyFrom input cursor .ending) (supplyFrom input cursor .words)))) → h ≡ finish out₀ start (written (linesFrom (bookOf m₀) 0 (stateOf m₀) (ledgerOf m₀) (callsFrom (supplyFrom input from .ending) count (supplyFrom input from .words))))
   go-end {h} l p = let q = rw (g .on) at p in q ∙ sym (ap (finish out at) (none (omega arith))) ∙ g .owed
 
 -- ---- the calls after their count
 module _ (input : List ℕ) (cursor : ℕ) (out : List ℕ) (at : ℕ) (way : Way) (b : Book) where
   pub no-count : {h : Handed} {r n : ℕ} → nextWord input cursor ≡ Refused r → n ≡ r → h ≡ finish out at (stopLine n) → h ≡ finish out at (written (callLines way b (supplyFrom input cursor .ending) (supplyFrom input cursor .words)))
-  unfolding written line lastLine linesFrom linesOf callLines callsAfter
+  unfolding written line lastLine linesFrom linesOf endLines callLines callsAfter
   no-count {h} e f p = let s = ended input cursor e in p ∙ rw (s, f, append-nil)
 
-  pub after-count : {h : Handed} {count from : ℕ} {st : State} → nextWord input cursor ≡ Word count from → st ≡ initialIn way (b .rows) → h ≡ finish out at (written (linesFrom b 0 st (callsFrom (supplyFrom input from .ending) count (supplyFrom input from .words)))) → h ≡ finish out at (written (callLines way b (supplyFrom input cursor .ending) (supplyFrom input cursor .words)))
+  pub after-count : {h : Handed} {count from : ℕ} {st : State} {l : Ledger} → nextWord input cursor ≡ Word count from → st ≡ initialIn way (b .rows) → l ≡ blankLedger b → h ≡ finish out at (written (linesFrom b 0 st l (callsFrom (supplyFrom input from .ending) count (supplyFrom input from .words)))) → h ≡ finish out at (written (callLines way b (supplyFrom input cursor .ending) (supplyFrom input cursor .words)))
   unfolding callLines callsAfter
-  after-count {h} e f p = let s = word input cursor e .gave in p ∙ rw (s, f)
+  after-count {h} e f k p = let s = word input cursor e .gave in p ∙ rw (s, f, k)
 
 -- ---- the book, and what follows it
 -- a fresh monitor is in the way that its book was loaded for
@@ -121,6 +137,9 @@ way-loaded way b e = ap (λ (st : State). st .way) e
 
 pub fresh-in : {st : State} (way : Way) {b b′ : Book} → b′ ≡ b → st ≡ initialIn way (b .rows) → st ≡ initialIn (st .way) (b′ .rows)
 fresh-in way {b} f e = e ∙ ap₂ (λ (way : Way) (b : Book). initialIn way (b .rows)) (sym (way-loaded way (b .rows) e)) (sym f)
+
+pub blank-in : {l : Ledger} {b b′ : Book} → b′ ≡ b → l ≡ blankLedger b → l ≡ blankLedger b′
+blank-in f e = e ∙ ap blankLedger (sym f)
 
 module _ (way : Loading) (l : Loaded) (ending : ℕ) (ws : List ℕ) where
   pub book-accepted : {out out₁ : List ℕ} {at n : ℕ} {h : Handed} {w : Way} {b : Book} → Wrote out 0 (bookLine n Within) out₁ at → n ≡ 0 → n ≡ admitted way l .number → b ≡ admitted way l .book → w ≡ wayIn way

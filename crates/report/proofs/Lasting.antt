@@ -10,12 +10,9 @@ use lib.Dec.{lit≤}
 use lib.ListN.{length, take, drop, length-drop}
 use lib.Seq.{take-all}
 use borrow.Author.Tests.{eq-eqb, ne-eqb}
-use Rattle.text.specs.Words.{space, lineFeed, digit0, nextWord, supplyFrom}
-use Rattle.numbers.specs.Refusals.{BAD-WORD}
-use Rattle.text.specs.declared.words.Read.the-variants.{Word, Refused}
+use Rattle.text.specs.Words.{space, lineFeed, digit0}
 use Rattle.text.specs.Decimals.{decimal}
 use Rattle.text.proofs.Digits.{one-place}
-use Rattle.text.proofs.Supplies.{word, refused as ended}
 use Rattle.pmtl.specs.declared.Answer.{Answer}
 use Rattle.pmtl.specs.declared.Answer.the-variants.{False, True, Open}
 use Rattle.pmtl.specs.Answer.{bitOf, digitOf}
@@ -26,30 +23,16 @@ use Rattle.memory.specs.Memory.{rowCount, propertyRow, valueAt, earlyAt, settle
 use Rattle.memory.specs.Tables.{propertyCount, valueOf, earlyOf, settledOf}
 use Rattle.memory.specs.Kept.{Kept}
 use Rattle.property_answers.specs.Verdict.{verdictIn, verdictOf}
-use Rattle.property_answers.proofs.Bridge.{properties-length, property-is}
+use Rattle.memory.proofs.Properties.{properties-length, property-is}
 use Rattle.buffer_writer.specs.Buffer.{Handed}
 use Rattle.buffer_writer.specs.Finish.{finish, Wrote}
 use Rattle.buffer_writer.proofs.Writes.{and-then}
-use Rattle.report.specs.Lines.{PropertyWord, wordOf, endingOf, restOf, lineOf}
-use Rattle.report.specs.Report.{excessWords, stopLine, endLine, propertyWord, propertyWords, restWords, callLine, lastLine}
+use Rattle.report.specs.Lines.{PropertyWord, wordOf, restOf, lineOf}
+use Rattle.report.specs.Report.{excessWords, propertyWord, propertyWords, restWords, callLine}
 use Rattle.report.specs.Private.{digitWord, wordAt, digitWords, digitRest, digitLine}
 
 pub ending : {h : Handed} (out : List ℕ) (at : ℕ) {x y : List ℕ} → h ≡ finish out at x → x ≡ y → h ≡ finish out at y
 ending out at p e = p ∙ ap (finish out at) e
-
--- ---- the last line
-module _ (input : List ℕ) (cursor : ℕ) where
-  pub last-word : {w next : ℕ} → nextWord input cursor ≡ Word w next → stopLine 1 ≡ lastLine (endingOf (supplyFrom input cursor .ending) (supplyFrom input cursor .words))
-  unfolding lastLine endingOf
-  last-word e = rw (word input cursor e .gave)
-
-  pub last-bad : {n : ℕ} → nextWord input cursor ≡ Refused n → n ≡ BAD-WORD → stopLine BAD-WORD ≡ lastLine (endingOf (supplyFrom input cursor .ending) (supplyFrom input cursor .words))
-  unfolding lastLine endingOf
-  last-bad {n} e f = rw (ended input cursor e, eq-eqb n BAD-WORD f)
-
-  pub last-end : {n : ℕ} → nextWord input cursor ≡ Refused n → (n ≡ BAD-WORD → ⊥) → endLine ≡ lastLine (endingOf (supplyFrom input cursor .ending) (supplyFrom input cursor .words))
-  unfolding lastLine endingOf
-  last-end {n} e f = rw (ended input cursor e, ne-eqb n BAD-WORD f)
 
 -- ---- what strict loading refuses
 pub excess-none : (e : Excess) (out : List ℕ) (at : ℕ) → e ≡ Within → Wrote out at (excessWords e) out at
@@ -135,7 +118,7 @@ module _ {m : List ℕ} (kept : Kept m) (i : ℕ) (h : i < propertyCount m) wher
   word-said : wordAt m i ≡ propertyWord (wordOf (verdictOf m i))
   unfolding digitWord propertyWord verdictIn bookOf
   word-said =
-      let p = property-is m kept i h in
+      let p = property-is m (kept .sound .book) i h in
       rw (kept .tables .valued .right (propertyRow m i) inside, kept .tables .answered .early i h, kept .tables .answered .settled i h, p)
 
 said-words : {m : List ℕ} → Kept m → (n : ℕ) → n ≤ propertyCount m → digitWords m n ≡ propertyWords (listed (λ p. wordOf (verdictOf m p)) n)
@@ -147,7 +130,7 @@ said-words {m} kept (suc i) h =
 
 rest-said : {m : List ℕ} → Kept m → digitRest m ≡ restWords (restOf (bookOf m) (stateOf m))
 unfolding digitRest restWords
-rest-said {m} kept = rw (properties-length m kept, said-words kept (propertyCount m) (omega arith), kept .tables .counts .right)
+rest-said {m} kept = rw (properties-length m (kept .sound .book), said-words kept (propertyCount m) (omega arith), kept .tables .counts .right)
 
 pub line-said : {m : List ℕ} → Kept m → {number : List ℕ} (i r : ℕ) → number ≡ decimal i → digitLine number r (digitRest m) ≡ callLine (lineOf (bookOf m) i (record { number = r; state = stateOf m }))
 unfolding digitLine callLine lineOf restWords

@@ -22,6 +22,8 @@ use Rattle.book.specs.declared.strict.Excess.the-variants.{Within}
 use Rattle.book.specs.Strict.{excessBy}
 use Rattle.book.specs.Loading.{wayIn, admitted}
 use Rattle.book.specs.Judging.{Loaded, loadedFrom}
+use Rattle.ledger.specs.declared.Summary.{Summary}
+use Rattle.ledger.specs.Ledger.{Ledger, blankLedger, summaryAt, ledgerFrom}
 use Rattle.property_answers.specs.declared.Verdict.{Verdict}
 use Rattle.property_answers.specs.Verdict.{verdictIn}
 
@@ -57,10 +59,11 @@ pub data Ending : Type 0 where
   end : Ending
   stop : ℕ → Ending
 
--- a line: the book's number, and what strict loading refuses in it; a call; how it ended
+-- a line: the book's number, and what strict loading refuses in it; a call; the summary of a property; how it ended
 pub data Line : Type 0 where
   book : ℕ → Excess → Line
   called : CallLine → Line
+  summed : Summary → Line
   last : Ending → Line
 
 -- ---- reading calls: `0 time`; or `1 width` and that many state words; or `2 time width` and those; another kind is 13
@@ -132,13 +135,22 @@ unfoldable pub linesOf : Book → ℕ → State → List Call → List CallLine
 linesOf b done st [] = []
 linesOf b done st (k ∷ ks) = lineOf b (suc done) (call (b .rows) st k) ∷ linesOf b (suc done) (call (b .rows) st k .state) ks
 
--- and the last line
-unfoldable pub linesFrom : Book → ℕ → State → CallsRead → List Line
-linesFrom b done st r = map called (linesOf b done st (r .calls)) ++ last (r .ends) ∷ []
+-- the summaries of the properties, assumes first
+abbrev pub summariesOf : Ledger → List Summary
+summariesOf l = listed (summaryAt l) (length (l .entries))
+
+-- the lines after the calls, by what was counted of them: the summaries and `end`; or `stop` alone
+unfoldable pub endLines : Ledger → Ending → List Line
+endLines l end = map summed (summariesOf l) ++ last end ∷ []
+endLines l (stop n) = last (stop n) ∷ []
+
+-- both, from a state and a ledger
+unfoldable pub linesFrom : Book → ℕ → State → Ledger → CallsRead → List Line
+linesFrom b done st l r = map called (linesOf b done st (r .calls)) ++ endLines (ledgerFrom b st l (r .calls)) (r .ends)
 
 -- those of the calls on a fresh monitor, in a way of monitoring
 unfoldable pub callLines : Way → Book → ℕ → List ℕ → List Line
-callLines way b ending ws = linesFrom b 0 (initialIn way (b .rows)) (callsAfter ending ws)
+callLines way b ending ws = linesFrom b 0 (initialIn way (b .rows)) (blankLedger b) (callsAfter ending ws)
 
 -- a book, loaded or refused in this way of loading: nothing follows a refused book
 unfoldable pub bookThen : Loading → Loaded → ℕ → List ℕ → List Line

@@ -8,7 +8,8 @@ use Rattle.text.specs.Words.{space, digit0, supplyFrom}
 use Rattle.text.specs.Decimals.{decimal}
 use Rattle.pmtl.specs.Calls.{Call}
 use Rattle.book.specs.Reading.{Read, got, refused}
-use Rattle.memory.specs.Memory.{propertyRow, valueAt, earlyAt, settledAt, fullestWord}
+use Rattle.memory.specs.Layout.{FAILED, FIRST, LAST, LONGEST, SETTLED-CALL}
+use Rattle.memory.specs.Memory.{propertyRow, valueAt, earlyAt, settledAt, fullestWord, takenWord, entryWord}
 use Rattle.memory.specs.Tables.{propertyCount}
 use Rattle.calls.specs.Called.{Called}
 use Rattle.report.specs.Report.{ended}
@@ -52,3 +53,24 @@ digitRest m = digitWords m (propertyCount m) ++ space ∷ decimal (fullestWord m
 -- the digits of a call's number and its refusal; if 0, what follows them
 unfoldable pub digitLine : List ℕ → ℕ → List ℕ → List ℕ
 digitLine number refusal rest = number ++ space ∷ decimal refusal ++ cond (eqb refusal 0) rest [] ++ ended
+
+-- ---- the summaries from the words that a memory's ledger has
+-- a number, after a space
+abbrev pub numberAfter : ℕ → List ℕ
+numberAfter n = space ∷ decimal n
+
+-- of property i the numbers on failed calls; how long a stretch and where it settled
+unfoldable pub failWords : List ℕ → ℕ → List ℕ
+failWords m i = numberAfter (entryWord m i FAILED) ++ numberAfter (entryWord m i FIRST) ++ numberAfter (entryWord m i LAST)
+
+unfoldable pub spanWords : List ℕ → ℕ → List ℕ
+spanWords m i = numberAfter (entryWord m i LONGEST) ++ numberAfter (entryWord m i SETTLED-CALL)
+
+-- its line
+unfoldable pub summaryWords : List ℕ → ℕ → List ℕ
+summaryWords m i = decimal (takenWord m) ++ failWords m i ++ spanWords m i ++ ended
+
+-- the lines of the first n properties
+unfoldable pub allSummaryWords : List ℕ → ℕ → List ℕ
+allSummaryWords m zero = []
+allSummaryWords m (suc i) = allSummaryWords m i ++ summaryWords m i

@@ -6,7 +6,8 @@ use Rattle.text.specs.Decimals.{decimal}
 use Rattle.book.specs.declared.loading.Loading.{Loading}
 use Rattle.book.specs.declared.strict.Excess.{Excess}
 use Rattle.book.specs.declared.strict.Excess.the-variants.{Within, Over}
-use Rattle.report.specs.Lines.{PropertyWord, Rest, nothing, told, CallLine, Ending, end, stop, Line, book, called, last, lines}
+use Rattle.ledger.specs.declared.Summary.{Summary}
+use Rattle.report.specs.Lines.{PropertyWord, Rest, nothing, told, CallLine, Ending, end, stop, Line, book, called, summed, last, lines}
 
 -- ---- lines. The words book, stop and end are fixed
 abbrev pub bookWord : List ℕ
@@ -58,10 +59,16 @@ restWords (told ws count) = propertyWords ws ++ space ∷ decimal count
 unfoldable pub callLine : CallLine → List ℕ
 callLine l = decimal (l .number) ++ space ∷ decimal (l .refusal) ++ restWords (l .rest) ++ ended
 
+-- a property's summary: six numbers parted by one space
+unfoldable pub summaryLine : Summary → List ℕ
+summaryLine s =
+    decimal (s .accepted) ++ space ∷ decimal (s .failed) ++ space ∷ decimal (s .first) ++ space ∷ decimal (s .last) ++ space ∷ decimal (s .longest) ++ space ∷ decimal (s .settled) ++ ended
+
 -- ---- a line, and lines one after the other
 unfoldable pub line : Line → List ℕ
 line (book n e) = bookLine n e
 line (called l) = callLine l
+line (summed s) = summaryLine s
 line (last e) = lastLine e
 
 unfoldable pub written : List Line → List ℕ

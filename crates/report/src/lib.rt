@@ -1,10 +1,12 @@
 // Text in, report out.
 mod lines;
+mod summaries;
 mod text_calls;
 
 ghost use mathlib.Core.Path.{_≡_};
 ghost use Rattle.text.specs.Words.{supplyFrom};
-ghost use Rattle.memory.specs.Memory.{bookOf, stateOf};
+ghost use Rattle.memory.specs.Memory.{bookOf, stateOf, ledgerOf};
+ghost use Rattle.ledger.specs.Ledger.{blankLedger};
 ghost use Rattle.pmtl.specs.Monitor.{initialIn};
 ghost use Rattle.book.specs.Judging.{loaded};
 ghost use Rattle.memory.specs.Kept.{Kept};
@@ -25,7 +27,7 @@ use text::Read;
 use text_calls::Turn;
 use text_reader::Part;
 
-// A line for each call, and the last line.
+// A line for each call, and what stands after them.
 fn call_lines(
     input: &[u8],
     from: usize,
@@ -35,7 +37,7 @@ fn call_lines(
     start: usize,
 ) -> u64
     requires { ⌜ Kept (now monitor) ⌝ }
-    ensures { λ r. ⌜ handed r (now (out .exit)) ≡ finish (now (out .entry)) start (written (linesFrom (bookOf (now (monitor .entry))) 0 (stateOf (now (monitor .entry))) (callsFrom (supplyFrom (now (input .entry)) from .ending) count (supplyFrom (now (input .entry)) from .words)))) ⌝ }
+    ensures { λ r. ⌜ handed r (now (out .exit)) ≡ finish (now (out .entry)) start (written (linesFrom (bookOf (now (monitor .entry))) 0 (stateOf (now (monitor .entry))) (ledgerOf (now (monitor .entry))) (callsFrom (supplyFrom (now (input .entry)) from .ending) count (supplyFrom (now (input .entry)) from .words)))) ⌝ }
 {
     let mut bytes = [0u8; MOST_ATOMS];
     let mut digits = [b'0'; MOST_DIGITS];
@@ -53,7 +55,7 @@ fn call_lines(
         cursor = next;
         done += 1;
     }
-    lines::last(input, cursor, out, at)
+    lines::last(input, cursor, monitor, out, at)
 }
 
 // The calls, after their count, on a fresh monitor.
@@ -64,7 +66,7 @@ fn counted_calls(
     out: &mut [u8],
     at: usize,
 ) -> u64
-    requires { ⌜ Kept (now monitor) × (stateOf (now monitor) ≡ initialIn (stateOf (now monitor) .way) (bookOf (now monitor) .rows)) ⌝ }
+    requires { ⌜ Kept (now monitor) × (stateOf (now monitor) ≡ initialIn (stateOf (now monitor) .way) (bookOf (now monitor) .rows)) × (ledgerOf (now monitor) ≡ blankLedger (bookOf (now monitor))) ⌝ }
     ensures { λ r. ⌜ handed r (now (out .exit)) ≡ finish (now (out .entry)) at (written (callLines (stateOf (now (monitor .entry)) .way) (bookOf (now (monitor .entry))) (supplyFrom (now (input .entry)) cursor .ending) (supplyFrom (now (input .entry)) cursor .words))) ⌝ }
 {
     let r = text::next_word(input, cursor);

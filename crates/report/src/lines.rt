@@ -7,11 +7,13 @@ ghost use Rattle.text.specs.Words.{space, digit0, supplyFrom};
 ghost use Rattle.text.specs.Decimals.{decimal};
 ghost use Rattle.buffer_writer.specs.Buffer.{handed};
 ghost use Rattle.buffer_writer.specs.Finish.{finish, Wrote};
-ghost use Rattle.report.specs.Lines.{endingOf};
-ghost use Rattle.report.specs.Report.{excessWords, bookLine, stopLine, endLine, lastLine};
+ghost use Rattle.report.specs.Lines.{Ending, endingOf, endLines};
+ghost use Rattle.report.specs.Report.{excessWords, bookLine, stopLine, written};
 ghost use Rattle.report.specs.Private.{wordAt, digitWords, digitRest, digitLine};
+ghost use Rattle.memory.specs.Memory.{ledgerOf};
 ghost use Rattle.memory.specs.Tables.{propertyCount};
 ghost use Rattle.memory.specs.Kept.{Kept};
+use crate::summaries::put_summaries;
 use book::strict::Excess;
 use memory::SIZE;
 use numbers::ACCEPTED;
@@ -23,7 +25,7 @@ use text::Read;
 const ZERO: u8 = b'0';
 
 // A word and a number.
-fn put_numbered(out: &mut [u8], at: usize, word: &[u8], number: u64) -> usize
+pub fn put_numbered(out: &mut [u8], at: usize, word: &[u8], number: u64) -> usize
     ensures { λ r. ⌜ Wrote (now (out .entry)) at (now (word .entry) ++ decimal number) (now (out .exit)) r ⌝ }
 {
     let a = buffer_writer::put_bytes(out, at, word);
@@ -64,17 +66,20 @@ pub fn stopped(out: &mut [u8], at: usize, number: u64) -> u64
     buffer_writer::finished(out, p)
 }
 
-// A report that ends with `end`.
-fn ended(out: &mut [u8], at: usize) -> u64
-    ensures { λ r. ⌜ handed r (now (out .exit)) ≡ finish (now (out .entry)) at endLine ⌝ }
+// A report that ends with the summaries and `end`.
+fn ended(out: &mut [u8], at: usize, monitor: &[u64; SIZE]) -> u64
+    requires { ⌜ Kept (now monitor) ⌝ }
+    ensures { λ r. ⌜ handed r (now (out .exit)) ≡ finish (now (out .entry)) at (written (endLines (ledgerOf (now (monitor .entry))) Ending.end)) ⌝ }
 {
-    let p = buffer_writer::put_bytes(out, at, b"end\n");
+    let a = put_summaries(out, at, monitor);
+    let p = buffer_writer::put_bytes(out, a, b"end\n");
     buffer_writer::finished(out, p)
 }
 
-// The last line, by what is left of the text.
-pub fn last(input: &[u8], cursor: usize, out: &mut [u8], at: usize) -> u64
-    ensures { λ r. ⌜ handed r (now (out .exit)) ≡ finish (now (out .entry)) at (lastLine (endingOf (supplyFrom (now (input .entry)) cursor .ending) (supplyFrom (now (input .entry)) cursor .words))) ⌝ }
+// The lines after the calls, by what is left of the text.
+pub fn last(input: &[u8], cursor: usize, monitor: &[u64; SIZE], out: &mut [u8], at: usize) -> u64
+    requires { ⌜ Kept (now monitor) ⌝ }
+    ensures { λ r. ⌜ handed r (now (out .exit)) ≡ finish (now (out .entry)) at (written (endLines (ledgerOf (now (monitor .entry))) (endingOf (supplyFrom (now (input .entry)) cursor .ending) (supplyFrom (now (input .entry)) cursor .words)))) ⌝ }
 {
     let r = text::next_word(input, cursor);
     let Read::Refused(n) = r else {
@@ -83,7 +88,7 @@ pub fn last(input: &[u8], cursor: usize, out: &mut [u8], at: usize) -> u64
     if n == BAD_WORD {
         return stopped(out, at, BAD_WORD);
     }
-    ended(out, at)
+    ended(out, at, monitor)
 }
 
 // The byte of a digit.

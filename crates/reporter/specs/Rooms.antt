@@ -16,7 +16,7 @@ SHORT-REPORT = 65536
 
 -- an input so long has a short report
 abbrev pub SHORT-INPUT : ℕ
-SHORT-INPUT = 1890
+SHORT-INPUT = 1864
 
 -- a room of so many bytes holds the report of an input, its book loaded in a way
 abbrev pub holds : Loading → ℕ → List ℕ → Bool

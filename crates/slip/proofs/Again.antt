@@ -1,5 +1,5 @@
--- A call that stands in a text twice, one right after the other: the second line has the words of the first, and the other lines are those of the text
--- without it. Assumes nothing.
+-- A call that stands in a text twice, one right after the other: the second line has the words of the first, and the other lines of calls are those of the
+-- text without it. Assumes nothing.
 use Prim.Native.Nat.{ℕ, suc, _-_, _<_}
 use native.Mathlib.Omega.{arith}
 use mathlib.Core.Path.{_≡_, sym, ap, ap₂, subst, _∙_}
@@ -16,9 +16,9 @@ use Rattle.book.specs.declared.loading.Loading.{Loading}
 use Rattle.book.specs.Loading.{wayIn}
 use Rattle.book.specs.Judging.{Loaded}
 use Rattle.report.specs.Lines.{CallLine, called, lineOf, lines}
-use Rattle.slip.specs.Says.{sectionsSaid, bookSaid, callsSaid, endSaid, firstCalls, noLine, missingCall, SaidTwice, Shape}
+use Rattle.slip.specs.Says.{sectionsSaid, bookSaid, callsSaid, endSaid, firstCalls, noLine, missingCall, closing, SaidTwice, Shape}
 use Rattle.slip.specs.Says.Shape.{whole, refused-book, too-long}
-use Rattle.slip.specs.TakenOut.{CallAt, TakenOut, without}
+use Rattle.slip.specs.TakenOut.{CallAt, TakenOut, without, unsummed}
 use Rattle.slip.proofs.Places.{at-call, one-more, CalledLine, loads-as, shape}
 use Rattle.slip.proofs.Sayings.{fit}
 use Rattle.slip.proofs.Traces.{calls-are, lines-cut}
@@ -81,13 +81,13 @@ module _ (way : Loading) (input : List ℕ) {i : ℕ} {l : CallLine} (c : Called
       go : Shape way input → getD (lines way input) (suc i) noLine ≡ called (record { number = suc (l .number); refusal = l .refusal; rest = l .rest })
       go (whole f w) =
           let h : i < length (w .calls) = omega (arith, w .each, t .there) in
-          ap (λ ls. getD ls (suc i) noLine) (w .all) ∙ at-call (w .calls) (endSaid input) i h
+          ap (λ ls. getD ls (suc i) noLine) (w .all) ∙ at-call (w .calls) (closing b (w .calls) (endSaid input)) i h
           ∙ ap called (w .in-order i h ∙ ap (lineOf b (suc i)) second ∙ line-is)
       go (refused-book n e) = absurd (n (c .loads))
       go (too-long n e) = absurd (omega (arith, c .fits))
 
-  -- and the lines without it
-  pub second-leaves-no-trace : (d : CallAt input (suc i)) {other : List ℕ} → TakenOut d other → lines way other ≡ without (suc i) (lines way input)
+  -- and the lines without it, but for the summaries, in which it is counted
+  pub second-leaves-no-trace : (d : CallAt input (suc i)) {other : List ℕ} → TakenOut d other → unsummed (lines way other) ≡ unsummed (without (suc i) (lines way input))
   second-leaves-no-trace d out =
       let later = calls-are way d in
       let here : i ≡ length (d .before) = omega (arith, d .place) in

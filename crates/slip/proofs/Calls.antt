@@ -1,5 +1,5 @@
 -- The calls that words say, one after the other. Assumes nothing.
-use Prim.Native.Nat.{ℕ, zero, suc, _+_, _*_, _≤_, _<_}
+use Prim.Native.Nat.{ℕ, zero, suc, _+_, _*_, _-_, _≤_, _<_}
 use native.Mathlib.Omega.{arith}
 use native.Mathlib.Nat.{zero-add}
 use mathlib.Core.Path.{_≡_, refl, sym, ap, _∙_}
@@ -9,11 +9,14 @@ use lib.Dec.{eqb}
 use lib.ListN.{length, length-append}
 use Rattle.numbers.specs.Refusals.{BAD-WORD}
 use Rattle.pmtl.specs.Calls.{Call, time, state, stamped}
-use Rattle.book.specs.Reading.{Read, got, refused}
-use Rattle.report.specs.Lines.{Ending, end, stop, callFrom, CallsRead, callThen, orStop, endingOf, callsFrom}
+use Rattle.text.specs.Words.{supply}
+use Rattle.book.specs.Reading.{Read, got, refused, Sections}
+use Rattle.report.specs.Lines.{Ending, end, stop, callFrom, CallsRead, callThen, orStop, endingOf, callsFrom, callsAfter}
+use Rattle.slip.specs.Says.{sectionsSaid}
+use Rattle.slip.specs.Longest.{BOOK-BYTES}
 use Rattle.slip.specs.TakenOut.{callWords, allWords, Fits, AllFit}
-use Rattle.text.proofs.Few.{Small}
-use Rattle.slip.proofs.Words.{ReadCall, call-read, call-back}
+use Rattle.text.proofs.Few.{Small, few-words, small-ending}
+use Rattle.slip.proofs.Words.{ReadCall, call-read, call-back, sections-got}
 
 -- ---- words of calls
 pub all-words : (xs ys : List Call) → allWords (xs ++ ys) ≡ allWords xs ++ allWords ys
@@ -72,6 +75,23 @@ module _ (ending : ℕ) (small : Small ending) where
             ends = h .ends;
           }
       go (refused m) c ih = record { left = ws; are = refl; fit = tt; counted = omega arith; ends = c .1 }
+
+-- the calls after their count
+pub after-read : (ending : ℕ) → Small ending → (ws : List ℕ) → EndsSmall (callsAfter ending ws .ends) × (2 * length (callsAfter ending ws .calls) ≤ length ws - 1)
+unfolding callsAfter EndsSmall
+after-read ending small [] = (small .1, omega arith)
+after-read ending small (count ∷ ws) =
+    let h = calls-read ending small count ws in
+    let ks = callsFrom ending count ws .calls in
+    (h .ends, omega (arith, two-words-each ks, length-append (allWords ks) (h .left), ap length (h .are)))
+
+-- of an input: each takes four bytes at least, and the book nine
+pub few-calls : (input : List ℕ) {s : Sections} {ws : List ℕ} → sectionsSaid input ≡ got s ws → 4 * length (callsAfter (supply input .ending) ws .calls) ≤ length input - BOOK-BYTES
+few-calls input {s} {ws} e =
+    let ending = supply input .ending in
+    let g = sections-got ending (small-ending input) (supply input .words) e in
+    let c = after-read ending (small-ending input) ws in
+    omega (arith, g .1, c .1, few-words input)
 
 -- ---- calls that words begin with are read first
 abbrev pub callsThen : List Call → CallsRead → CallsRead

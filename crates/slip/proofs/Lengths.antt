@@ -3,9 +3,9 @@ use Prim.Native.Nat.{ℕ, zero, suc, _+_, _*_, _-_, _≤_, _<_}
 use native.Mathlib.Omega.{arith}
 use native.Mathlib.Decide.{decLt, ℕ-discrete}
 use borrow.Author.Tests.{eq-eqb, ne-eqb, lt-ltb}
-use mathlib.Core.Path.{_≡_, refl, ap}
+use mathlib.Core.Path.{_≡_, refl, sym, ap, _∙_}
 use mathlib.Core.Bool.{Bool, true, false, cond, not, _&&_}
-use mathlib.Core.List.{List, [], _∷_, _++_, map}
+use mathlib.Core.List.{List, [], _∷_, _++_, map, map-append}
 use lib.Dec.{leb, ltb, eqb}
 use lib.ListN.{length, length-append}
 use Rattle.numbers.specs.Limits.{LAST-TIME, LONGEST-INPUT, LONGEST-REPORT, MOST-RUNS, MOST-ATOMS, MOST-PROPERTIES, MOST-TEMPORALS}
@@ -30,15 +30,19 @@ use Rattle.book.proofs.Excess.{excess-small}
 use Rattle.book.proofs.Admitted.{admitted-all}
 use Rattle.book.specs.Judging.{Loaded, firstOf, firstTo, formGood, rangeGood, kindIn, argIn, lowerIn, upperIn, temporalsIn, rowsIn, rowNumber, linksGood, usedOnce, judged, bookIn, refusedWith, loadedFrom}
 use Rattle.property_answers.specs.Verdict.{verdictIn}
-use Rattle.report.specs.Lines.{PropertyWord, nothing, told, CallLine, Ending, end, stop, book, called, last, wordOf, callsFrom, callsAfter, restOf, lineOf, linesOf, linesFrom, lines}
-use Rattle.report.specs.Report.{excessWords, bookLine, stopLine, endLine, lastLine, propertyWord, propertyWords, restWords, callLine, line, written, report}
-use Rattle.slip.specs.Says.{sectionsSaid}
-use Rattle.slip.specs.TakenOut.{allWords}
-use Rattle.slip.specs.Longest.{WORD-BYTES, COUNT-BYTES, LINE-BYTES, FIRST-BYTES, LAST-BYTES, longest}
+use Rattle.ledger.specs.declared.Summary.{Summary}
+use Rattle.ledger.specs.Ledger.{LAST-COUNTED, Ledger, blankLedger, summaryAt, next as nextLedger, ledgerFrom, LedgerInBounds}
+use Rattle.ledger.proofs.Noted.{blank-counts, next-counts}
+use Rattle.report.specs.Lines.{PropertyWord, nothing, told, CallLine, Ending, end, stop, Line, book, called, summed, last, wordOf, CallsRead, callsAfter, restOf, lineOf, linesOf, summariesOf, endLines, linesFrom, lines}
+use Rattle.report.specs.Report.{excessWords, bookLine, stopLine, endLine, lastLine, propertyWord, propertyWords, restWords, callLine, summaryLine, line, written, report}
+use Rattle.summaries.proofs.Counting.{from-blank}
+use Rattle.slip.specs.Says.{sectionsSaid, finalLine}
+use Rattle.slip.specs.Longest.{mostCalls, WORD-BYTES, COUNT-BYTES, LINE-BYTES, FIRST-BYTES, LAST-BYTES, SUMMARY-BYTES, END-BYTES, longest, longestStopped}
 use Rattle.text.proofs.Few.{Small, few-words, small-ending}
 use Rattle.slip.proofs.Words.{Few, sections-got, sections-refused}
-use Rattle.slip.proofs.Calls.{two-words-each, EndsSmall, calls-read}
-use Rattle.slip.proofs.Places.{lines-loaded, lines-refused, lines-unread}
+use Rattle.slip.proofs.Calls.{EndsSmall, after-read, few-calls}
+use Rattle.slip.proofs.Places.{lines-length as each-line, lines-loaded, lines-refused, lines-unread, whole-of, read-as}
+use Rattle.slip.proofs.Recounted.{final-said}
 
 -- ---- refusals have at most two digits
 either-small : (z : Bool) {n m : ℕ} → n < 100 → m < 100 → cond z n m < 100
@@ -136,6 +140,10 @@ first-length : length (bookLine ACCEPTED Within) ≤ FIRST-BYTES
 unfolding bookLine excessWords
 first-length = simp length-append (omega (arith, at-most 0 ACCEPTED (omega arith)))
 
+after-book : (ls : List Line) → length (written (book ACCEPTED Within ∷ ls)) ≤ FIRST-BYTES + length (written ls)
+unfolding written line
+after-book ls = omega (arith, length-append (bookLine ACCEPTED Within) (written ls), first-length)
+
 last-length : (e : Ending) → EndsSmall e → length (lastLine e) ≤ LAST-BYTES
 unfolding lastLine stopLine endLine EndsSmall
 last-length end h = omega arith
@@ -169,27 +177,74 @@ its-length : (b : Book) (i : ℕ) (o : Outcome) → length (properties b) ≤ MO
 unfolding lineOf
 its-length b i o few h k full = call-length (lineOf b i o) h (after-number b i o few k full)
 
-lines-length : (b : Book) (e : Ending) → length (properties b) ≤ MOST-PROPERTIES → EndsSmall e → (ks : List Call) (done : ℕ) (st : State) → fullest st ≤ MOST-RUNS → done + length ks < 100000
-    → length (written (map called (linesOf b done st ks) ++ last e ∷ [])) ≤ length ks * LINE-BYTES + LAST-BYTES
+lines-length : (b : Book) (after : List Line) → length (properties b) ≤ MOST-PROPERTIES → (ks : List Call) (done : ℕ) (st : State) → fullest st ≤ MOST-RUNS → done + length ks < 100000
+    → length (written (map called (linesOf b done st ks) ++ after)) ≤ length ks * LINE-BYTES + length (written after)
 unfolding written line linesOf
-lines-length b e few s [] done st full h = simp length-append (omega (arith, last-length e s))
-lines-length b e few s (k ∷ ks) done st full h =
+lines-length b after few [] done st full h = omega arith
+lines-length b after few (k ∷ ks) done st full h =
     let o = call (b .rows) st k in
-    let after = call-few (b .rows) st k full in
-    let c = its-length b (suc done) o few (omega arith) (small-call (b .rows) st k) after in
-    let r = lines-length b e few s ks (suc done) (o .state) after (omega arith) in
+    let full′ = call-few (b .rows) st k full in
+    let c = its-length b (suc done) o few (omega arith) (small-call (b .rows) st k) full′ in
+    let r = lines-length b after few ks (suc done) (o .state) full′ (omega arith) in
     simp length-append (omega arith)
 
--- ---- reports
--- the calls after their count
-after-read : (ending : ℕ) → Small ending → (ws : List ℕ) → EndsSmall (callsAfter ending ws .ends) × (2 * length (callsAfter ending ws .calls) ≤ length ws - 1)
-unfolding callsAfter EndsSmall
-after-read ending small [] = (small .1, omega arith)
-after-read ending small (count ∷ ws) =
-    let h = calls-read ending small count ws in
-    let ks = callsFrom ending count ws .calls in
-    (h .ends, omega (arith, two-words-each ks, length-append (allWords ks) (h .left), ap length (h .are)))
+-- ---- the lines after the calls
+summary-length : (s : Summary) → s .accepted < 100000 → s .failed < 100000 → s .first < 100000 → s .last < 100000 → s .longest < 100000 → s .settled < 100000 → length (summaryLine s) ≤ SUMMARY-BYTES
+unfolding summaryLine
+summary-length s a b c d e f =
+    simp length-append
+    (omega (arith, five-digits (s .accepted) a, five-digits (s .failed) b, five-digits (s .first) c, five-digits (s .last) d, five-digits (s .longest) e, five-digits (s .settled) f))
 
+written-append : (xs ys : List Line) → length (written (xs ++ ys)) ≡ length (written xs) + length (written ys)
+unfolding written
+written-append [] ys = omega arith
+written-append (x ∷ xs) ys = let h = written-append xs ys in simp length-append (omega arith)
+
+summaries-length : (f : ℕ → Summary) (n : ℕ) → ((p : ℕ) → p < n → length (summaryLine (f p)) ≤ SUMMARY-BYTES) → length (written (map summed (listed f n))) ≤ SUMMARY-BYTES * n
+unfolding written line listed
+summaries-length f zero h = omega arith
+summaries-length f (suc n) h =
+    let r = summaries-length f n (λ p l. h p (omega arith)) in
+    rw (map-append summed (listed f n) (f n ∷ [])) (omega (arith, h n (omega arith), written-append (map summed (listed f n)) (summed (f n) ∷ []), length-append (summaryLine (f n)) []))
+
+end-bytes : length (lastLine end) ≡ 4
+unfolding lastLine endLine
+end-bytes = refl
+
+-- what there is room for after the calls
+room-after : Ending → ℕ
+room-after end = END-BYTES
+room-after (stop n) = LAST-BYTES
+
+room-most : (e : Ending) → room-after e ≤ END-BYTES
+unfolding room-after
+room-most end = omega arith
+room-most (stop n) = omega arith
+
+module _ (count : ℕ) (l : Ledger) (bounds : LedgerInBounds count l) (few : count ≤ MOST-PROPERTIES) (small : l .number < 100000) where
+  summary-small : (p : ℕ) → p < length (l .entries) → length (summaryLine (summaryAt l p)) ≤ SUMMARY-BYTES
+  summary-small p h =
+      let e = bounds .entries p (omega (arith, bounds .each)) in
+      let a = bounds .accepted in
+      summary-length (summaryAt l p) (omega (arith, a)) (omega (arith, a, e .failed)) (omega (arith, e .first, e .last)) (omega (arith, e .last)) (omega (arith, a, e .failed, e .longest)) (omega (arith, e .settled))
+
+  end-length : (e : Ending) → EndsSmall e → length (written (endLines l e)) ≤ room-after e
+  unfolding written line endLines room-after
+  end-length end s =
+      let all = summaries-length (summaryAt l) (length (l .entries)) summary-small in
+      omega (arith, all, bounds .each, written-append (map summed (summariesOf l)) (last end ∷ []), length-append (lastLine end) [], end-bytes)
+  end-length (stop n) s = simp length-append (omega (arith, last-length (stop n) s))
+
+-- of the ledger of calls
+from-counts : (b : Book) (st : State) (l : Ledger) (ks : List Call) → LedgerInBounds (length (properties b)) l → LedgerInBounds (length (properties b)) (ledgerFrom b st l ks)
+unfolding ledgerFrom
+from-counts b st l [] h = h
+from-counts b st l (k ∷ ks) h = from-counts b (call (b .rows) st k .state) (nextLedger b (call (b .rows) st k) l) ks (next-counts b (call (b .rows) st k) l h)
+
+calls-number : (b : Book) (st : State) (ks : List Call) → length ks ≤ LAST-COUNTED → ledgerFrom b st (blankLedger b) ks .number ≡ length ks
+calls-number b st ks h = ap (λ (l : Ledger). l .number) (from-blank b st ks h) ∙ each-line b 0 st ks
+
+-- ---- reports
 -- a line alone
 lone-book : (n room : ℕ) → n < 100 → length (written (book n Within ∷ [])) ≤ longest room
 unfolding written line
@@ -201,18 +256,23 @@ loads-by way s f = admitted-all Loads (record { small = omega arith; few = omega
 
 module _ (way : Loading) (input : List ℕ) where
   whole-length : {s : Sections} {ws : List ℕ} → length input ≤ LONGEST-INPUT → sectionsSaid input ≡ got s ws → admitted way (loadedFrom s) .number ≡ ACCEPTED
-      → length (report way input) ≤ longest (length input)
-  unfolding report written line linesFrom
+      → length (report way input) ≤ FIRST-BYTES + mostCalls (length input) * LINE-BYTES + room-after (callsAfter (supply input .ending) ws .ends)
+  unfolding report linesFrom
   whole-length {s} {ws} f e z =
       let ending = supply input .ending in
       let g = sections-got ending (small-ending input) (supply input .words) e in
       let c = after-read ending (small-ending input) ws in
       let b = admitted way (loadedFrom s) .book in
       let ks = callsAfter ending ws .calls in
-      let few : 4 * length ks ≤ length input - 9 = omega (arith, g .1, c .1, few-words input) in
-      let l = lines-length b (callsAfter ending ws .ends) (loads-by way s (g .0) .few) (c .0) ks 0 (initialIn (wayIn way) (b .rows)) (omega (arith, fresh-none (wayIn way) (b .rows))) (omega arith) in
-      let n = first-length in
-      rw (lines-loaded way input f e z) (simp length-append (omega arith))
+      let st = initialIn (wayIn way) (b .rows) in
+      let l = ledgerFrom b st (blankLedger b) ks in
+      let few = few-calls input e in
+      let props = loads-by way s (g .0) .few in
+      let number = calls-number b st ks (omega arith) in
+      let after = end-length (length (properties b)) l (from-counts b st (blankLedger b) ks (blank-counts b)) props (omega arith) (callsAfter ending ws .ends) (c .0) in
+      let cs = linesOf b 0 st ks in
+      let called-lines = lines-length b (endLines l (callsAfter ending ws .ends)) props ks 0 st (omega (arith, fresh-none (wayIn way) (b .rows))) (omega arith) in
+      rw (lines-loaded way input f e z) (omega (arith, after-book (map called cs ++ endLines l (callsAfter ending ws .ends)), called-lines, after))
 
   -- a refused book's line alone. Where a row of it is named, the input has the words of a row, and so there would be room for a call's line
   refused-length : (s : Sections) (ws : List ℕ) → length input ≤ LONGEST-INPUT → sectionsSaid input ≡ got s ws → (e : Excess) → excessBy way (loadedFrom s .book .rows) ≡ e
@@ -233,7 +293,7 @@ module _ (way : Loading) (input : List ℕ) where
   by-number : (s : Sections) (ws : List ℕ) → length input ≤ LONGEST-INPUT → sectionsSaid input ≡ got s ws → Dec (admitted way (loadedFrom s) .number ≡ ACCEPTED)
       → length (report way input) ≤ longest (length input)
   unfolding report
-  by-number s ws f e (yes z) = whole-length f e z
+  by-number s ws f e (yes z) = omega (arith, whole-length f e z, room-most (callsAfter (supply input .ending) ws .ends))
   by-number s ws f e (no z) = rw (lines-refused way input f e z) (refused-length s ws f e (excessBy way (loadedFrom s .book .rows)) refl)
 
   by-read : (r : Read Sections) → length input ≤ LONGEST-INPUT → sectionsSaid input ≡ r → length (report way input) ≤ longest (length input)
@@ -252,6 +312,34 @@ module _ (way : Loading) (input : List ℕ) where
       go : Dec (LONGEST-INPUT < length input) → length (report way input) ≤ longest (length input)
       go (yes h) = omega (arith, stop-length h)
       go (no h) = by-read (sectionsSaid input) (omega arith) refl
+
+  -- where it ends with `stop`
+  pub at-most-stopped : {n : ℕ} → finalLine (lines way input) ≡ last (stop n) → length (report way input) ≤ longestStopped (length input)
+  unfolding finalLine room-after
+  at-most-stopped {n} h = go (decLt LONGEST-INPUT (length input))
+    where
+      not-book : {m : ℕ} {x : Excess} → book m x ≡ last (stop n) → ⊥
+      not-book h = let z : _≡_ {A = ℕ} 0 1 = cc in omega arith
+
+      not-end : last end ≡ last (stop n) → ⊥
+      not-end h = let z : _≡_ {A = ℕ} 0 1 = cc in omega arith
+
+      by-end : {s : Sections} {ws : List ℕ} → length input ≤ LONGEST-INPUT → sectionsSaid input ≡ got s ws → admitted way (loadedFrom s) .number ≡ ACCEPTED → (e : Ending) → callsAfter (supply input .ending) ws .ends ≡ e
+          → length (report way input) ≤ longestStopped (length input)
+      by-end f e z end y = absurd (not-end (ap last (sym y) ∙ ap last (sym (ap (λ (r : CallsRead). r .ends) (read-as way input e))) ∙ sym (final-said way input (whole-of way input f e z)) ∙ h))
+      by-end f e z (stop m) y = rw y at (whole-length f e z)
+
+      by-loaded : (s : Sections) (ws : List ℕ) → length input ≤ LONGEST-INPUT → sectionsSaid input ≡ got s ws → Dec (admitted way (loadedFrom s) .number ≡ ACCEPTED) → length (report way input) ≤ longestStopped (length input)
+      by-loaded s ws f e (yes z) = by-end f e z (callsAfter (supply input .ending) ws .ends) refl
+      by-loaded s ws f e (no z) = absurd (not-book (ap finalLine (sym (lines-refused way input f e z)) ∙ h))
+
+      by-sections : (r : Read Sections) → length input ≤ LONGEST-INPUT → sectionsSaid input ≡ r → length (report way input) ≤ longestStopped (length input)
+      by-sections (got s ws) f e = by-loaded s ws f e (ℕ-discrete (admitted way (loadedFrom s) .number) ACCEPTED)
+      by-sections (refused m) f e = absurd (not-book (ap finalLine (sym (lines-unread way input f e)) ∙ h))
+
+      go : Dec (LONGEST-INPUT < length input) → length (report way input) ≤ longestStopped (length input)
+      go (yes l) = omega (arith, stop-length l)
+      go (no l) = by-sections (sectionsSaid input) (omega arith) refl
 
   pub room-enough : length (report way input) ≤ LONGEST-REPORT
   room-enough = go (decLt LONGEST-INPUT (length input))

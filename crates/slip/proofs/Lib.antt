@@ -2,6 +2,7 @@ pub mod Reading
 pub mod Words
 pub mod Calls
 pub mod Places
+pub mod Recounted
 pub mod Sayings
 pub mod Traces
 pub mod Again

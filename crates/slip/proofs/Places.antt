@@ -9,7 +9,7 @@ use borrow.Author.Tests.{eq-eqb, ne-eqb, lt-ltb, le-ltb}
 use Rattle.numbers.specs.Limits.{LONGEST-INPUT}
 use Rattle.numbers.specs.Refusals.{ACCEPTED}
 use Rattle.text.specs.Words.{supply}
-use Rattle.pmtl.specs.Book.{Book}
+use Rattle.pmtl.specs.Book.{Book, properties}
 use Rattle.pmtl.specs.Sets.{Way}
 use Rattle.pmtl.specs.Monitor.{State, initialIn}
 use Rattle.pmtl.specs.Calls.{Call, Outcome, call, afterIn}
@@ -21,11 +21,19 @@ use Rattle.book.specs.Strict.{excessBy}
 use Rattle.book.specs.Loading.{wayIn, admitted}
 use Rattle.book.proofs.Admitted.{accepted-within}
 use Rattle.book.specs.Judging.{Loaded, loadedFrom}
-use Rattle.report.specs.Lines.{CallLine, Ending, Line, book, called, last, CallsRead, callsAfter, lineOf, linesOf, linesFrom, callLines, bookThen, bookLines, lines}
-use Rattle.slip.specs.Says.{sectionsSaid, loadedOf, excessOf, bookSaid, wordsAfter, readSaid, callsSaid, endSaid, noLine, noCallLine, missingCall, Whole, Shape}
+use Rattle.lists.specs.Lists.{listed}
+use Rattle.lists.proofs.Listed.{listed-length, listed-agree}
+use Rattle.ledger.specs.declared.Summary.{Summary}
+use Rattle.ledger.specs.Ledger.{LAST-COUNTED, blankLedger, summaryAt, ledgerFrom}
+use Rattle.report.specs.Lines.{CallLine, Ending, end, stop, Line, book, called, summed, last, CallsRead, callsAfter, lineOf, linesOf, summariesOf, endLines, linesFrom, callLines, bookThen, bookLines, lines}
+use Rattle.slip.specs.Says.{sectionsSaid, loadedOf, excessOf, bookSaid, wordsAfter, readSaid, callsSaid, endSaid, noLine, noCallLine, missingCall, recounts, closing, Whole, Shape}
 use Rattle.slip.specs.Says.Shape.{whole, refused-book, too-long}
 use Rattle.text.proofs.Few.{small-ending}
+use Rattle.summaries.specs.Recount.{recount}
+use Rattle.summaries.proofs.Appended.{entryFrom}
+use Rattle.summaries.proofs.Counting.{tally, tally-at, from-blank}
 use Rattle.slip.proofs.Words.{sections-refused}
+use Rattle.slip.proofs.Calls.{few-calls}
 
 -- ---- a call's line among the others
 not-book : {n : ℕ} {e : Excess} {l : CallLine} → book n e ≡ called l → ⊥
@@ -39,16 +47,29 @@ lone-line : (x : Line) (l : CallLine) → (x ≡ called l → ⊥) → (i : ℕ)
 lone-line x l no-call zero h = no-call h
 lone-line x l no-call (suc i) h = not-last h
 
-pub at-place : (cs : List CallLine) (e : Ending) (i : ℕ) (l : CallLine) → getD (map called cs ++ last e ∷ []) i noLine ≡ called l → (i < length cs) × (getD cs i noCallLine ≡ l)
-at-place [] e zero l h = absurd (not-last h)
-at-place [] e (suc i) l h = absurd (not-last h)
-at-place (c ∷ cs) e zero l h = (omega arith, cc)
-at-place (c ∷ cs) e (suc i) l h = let r = at-place cs e i l h in (omega (arith, r .0), r .1)
+not-summed : {s : Summary} {l : CallLine} → summed s ≡ called l → ⊥
+not-summed h = let z : _≡_ {A = ℕ} 0 1 = cc in omega arith
 
-pub at-call : (cs : List CallLine) (e : Ending) (i : ℕ) → i < length cs → getD (map called cs ++ last e ∷ []) i noLine ≡ called (getD cs i noCallLine)
-at-call [] e i h = absurd (omega arith)
-at-call (c ∷ cs) e zero h = refl
-at-call (c ∷ cs) e (suc i) h = at-call cs e i (omega arith)
+-- none among the summaries and the last line
+no-call : (ss : List Summary) (e : Ending) (i : ℕ) (l : CallLine) → getD (map summed ss ++ last e ∷ []) i noLine ≡ called l → ⊥
+no-call [] e i l h = lone-line (last e) l not-last i h
+no-call (s ∷ ss) e zero l h = not-summed h
+no-call (s ∷ ss) e (suc i) l h = no-call ss e i l h
+
+none-closing : (b : Book) (ds : List CallLine) (e : Ending) (i : ℕ) (l : CallLine) → getD (closing b ds e) i noLine ≡ called l → ⊥
+unfolding closing
+none-closing b ds end i l h = no-call (recounts b ds) end i l h
+none-closing b ds (stop n) i l h = no-call [] (stop n) i l h
+
+pub at-place : (cs : List CallLine) (b : Book) (ds : List CallLine) (e : Ending) (i : ℕ) (l : CallLine) → getD (map called cs ++ closing b ds e) i noLine ≡ called l → (i < length cs) × (getD cs i noCallLine ≡ l)
+at-place [] b ds e i l h = absurd (none-closing b ds e i l h)
+at-place (c ∷ cs) b ds e zero l h = (omega arith, cc)
+at-place (c ∷ cs) b ds e (suc i) l h = let r = at-place cs b ds e i l h in (omega (arith, r .0), r .1)
+
+pub at-call : (cs : List CallLine) (after : List Line) (i : ℕ) → i < length cs → getD (map called cs ++ after) i noLine ≡ called (getD cs i noCallLine)
+at-call [] after i h = absurd (omega arith)
+at-call (c ∷ cs) after zero h = refl
+at-call (c ∷ cs) after (suc i) h = at-call cs after i (omega arith)
 
 -- ---- the lines of calls
 pub lines-length : (b : Book) (done : ℕ) (st : State) (ks : List Call) → length (linesOf b done st ks) ≡ length ks
@@ -82,6 +103,17 @@ one-more [] past i h = absurd (omega arith)
 one-more (k ∷ ks) past zero h = refl
 one-more (k ∷ ks) past (suc i) h = one-more ks (k ∷ past) i (omega arith)
 
+-- ---- the lines after those of the calls are a recount
+pub ends-are : (b : Book) (st : State) (ks : List Call) → length ks ≤ LAST-COUNTED → (e : Ending) → endLines (ledgerFrom b st (blankLedger b) ks) e ≡ closing b (linesOf b 0 st ks) e
+unfolding endLines closing
+ends-are b st ks h (stop n) = refl
+ends-are b st ks h end =
+    let ls = linesOf b 0 st ks in
+    let t = tally b ls in
+    ap (λ l. map summed (summariesOf l) ++ last end ∷ []) (from-blank b st ks h)
+    ∙ ap (λ ss. map summed ss ++ last end ∷ [])
+    (ap (listed (summaryAt t)) (listed-length (λ p. entryFrom p ls) (length (properties b))) ∙ listed-agree (summaryAt t) (λ p. recount p ls) (length (properties b)) (tally-at b ls))
+
 -- ---- the lines of an input
 module _ (way : Loading) (input : List ℕ) {s : Sections} {ws : List ℕ} (e : sectionsSaid input ≡ got s ws) where
   pub loads-as : loadedOf way (sectionsSaid input) ≡ admitted way (loadedFrom s)
@@ -95,11 +127,11 @@ module _ (way : Loading) (input : List ℕ) {s : Sections} {ws : List ℕ} (e : 
 module _ (way : Loading) (input : List ℕ) (fits : length input ≤ LONGEST-INPUT) where
   -- of a loaded book
   pub lines-loaded : {s : Sections} {ws : List ℕ} → sectionsSaid input ≡ got s ws → admitted way (loadedFrom s) .number ≡ ACCEPTED
-      → lines way input ≡ book ACCEPTED Within ∷ linesFrom (admitted way (loadedFrom s) .book) 0 (initialIn (wayIn way) (admitted way (loadedFrom s) .book .rows)) (callsAfter (supply input .ending) ws)
+      → lines way input ≡ book ACCEPTED Within ∷ linesFrom (admitted way (loadedFrom s) .book) 0 (initialIn (wayIn way) (admitted way (loadedFrom s) .book .rows)) (blankLedger (admitted way (loadedFrom s) .book)) (callsAfter (supply input .ending) ws)
   unfolding lines bookLines bookThen callLines
   lines-loaded {s} {ws} e z =
       rw (le-ltb LONGEST-INPUT (length input) fits, e, eq-eqb (admitted way (loadedFrom s) .number) ACCEPTED z)
-      (ap₂ (λ n x. book n x ∷ linesFrom (admitted way (loadedFrom s) .book) 0 (initialIn (wayIn way) (admitted way (loadedFrom s) .book .rows)) (callsAfter (supply input .ending) ws)) z
+      (ap₂ (λ n x. book n x ∷ linesFrom (admitted way (loadedFrom s) .book) 0 (initialIn (wayIn way) (admitted way (loadedFrom s) .book .rows)) (blankLedger (admitted way (loadedFrom s) .book)) (callsAfter (supply input .ending) ws)) z
       (accepted-within way (loadedFrom s) z))
 
   pub lines-refused : {s : Sections} {ws : List ℕ} → sectionsSaid input ≡ got s ws → ¬ (admitted way (loadedFrom s) .number ≡ ACCEPTED) → lines way input ≡ book (admitted way (loadedFrom s) .number) (excessBy way (loadedFrom s .book .rows)) ∷ []
@@ -110,17 +142,30 @@ module _ (way : Loading) (input : List ℕ) (fits : length input ≤ LONGEST-INP
   unfolding lines bookLines
   lines-unread e = rw (le-ltb LONGEST-INPUT (length input) fits, e)
 
-  whole-of : {s : Sections} {ws : List ℕ} → sectionsSaid input ≡ got s ws → admitted way (loadedFrom s) .number ≡ ACCEPTED → Whole way input
+  -- by the lines of its calls
+  pub lines-recounted : {s : Sections} {ws : List ℕ} → sectionsSaid input ≡ got s ws → admitted way (loadedFrom s) .number ≡ ACCEPTED
+      → let b = admitted way (loadedFrom s) .book in let r = callsAfter (supply input .ending) ws in let cs = linesOf b 0 (initialIn (wayIn way) (b .rows)) (r .calls) in
+      lines way input ≡ book ACCEPTED Within ∷ map called cs ++ closing b cs (r .ends)
   unfolding linesFrom
+  lines-recounted {s} {ws} e z =
+      let b = admitted way (loadedFrom s) .book in
+      let r = callsAfter (supply input .ending) ws in
+      let st = initialIn (wayIn way) (b .rows) in
+      lines-loaded e z
+      ∙ ap (λ ls. book ACCEPTED Within ∷ map called (linesOf b 0 st (r .calls)) ++ ls) (ends-are b st (r .calls) (omega (arith, few-calls input e)) (r .ends))
+
+  pub whole-of : {s : Sections} {ws : List ℕ} → sectionsSaid input ≡ got s ws → admitted way (loadedFrom s) .number ≡ ACCEPTED → Whole way input
   whole-of {s} {ws} e z =
       let b = admitted way (loadedFrom s) .book in
       let ks = callsAfter (supply input .ending) ws .calls in
+      let cs = linesOf b 0 (initialIn (wayIn way) (b .rows)) ks in
       let n = lines-length b 0 (initialIn (wayIn way) (b .rows)) ks in
       let said : ks ≡ callsSaid input = ap (λ (r : CallsRead). r .calls) (sym (read-as way input e)) in
       record {
-        calls = linesOf b 0 (initialIn (wayIn way) (b .rows)) ks;
+        calls = cs;
         loads = rw (loads-as way input e) z;
-        all = lines-loaded e z ∙ ap (λ x. book ACCEPTED Within ∷ map called (linesOf b 0 (initialIn (wayIn way) (b .rows)) ks) ++ last x ∷ []) (ap (λ (r : CallsRead). r .ends) (sym (read-as way input e)));
+        all = lines-recounted e z
+            ∙ ap₂ (λ b′ x. book ACCEPTED Within ∷ map called cs ++ closing b′ cs x) (sym (ap (λ (l : Loaded). l .book) (loads-as way input e))) (ap (λ (r : CallsRead). r .ends) (sym (read-as way input e)));
         each = n ∙ ap length said;
         numbered = λ i h. ap (λ (l : CallLine). l .number) (said-at (wayIn way) b ks i (omega arith)) ∙ number-of b (suc i) _;
         in-order = λ i h. said-at (wayIn way) b ks i (omega arith) ∙ ap₂ (sayings (wayIn way) i) (sym (ap (λ (l : Loaded). l .book) (loads-as way input e))) said;
@@ -154,10 +199,10 @@ pub record CalledLine (way : Loading) (input : List ℕ) (i : ℕ) (l : CallLine
   pub said : others < length (callsSaid input)
   pub is : sayings (wayIn way) others (bookSaid way input) (callsSaid input) ≡ l
 
-in-whole : (way : Loading) (input : List ℕ) → length input ≤ LONGEST-INPUT → (w : Whole way input) (i : ℕ) (l : CallLine) → getD (book ACCEPTED Within ∷ map called (w .calls) ++ last (endSaid input) ∷ []) i noLine ≡ called l → CalledLine way input i l
+in-whole : (way : Loading) (input : List ℕ) → length input ≤ LONGEST-INPUT → (w : Whole way input) (i : ℕ) (l : CallLine) → getD (book ACCEPTED Within ∷ map called (w .calls) ++ closing (bookSaid way input) (w .calls) (endSaid input)) i noLine ≡ called l → CalledLine way input i l
 in-whole way input f w zero l h = absurd (not-book h)
 in-whole way input f w (suc i) l h =
-    let q = at-place (w .calls) (endSaid input) i l h in
+    let q = at-place (w .calls) (bookSaid way input) (w .calls) (endSaid input) i l h in
     record { fits = f; loads = w .loads; others = i; place = refl; said = omega (arith, q .0, w .each); is = sym (w .in-order i (q .0)) ∙ q .1 }
 
 pub called-line : (way : Loading) (input : List ℕ) (i : ℕ) {l : CallLine} → getD (lines way input) i noLine ≡ called l → CalledLine way input i l

@@ -1,21 +1,25 @@
--- Reading back what is written gives the lines. Assumes nothing.
+-- Reading back what is written of lines that a report can have gives the lines. Assumes nothing.
 use Prim.Native.Nat.{ℕ, _+_, _≤_, _<_}
 use native.Mathlib.Omega.{arith}
+use native.Mathlib.Decide.{ℕ-discrete}
 use mathlib.Core.Path.{_≡_, refl, sym, ap, ap₂, _∙_}
-use mathlib.Core.Bool.{true}
+use mathlib.Core.Bool.{Bool, true, false, cond}
 use mathlib.Core.List.{List, [], _∷_, _++_, map, append-nil, append-assoc}
 use lib.ListN.{length, getD}
-use lib.Dec.{leb}
+use lib.Dec.{leb, eqb}
 use borrow.Author.Tests.{eq-eqb, ne-eqb, leb-true}
 use Rattle.text.specs.Words.{space, lineFeed, digit0, digit, allDigits, said}
 use Rattle.text.specs.Decimals.{digitsBefore, decimal}
 use Rattle.lists.proofs.Tests.{and-left, and-right}
 use Rattle.text.proofs.Back.{decimal-digits, decimal-says}
+use Rattle.text.proofs.Digits.{one-place}
+use Rattle.numbers.specs.Refusals.{ACCEPTED}
+use Rattle.ledger.specs.declared.Summary.{Summary}
 use Rattle.book.specs.declared.strict.Excess.{Excess}
 use Rattle.book.specs.declared.strict.Excess.the-variants.{Within, Over}
-use Rattle.report.specs.Lines.{PropertyWord, Rest, nothing, told, CallLine, end, stop, Line, book, called, last}
-use Rattle.report.specs.Report.{excessWords, bookLine, stopLine, endLine, lastLine, propertyWord, propertyWords, restWords, callLine, line, written}
-use Rattle.slip.specs.Back.{before, pieces, wordIn, wordThen, restIn, excessSaid, lineIn, linesIn}
+use Rattle.report.specs.Lines.{PropertyWord, Rest, nothing, told, CallLine, end, stop, Line, book, called, summed, last}
+use Rattle.report.specs.Report.{excessWords, bookLine, stopLine, endLine, lastLine, propertyWord, propertyWords, restWords, callLine, summaryLine, line, written}
+use Rattle.slip.specs.Back.{before, pieces, wordIn, wordThen, restIn, excessSaid, sums, summaryIn, lineIn, linesIn, Proper, AllProper}
 
 -- ---- bytes without the one that parts them
 abbrev Clear : ℕ → List ℕ → Type 0
@@ -159,18 +163,39 @@ numbered w n = w ++ space ∷ decimal n
 abbrev called-body : CallLine → List ℕ
 called-body l = decimal (l .number) ++ space ∷ (decimal (l .refusal) ++ restWords (l .rest))
 
+-- numbers parted by a space
+abbrev then-number : ℕ → List ℕ → List ℕ
+then-number n rest = decimal n ++ space ∷ rest
+
+abbrev summary-body : Summary → List ℕ
+summary-body s =
+    then-number (s .accepted) (then-number (s .failed) (then-number (s .first) (then-number (s .last) (then-number (s .longest) (decimal (s .settled))))))
+
+abbrev summary-pieces : Summary → List (List ℕ)
+summary-pieces s = decimal (s .accepted) ∷ decimal (s .failed) ∷ decimal (s .first) ∷ decimal (s .last) ∷ decimal (s .longest) ∷ decimal (s .settled) ∷ []
+
 body : Line → List ℕ
 body (book n e) = numbered (98 ∷ 111 ∷ 111 ∷ 107 ∷ []) n ++ excessWords e
 body (called l) = called-body l
+body (summed s) = summary-body s
 body (last end) = 101 ∷ 110 ∷ 100 ∷ []
 body (last (stop n)) = numbered (115 ∷ 116 ∷ 111 ∷ 112 ∷ []) n
 
+regroup : (a b c d e f z rest : List ℕ) → (a ++ b ++ c ++ d ++ e ++ f ++ z) ++ rest ≡ (a ++ (b ++ (c ++ (d ++ (e ++ f))))) ++ (z ++ rest)
+regroup a b c d e f z rest = simp append-assoc
+
 line-body : (l : Line) (rest : List ℕ) → line l ++ rest ≡ body l ++ lineFeed ∷ rest
-unfolding line body bookLine stopLine endLine lastLine callLine
+unfolding line body bookLine stopLine endLine lastLine callLine summaryLine
 line-body (book n e) rest = simp append-assoc
 line-body (called l) rest = simp append-assoc
+line-body (summed s) rest =
+    let after : ℕ → List ℕ = λ n. space ∷ decimal n in
+    regroup (decimal (s .accepted)) (after (s .failed)) (after (s .first)) (after (s .last)) (after (s .longest)) (after (s .settled)) (lineFeed ∷ []) rest
 line-body (last end) rest = refl
 line-body (last (stop n)) rest = simp append-assoc
+
+clear-number : (n : ℕ) (rest : List ℕ) → Clear lineFeed rest → Clear lineFeed (then-number n rest)
+clear-number n rest c = clear-append lineFeed (decimal n) (space ∷ rest) (clear-decimal lineFeed (omega arith) n) ((λ e. omega arith), c)
 
 clear-body : (l : Line) → Clear lineFeed (body l)
 unfolding body
@@ -193,38 +218,85 @@ clear-body (book n e) = (
 clear-body (called l) =
     clear-append lineFeed (decimal (l .number)) (space ∷ (decimal (l .refusal) ++ restWords (l .rest))) (clear-decimal lineFeed (omega arith) (l .number))
     ((λ e. omega arith), clear-append lineFeed (decimal (l .refusal)) (restWords (l .rest)) (clear-decimal lineFeed (omega arith) (l .refusal)) (clear-rest (l .rest)))
+clear-body (summed s) =
+    clear-number (s .accepted) _ (clear-number (s .failed) _ (clear-number (s .first) _ (clear-number (s .last) _ (clear-number (s .longest) _ (clear-decimal lineFeed (omega arith) (s .settled))))))
 clear-body (last end) = ((λ e. omega arith), ((λ e. omega arith), ((λ e. omega arith), tt)))
 clear-body (last (stop n)) = ((λ e. omega arith), ((λ e. omega arith), ((λ e. omega arith), ((λ e. omega arith), ((λ e. omega arith), clear-decimal lineFeed (omega arith) n)))))
 
-body-back : (l : Line) → lineIn (pieces space (body l)) ≡ l
+-- ---- a call's line is no summary
+neither : (z : Bool) → cond z false false ≡ false
+neither true = refl
+neither false = refl
+
+no-summary : (l : CallLine) → Proper (called l) → (r : Rest) → l .rest ≡ r → sums (decimal (l .number) ∷ decimal (l .refusal) ∷ rest-pieces r) ≡ false
+unfolding sums rest-pieces
+no-summary l ok nothing e = refl
+no-summary l ok (told [] count) e = refl
+no-summary l ok (told (v ∷ vs) count) e = go (ℕ-discrete (l .refusal) ACCEPTED)
+  where
+    go : Dec (l .refusal ≡ ACCEPTED) → sums (decimal (l .number) ∷ decimal (l .refusal) ∷ rest-pieces (told (v ∷ vs) count)) ≡ false
+    go (yes z) = rw (decimal-says (l .refusal), eq-eqb (l .refusal) ACCEPTED z) (neither (eqb (length (decimal (l .number) ∷ decimal (l .refusal) ∷ (map bytesOf (v ∷ vs) ++ decimal count ∷ []))) 6))
+    go (no z) = let n = ok z in let y : _≡_ {A = ℕ} 0 1 = cc in absurd (omega arith)
+
+-- ---- a summary is one
+a-number : (n : ℕ) (rest : List ℕ) (ps : List (List ℕ)) → pieces space rest ≡ ps → pieces space (then-number n rest) ≡ decimal n ∷ ps
+a-number n rest ps e = first-piece space (decimal n) rest (clear-decimal space (omega arith) n) ∙ ap (λ qs. decimal n ∷ qs) e
+
+summary-parted : (s : Summary) → pieces space (summary-body s) ≡ summary-pieces s
+summary-parted s =
+    a-number (s .accepted) _ _ (a-number (s .failed) _ _ (a-number (s .first) _ _ (a-number (s .last) _ _ (a-number (s .longest) _ _ (number-piece (s .settled))))))
+
+a-summary : (s : Summary) → Proper (summed s) → sums (summary-pieces s) ≡ true
+unfolding sums
+a-summary s ok = rw (decimal-says (s .failed)) (go (ℕ-discrete (s .failed) 0))
+  where
+    go : Dec (s .failed ≡ 0) → cond (eqb (s .failed) 0) (eqb (length (decimal (s .first))) 1) true ≡ true
+    go (yes z) = rw (eq-eqb (s .failed) 0 z, ok z, ← one-place 0 (omega arith))
+    go (no z) = rw (ne-eqb (s .failed) 0 z)
+
+summary-back : (s : Summary) → summaryIn (summary-pieces s) ≡ s
+unfolding summaryIn
+summary-back s = rw (decimal-says (s .accepted), decimal-says (s .failed), decimal-says (s .first), decimal-says (s .last), decimal-says (s .longest), decimal-says (s .settled))
+
+body-back : (l : Line) → Proper l → lineIn (pieces space (body l)) ≡ l
 unfolding body lineIn
-body-back (book n e) =
+body-back (book n e) ok =
     rw (
       first-piece space (98 ∷ 111 ∷ 111 ∷ 107 ∷ []) (decimal n ++ excessWords e) ((λ h. omega arith), ((λ h. omega arith), ((λ h. omega arith), ((λ h. omega arith), tt)))),
       excess-parted (decimal n) e (some-digit n) (clear-decimal space (omega arith) n),
       decimal-says n,
       excess-back e,
     )
-body-back (called l) =
+body-back (called l) ok =
     let d = first-digit (decimal (l .number)) (some-digit (l .number)) (decimal-digits (l .number)) in
     rw (
       first-piece space (decimal (l .number)) (decimal (l .refusal) ++ restWords (l .rest)) (clear-decimal space (omega arith) (l .number)),
       rest-parted (decimal (l .refusal)) (l .rest) (some-digit (l .refusal)) (clear-decimal space (omega arith) (l .refusal)),
       ne-eqb (getD (decimal (l .number)) 0 0) 98 (λ e. omega arith),
       ne-eqb (getD (decimal (l .number)) 0 0) 115 (λ e. omega arith),
+      no-summary l ok (l .rest) refl,
       decimal-says (l .number),
       decimal-says (l .refusal),
       rest-back (l .rest),
     )
-body-back (last end) =
+body-back (summed s) ok =
+    let d = first-digit (decimal (s .accepted)) (some-digit (s .accepted)) (decimal-digits (s .accepted)) in
+    rw (
+      summary-parted s,
+      ne-eqb (getD (decimal (s .accepted)) 0 0) 98 (λ e. omega arith),
+      ne-eqb (getD (decimal (s .accepted)) 0 0) 115 (λ e. omega arith),
+      a-summary s ok,
+      summary-back s,
+    )
+body-back (last end) ok =
     rw (one-piece space (101 ∷ 110 ∷ 100 ∷ []) (omega arith) ((λ e. omega arith), ((λ e. omega arith), ((λ e. omega arith), tt))))
-body-back (last (stop n)) =
+body-back (last (stop n)) ok =
     rw (first-piece space (115 ∷ 116 ∷ 111 ∷ 112 ∷ []) (decimal n) ((λ e. omega arith), ((λ e. omega arith), ((λ e. omega arith), ((λ e. omega arith), tt)))), number-piece n, decimal-says n)
 
 -- ---- lines one after the other
-pub lines-back : (ls : List Line) → linesIn (written ls) ≡ ls
+pub lines-back : (ls : List Line) → AllProper ls → linesIn (written ls) ≡ ls
 unfolding linesIn written pieces
-lines-back [] = refl
-lines-back (l ∷ ls) =
+lines-back [] ok = refl
+lines-back (l ∷ ls) ok =
     rw (line-body l (written ls), first-piece lineFeed (body l) (written ls) (clear-body l))
-    (ap₂ (λ x xs. x ∷ xs) (body-back l) (lines-back ls))
+    (ap₂ (λ x xs. x ∷ xs) (body-back l (ok .0)) (lines-back ls (ok .1)))

@@ -18,7 +18,8 @@ use Rattle.lasts.specs.Flat.{Fit}
 use Rattle.lasts.proofs.Loaded.{sections-fit, empty-fit}
 use Rattle.property_answers.specs.Verdict.{verdictIn}
 use Rattle.report.specs.Lines.{PropertyWord, nothing, wordsIn, countIn, CallLine, book, wordOf, lineOf, lines}
-use Rattle.slip.specs.Says.{loadedOf, bookSaid, callsSaid, firstCalls, noWord, missingCall, Says}
+use Rattle.slip.specs.Says.{loadedOf, bookSaid, callsSaid, firstCalls, missingCall, Says}
+use Rattle.summaries.specs.Recount.{noWord}
 use Rattle.slip.proofs.Places.{one-more, CalledLine, called-line}
 
 -- ---- the book that a text says has what is asked of one

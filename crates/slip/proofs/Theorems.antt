@@ -10,7 +10,7 @@ use borrow.Author.Tests.{le-ltb, ne-eqb}
 use Rattle.numbers.specs.Limits.{MOST-RUNS, LONGEST-INPUT, LONGEST-REPORT}
 use Rattle.numbers.specs.Refusals.{ACCEPTED, PAST-LIMIT, NO-ROOM, COULD-RUN-OUT, NESTED}
 use Rattle.text.specs.Words.{supply}
-use Rattle.pmtl.specs.Book.{properties}
+use Rattle.pmtl.specs.Book.{properties, propertyAt}
 use Rattle.pmtl.specs.declared.Answer.{Answer}
 use Rattle.pmtl.specs.declared.Answer.the-variants.{False, True, Open}
 use Rattle.pmtl.specs.Answer.{digitOf, bitOf, known}
@@ -32,28 +32,33 @@ use Rattle.book.specs.Judging.{Loaded, refusedWith, loadedFrom}
 use Rattle.book.specs.Strict.{strictly, excessBy, unless}
 use Rattle.book.specs.Loading.{wayIn, flatly, admitted}
 use Rattle.book.proofs.Admitted.{nested-refused, fifteen-first, admitted-strict}
-use Rattle.property_answers.specs.Verdict.{propertyAt, verdictIn}
-use Rattle.report.specs.Lines.{PropertyWord, nothing, wordsIn, countIn, CallLine, stop, Line, book, called, last, wordOf, callLines, bookThen, bookLines, lines}
+use Rattle.property_answers.specs.Verdict.{verdictIn}
+use Rattle.report.specs.Lines.{PropertyWord, nothing, wordsIn, countIn, CallLine, end, stop, Line, book, called, last, wordOf, callLines, bookThen, bookLines, lines}
 use Rattle.report.specs.Report.{written, report}
-use Rattle.slip.specs.Back.{linesIn}
-use Rattle.slip.specs.Says.{sectionsSaid, loadedOf, bookSaid, excessOf, callsSaid, firstCalls, noLine, missingCall, SaidTwice, Says, Shape}
-use Rattle.slip.specs.TakenOut.{CallAt, TakenOut, without}
-use Rattle.slip.specs.Longest.{longest}
+use Rattle.slip.specs.Back.{linesIn, AllProper}
+use Rattle.slip.specs.Says.{sectionsSaid, loadedOf, bookSaid, excessOf, callsSaid, firstCalls, noLine, missingCall, SaidTwice, Says, callsAmong, summariesAmong, finalLine, recounts, Shape}
+use Rattle.slip.specs.TakenOut.{CallAt, TakenOut, without, unsummed}
+use Rattle.slip.specs.Longest.{longest, longestStopped}
 use Rattle.slip.proofs.Reading.{lines-back}
 use Rattle.slip.proofs.Places.{shape, called-line}
 use Rattle.slip.proofs.Sayings.{fit, word-each, count-here, refusal-here, nothing-here, word-is, calls-go-on}
 use Rattle.slip.proofs.Traces.{no-trace, call-at}
 use Rattle.slip.proofs.Again.{second-line, second-leaves-no-trace}
-use Rattle.slip.proofs.Lengths.{at-most-longest, room-enough}
+use Rattle.slip.proofs.Recounted.{all-proper, recounted, none-otherwise}
+use Rattle.slip.proofs.Lengths.{at-most-longest, at-most-stopped, room-enough}
 
 -- ---- READING BACK: the bytes of a report say its lines
 pub read-back : (way : Loading) (input : List ℕ) → linesIn (report way input) ≡ lines way input
 unfolding report
-read-back way input = lines-back (lines way input)
+read-back way input = lines-back (lines way input) (all-proper way input)
 
--- and no two lists of lines are written alike
-pub written-once : (ls ls′ : List Line) → written ls ≡ written ls′ → ls ≡ ls′
-written-once ls ls′ e = sym (lines-back ls) ∙ ap linesIn e ∙ lines-back ls′
+-- and no two lists of lines that a report can have are written alike
+pub written-once : (ls ls′ : List Line) → AllProper ls → AllProper ls′ → written ls ≡ written ls′ → ls ≡ ls′
+written-once ls ls′ ok ok′ e = sym (lines-back ls ok) ∙ ap linesIn e ∙ lines-back ls′ ok′
+
+-- such are the lines of every report
+pub always-proper : (way : Loading) (input : List ℕ) → AllProper (lines way input)
+always-proper = all-proper
 
 -- ---- what a word says
 -- the three digits on an accepted line are those of the answers after the calls that the text says up to that line
@@ -183,7 +188,7 @@ nested-refuses way last-way input {s} {ws} f e h n =
 pub call-said : (way : Loading) (input : List ℕ) (i : ℕ) {l : CallLine} → getD (lines way input) i noLine ≡ called l → CallAt input i
 call-said way input = call-at input way
 
--- a text without the words of a refused call, its count one less, has the same lines but for that one and the numbering
+-- a text without the words of a refused call, its count one less, has the same lines but for that one and the numbers of calls, in the summaries, too
 pub refused-leaves-no-trace : (way : Loading) {input : List ℕ} {i : ℕ} (c : CallAt input i) {l : CallLine} → getD (lines way input) i noLine ≡ called l → ¬ (l .refusal ≡ ACCEPTED)
     → {other : List ℕ} → TakenOut c other → lines way other ≡ without i (lines way input)
 refused-leaves-no-trace way c h n t = no-trace way c h n t
@@ -194,18 +199,31 @@ pub doubled-line : (way : Loading) (input : List ℕ) (i : ℕ) {l : CallLine} �
     → getD (lines way input) (suc i) noLine ≡ called (record { number = suc (l .number); refusal = l .refusal; rest = l .rest })
 doubled-line way input i h z t = second-line way input (called-line way input i h) z t
 
--- and a text without the words of the second, its count one less, has the same lines but for that one and the numbering
+-- and a text without the words of the second, its count one less, has the same lines but for that one, the numbering and the summaries, in which the
+-- second is counted
 pub doubled-leaves-no-trace : (way : Loading) (input : List ℕ) (i : ℕ) {l : CallLine} → getD (lines way input) i noLine ≡ called l → l .refusal ≡ ACCEPTED → SaidTwice input i
-    → (c : CallAt input (suc i)) {other : List ℕ} → TakenOut c other → lines way other ≡ without (suc i) (lines way input)
+    → (c : CallAt input (suc i)) {other : List ℕ} → TakenOut c other → unsummed (lines way other) ≡ unsummed (without (suc i) (lines way input))
 doubled-leaves-no-trace way input i h z t = second-leaves-no-trace way input (called-line way input i h) z t
 
--- ---- ONE LINE FOR EACH CALL read, in order, numbered from 1, and one last line; nothing after a refused book
+-- ---- THE SUMMARIES before `end` are a recount of the lines of calls, for each property
+pub summaries-recount-the-lines : (way : Loading) (input : List ℕ) → finalLine (lines way input) ≡ last end → summariesAmong (lines way input) ≡ recounts (bookSaid way input) (callsAmong (lines way input))
+summaries-recount-the-lines = recounted
+
+-- and where the report ends otherwise there are none
+pub no-summaries-otherwise : (way : Loading) (input : List ℕ) → ¬ (finalLine (lines way input) ≡ last end) → summariesAmong (lines way input) ≡ []
+no-summaries-otherwise = none-otherwise
+
+-- ---- ONE LINE FOR EACH CALL read, in order, numbered from 1, the summaries and one last line; nothing after a refused book
 pub one-line-each : (way : Loading) (input : List ℕ) → Shape way input
 one-line-each = shape
 
 -- ---- HOW LONG a report gets
 pub no-longer : (way : Loading) (input : List ℕ) → length (report way input) ≤ longest (length input)
 no-longer = at-most-longest
+
+-- one that ends with `stop` has no summaries, and less
+pub no-longer-stopped : (way : Loading) (input : List ℕ) {n : ℕ} → finalLine (lines way input) ≡ last (stop n) → length (report way input) ≤ longestStopped (length input)
+no-longer-stopped = at-most-stopped
 
 -- so there is room for every report
 pub always-room : (way : Loading) (input : List ℕ) → length (report way input) ≤ LONGEST-REPORT

@@ -14,7 +14,7 @@ BOOK-BYTES = 9
 abbrev pub mostCalls : ℕ → ℕ
 mostCalls n = (n - BOOK-BYTES) / CALL-BYTES
 
--- the most digits of a call's number
+-- the most digits of a call's number, and of how many there are
 abbrev pub NUMBER-DIGITS : ℕ
 NUMBER-DIGITS = 5
 
@@ -38,6 +38,17 @@ FIRST-BYTES = 7
 abbrev pub LAST-BYTES : ℕ
 LAST-BYTES = 8
 
--- the most bytes that the report of an input of n bytes has
+-- a property's summary: six numbers that no call's number passes, five spaces and a line feed
+abbrev pub SUMMARY-BYTES : ℕ
+SUMMARY-BYTES = 6 * NUMBER-DIGITS + 6
+
+-- all of them, `end` and a line feed
+abbrev pub END-BYTES : ℕ
+END-BYTES = SUMMARY-BYTES * MOST-PROPERTIES + 4
+
+-- the most bytes that the report of an input of n bytes has; and where it ends with `stop`
 abbrev pub longest : ℕ → ℕ
-longest n = FIRST-BYTES + mostCalls n * LINE-BYTES + LAST-BYTES
+longest n = FIRST-BYTES + mostCalls n * LINE-BYTES + END-BYTES
+
+abbrev pub longestStopped : ℕ → ℕ
+longestStopped n = FIRST-BYTES + mostCalls n * LINE-BYTES + LAST-BYTES

@@ -6,7 +6,7 @@ use lib.ListN.{length, getD, take}
 use Rattle.numbers.specs.Limits.{LONGEST-INPUT}
 use Rattle.numbers.specs.Refusals.{ACCEPTED, PAST-LIMIT}
 use Rattle.text.specs.Words.{supply}
-use Rattle.pmtl.specs.Book.{Book}
+use Rattle.pmtl.specs.Book.{Book, properties}
 use Rattle.pmtl.specs.Calls.{Call, call, afterIn}
 use Rattle.pmtl.specs.Calls.Call.{time}
 use Rattle.book.specs.Reading.{Read, got, refused, Sections, sections}
@@ -16,7 +16,10 @@ use Rattle.book.specs.declared.strict.Excess.the-variants.{Within}
 use Rattle.book.specs.Strict.{excessBy}
 use Rattle.book.specs.Loading.{wayIn, admitted}
 use Rattle.book.specs.Judging.{Loaded, refusedWith, loadedFrom}
-use Rattle.report.specs.Lines.{PropertyWord, nothing, wordsIn, CallLine, Ending, end, stop, Line, book, called, last, CallsRead, callsAfter, lineOf, lines}
+use Rattle.lists.specs.Lists.{listed}
+use Rattle.ledger.specs.declared.Summary.{Summary}
+use Rattle.report.specs.Lines.{PropertyWord, nothing, wordsIn, CallLine, Ending, end, stop, Line, book, called, summed, last, CallsRead, callsAfter, lineOf, lines}
+use Rattle.summaries.specs.Recount.{noWord, recount}
 
 -- ---- what a text says
 -- the sections of its book
@@ -56,12 +59,9 @@ abbrev pub firstCalls : List ℕ → ℕ → List Call
 firstCalls input i = reverse (take i (callsSaid input))
 
 -- ---- what lines say. Line 0 is the book's
--- nothing where there is no such line, word, call
+-- nothing where there is no such line, call
 abbrev pub noLine : Line
 noLine = last end
-
-abbrev pub noWord : PropertyWord
-noWord = record { value = 2; early = 2; settled = 2 }
 
 abbrev pub noCallLine : CallLine
 noCallLine = record { number = 0; refusal = 0; rest = nothing }
@@ -82,11 +82,47 @@ pub record Says (ls : List Line) (i p : ℕ) (w : PropertyWord) : Type 0 where
   pub there : p < length (wordsIn (line .rest))
   pub word : getD (wordsIn (line .rest)) p noWord ≡ w
 
--- after a loaded book: a line for each call that the text says, in order, numbered from 1, and one last line
+-- ---- the lines of calls and the summaries among lines, the oldest first, and the last line
+abbrev pub callsOf : Line → List CallLine
+callsOf (book n e) = []
+callsOf (called l) = l ∷ []
+callsOf (summed s) = []
+callsOf (last e) = []
+
+abbrev pub summaryOf : Line → List Summary
+summaryOf (book n e) = []
+summaryOf (called l) = []
+summaryOf (summed s) = s ∷ []
+summaryOf (last e) = []
+
+unfoldable pub callsAmong : List Line → List CallLine
+callsAmong [] = []
+callsAmong (l ∷ ls) = callsOf l ++ callsAmong ls
+
+unfoldable pub summariesAmong : List Line → List Summary
+summariesAmong [] = []
+summariesAmong (l ∷ ls) = summaryOf l ++ summariesAmong ls
+
+unfoldable pub finalLine : List Line → Line
+finalLine [] = noLine
+finalLine (l ∷ []) = l
+finalLine (l ∷ k ∷ ls) = finalLine (k ∷ ls)
+
+-- a recount of the lines of calls for each property, assumes first
+abbrev pub recounts : Book → List CallLine → List Summary
+recounts b calls = listed (λ p. recount p calls) (length (properties b))
+
+-- what follows the lines of calls: before `end` these, and nothing before `stop`
+unfoldable pub closing : Book → List CallLine → Ending → List Line
+closing b calls end = map summed (recounts b calls) ++ last end ∷ []
+closing b calls (stop n) = last (stop n) ∷ []
+
+-- after a loaded book: a line for each call that the text says, in order, numbered from 1; where all was read a recount of them for each property; one
+-- last line
 pub record Whole (way : Loading) (input : List ℕ) : Type 0 where
   pub calls : List CallLine
   pub loads : loadedOf way (sectionsSaid input) .number ≡ ACCEPTED
-  pub all : lines way input ≡ book ACCEPTED Within ∷ map called calls ++ last (endSaid input) ∷ []
+  pub all : lines way input ≡ book ACCEPTED Within ∷ map called calls ++ closing (bookSaid way input) calls (endSaid input)
   pub each : length calls ≡ length (callsSaid input)
   pub numbered : (i : ℕ) → i < length calls → getD calls i noCallLine .number ≡ suc i
   pub in-order : (i : ℕ) → i < length calls → getD calls i noCallLine

@@ -1,13 +1,16 @@
 -- A text without one of its calls, and a report without its line. Definitions only.
-use Prim.Native.Nat.{ℕ, zero, suc, _-_, _≤_}
+use Prim.Native.Nat.{ℕ, suc, _-_, _≤_}
 use mathlib.Core.Path.{_≡_}
 use mathlib.Core.List.{List, [], _∷_, _++_, map}
-use lib.ListN.{length}
+use mathlib.Core.Bool.{cond}
+use lib.ListN.{length, take, drop}
+use lib.Dec.{ltb}
 use Rattle.numbers.specs.Limits.{MOST-ATOMS, LONGEST-INPUT}
 use Rattle.text.specs.Words.{supply}
 use Rattle.pmtl.specs.Calls.{Call, time, state, stamped}
 use Rattle.book.specs.Reading.{got, Sections}
-use Rattle.report.specs.Lines.{Line, book, called, last}
+use Rattle.report.specs.Lines.{Line, book, called, summed, last}
+use Rattle.summaries.specs.Renumbered.{renumberedLine, renumbered}
 use Rattle.slip.specs.Says.{sectionsSaid}
 
 -- the words of a call, and of calls in order
@@ -49,14 +52,28 @@ pub record TakenOut {input : List ℕ} {i : ℕ} (c : CallAt input i) (other : L
   pub ending : supply other .ending ≡ supply input .ending
   pub words : sectionsSaid other ≡ got (c .book) (c .fewer ∷ (allWords (c .before) ++ c .rest))
 
--- a line that is numbered one lower
-abbrev pub lowered : Line → Line
-lowered (book n e) = book n e
-lowered (called l) = called (record { number = l .number - 1; refusal = l .refusal; rest = l .rest })
-lowered (last e) = last e
+-- where call i is taken out, the number of a call: one lower from there on
+abbrev pub lowerFrom : ℕ → ℕ → ℕ
+lowerFrom i n = cond (ltb n i) n (n - 1)
 
--- lines without line i, and those after it numbered one lower
+-- a line with the calls that it names by these numbers
+abbrev pub lowered : ℕ → Line → Line
+lowered i (book n e) = book n e
+lowered i (called l) = called (renumberedLine (lowerFrom i) l)
+lowered i (summed s) = summed (renumbered (lowerFrom i) s)
+lowered i (last e) = last e
+
+-- lines without line i, and calls by their new numbers
 unfoldable pub without : ℕ → List Line → List Line
-without i [] = []
-without zero (l ∷ ls) = map lowered ls
-without (suc i) (l ∷ ls) = l ∷ without i ls
+without i ls = map (lowered i) (take i ls ++ drop (suc i) ls)
+
+-- lines without the summaries
+abbrev pub unlessSummed : Line → List Line → List Line
+unlessSummed (book n e) ls = book n e ∷ ls
+unlessSummed (called l) ls = called l ∷ ls
+unlessSummed (summed s) ls = ls
+unlessSummed (last e) ls = last e ∷ ls
+
+unfoldable pub unsummed : List Line → List Line
+unsummed [] = []
+unsummed (l ∷ ls) = unlessSummed l (unsummed ls)

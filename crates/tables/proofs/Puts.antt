@@ -21,13 +21,14 @@ use Rattle.pmtl.proofs.Table.{mapRow-local, answer-in}
 use Rattle.pmtl.specs.Monitor.{State, fullest, value}
 use Rattle.pmtl.specs.Early.{early}
 use Rattle.pmtl.specs.Settled.{settled}
-use Rattle.memory.specs.Layout.{VALUES, TOLD, EARLY, SETTLED, MOVES, FULLEST, PROPERTIES}
+use Rattle.memory.specs.Layout.{VALUES, TOLD, EARLY, SETTLED, MOVES, FULLEST, LEDGER, PROPERTIES}
 use Rattle.memory.specs.Memory.{rowCount, clockOf, temporals, slotWords, propertyRow, valueAt, toldAt, earlyAt, settledAt, movesAt, fullestWord, rowOf, rowsOf, stateOf, isOne}
 use Rattle.memory.specs.Tables.{standing, valueOf, earlyOf, settledOf, propertyCount, Valued, Told, Answered, Moving, Counts, Unused, Tables}
 use Rattle.memory.specs.Kept.{Sound}
-use Rattle.memory.specs.Alike.{Alike}
+use Rattle.memory.specs.Alike.{Alike, SameLedger}
 use Rattle.memory.proofs.Bits.{bit-back}
 use Rattle.memory.proofs.Rows.{rows-length, row-at, kept-ordered}
+use Rattle.memory.proofs.Ledger.{ledger-on, ledger-filled}
 use Rattle.memory.proofs.Alike.{alike-on, alike-filled, alike-sound, alike-rows, alike-state, alike-set}
 use Rattle.row_answers.specs.Told.{earlyTold}
 use Rattle.row_answers.proofs.Told.{told-early, told-settled, early-same, settled-same, alike-told}
@@ -116,6 +117,21 @@ module _ {m m′ : List ℕ} (sound : Sound m) (alike : Alike m m′) where
         settled = rw same-properties (λ i p q. settled i p q ∙ u .settled i p q);
         moves = rw same-rows (λ r p q. moved r p q ∙ u .moves r p q);
       }
+
+  -- so are all tables, where the memories differ in their ledger alone
+  pub tables-same : ((i : ℕ) → i < LEDGER → getD m′ i 0 ≡ getD m i 0) → Tables m → Tables m′
+  tables-same same t = record {
+    valued = valued-same (λ r h. same (VALUES + r) (omega arith)) (t .valued);
+    told = told-same (λ j h. same (TOLD + j) (omega arith)) (t .told);
+    answered = answered-same (λ i h. same (EARLY + i) (omega arith)) (λ i h. same (SETTLED + i) (omega arith)) (t .answered);
+    moving = moving-same (λ r h. same (MOVES + r) (omega arith)) (t .moving);
+    counts = counts-same (same FULLEST (omega arith)) (t .counts);
+    unused =
+        unused-same
+        (λ r p q. same (VALUES + r) (omega arith)) (λ j p q. same (TOLD + j) (omega arith))
+        (λ i p q. same (EARLY + i) (omega arith)) (λ i p q. same (SETTLED + i) (omega arith)) (λ r p q. same (MOVES + r) (omega arith))
+        (t .unused);
+  }
 
 -- ---- which rows move
 module _ {m : List ℕ} (sound : Sound m) where
@@ -290,6 +306,9 @@ module _ {m : List ℕ} (sound : Sound m) where
   pub count-alike : Alike m (countPut m)
   count-alike = record { long = length-set m FULLEST (fullest (stateOf m)); below = λ i h. count-other i (omega arith) }
 
+  pub count-ledger : SameLedger m (countPut m)
+  count-ledger = record { words = λ i h. getD-set-other m FULLEST i (fullest (stateOf m)) 0 (omega arith) }
+
   pub count-sound : Sound (countPut m)
   count-sound = alike-sound sound count-alike
 
@@ -389,6 +408,11 @@ module _ {m : List ℕ} (sound : Sound m) (valued : Valued m) (told : Told m) (m
   pub asked-alike : Alike m (settledPut early-put)
   asked-alike = alike-on to-early to-settled
 
+  pub asked-ledger : SameLedger m (settledPut early-put)
+  asked-ledger =
+      let few = few-properties sound in
+      ledger-on (ledger-filled m EARLY (earlyDigit m) (propertyCount m) (omega arith)) (ledger-filled early-put SETTLED (settledDigit early-put) (propertyCount early-put) (omega (arith, count₁)))
+
   told₁ : Told early-put
   told₁ = told-same sound to-early (digits-told sound EARLY (earlyDigit m) (propertyCount m) (omega arith)) told
 
@@ -467,7 +491,7 @@ pub moves-put-sound : {m : List ℕ} → Sound m → Sound (movesPut m)
 moves-put-sound {m} sound = alike-sound sound (moves-put-alike sound)
 
 -- what is told and counted, and the digits, put where the rest is right
-pub told-and-asked : {m : List ℕ} → Sound m → Valued m → Moving m → Unused m → {m′ : List ℕ} → m′ ≡ settledPut (earlyPut (countPut (toldPut m))) → Alike m m′ × Tables m′
+pub told-and-asked : {m : List ℕ} → Sound m → Valued m → Moving m → Unused m → {m′ : List ℕ} → m′ ≡ settledPut (earlyPut (countPut (toldPut m))) → Alike m m′ × Tables m′ × SameLedger m m′
 told-and-asked {m} sound valued moving unused e =
     let sound₁ = alike-sound sound (told-alike sound) in
     let sound₂ = count-sound sound₁ in
@@ -476,12 +500,21 @@ told-and-asked {m} sound valued moving unused e =
     let moving₂ = count-moving sound₁ (told-moving sound moving) in
     let counts₂ = count-counts sound₁ in
     let unused₂ = count-unused sound₁ (told-unused sound unused) in
-    rw e (alike-on (told-alike sound) (alike-on (count-alike sound₁) (asked-alike sound₂ valued₂ told₂ moving₂ counts₂ unused₂)), asked-tables sound₂ valued₂ told₂ moving₂ counts₂ unused₂)
+    let few = few-sets sound in
+    rw e (
+      alike-on (told-alike sound) (alike-on (count-alike sound₁) (asked-alike sound₂ valued₂ told₂ moving₂ counts₂ unused₂)),
+      asked-tables sound₂ valued₂ told₂ moving₂ counts₂ unused₂,
+      ledger-on (ledger-filled m TOLD (standingAt m) (temporals m) (omega arith)) (ledger-on (count-ledger sound₁) (asked-ledger sound₂ valued₂ told₂ moving₂ counts₂ unused₂)),
+    )
 
 pub worked-out : {m : List ℕ} → Sound m → Unused m
-    → Alike m (settledPut (earlyPut (countPut (toldPut (valuesPut (movesPut m)))))) × Tables (settledPut (earlyPut (countPut (toldPut (valuesPut (movesPut m))))))
+    → let m′ = settledPut (earlyPut (countPut (toldPut (valuesPut (movesPut m))))) in Alike m m′ × Tables m′ × SameLedger m m′
 worked-out {m} sound unused =
     let sound₀ = moves-put-sound sound in
     let to₁ = alike-on (moves-put-alike sound) (values-alike sound₀) in
     let t = told-and-asked (values-put-sound sound₀) (values-valued sound₀) (values-moving sound₀ (moves-moving sound)) (values-unused sound₀ (moves-unused sound unused)) refl in
-    (alike-on to₁ (t .0), t .1)
+    let few = few-rows sound in
+    let few₀ = few-rows sound₀ in
+    let same₀ = ledger-filled m MOVES (move-word m) (rowCount m) (omega arith) in
+    let same₁ = ledger-filled (movesPut m) VALUES (value-word sound₀) (rowCount (movesPut m)) (omega arith) in
+    (alike-on to₁ (t .0), t .1, ledger-on same₀ (ledger-on same₁ (t .2)))

@@ -1,6 +1,6 @@
 // The tables of a monitor's memory, worked out from the book, the clock, the atoms and the sets.
 ghost use mathlib.Core.Path.{_≡_};
-ghost use mathlib.Core.Bool.{Bool, true, cond, _&&_};
+ghost use mathlib.Core.Bool.{true, cond, _&&_};
 ghost use mathlib.Core.List.{map};
 ghost use Prim.Native.Nat.{_+_, _≤_, _<_, max};
 ghost use lib.Dec.{eqb};
@@ -12,7 +12,7 @@ ghost use Rattle.memory.specs.Layout.{MOVES, SIZE};
 ghost use Rattle.memory.specs.Memory.{rowCount, begunWord, temporals, operandsFrom, rowOf, isOne};
 ghost use Rattle.memory.specs.Tables.{standing, Unused, Tables};
 ghost use Rattle.memory.specs.Kept.{BookKept, Span, Sound};
-ghost use Rattle.memory.specs.Alike.{Alike};
+ghost use Rattle.memory.specs.Alike.{Alike, SameLedger};
 ghost use Rattle.row_answers.specs.Told.{settledTold};
 ghost use Rattle.row_answers.specs.Private.{joined};
 ghost use Rattle.tables.specs.Puts.{bitIn, movesPut, valuesPut, toldPut, countPut, earlyPut, settledPut, toldAgain};
@@ -204,7 +204,7 @@ pub fn ask(monitor: &mut [u64; SIZE])
 // All tables of a memory whose unused words are 0.
 pub fn work_out(monitor: &mut [u64; SIZE])
     requires { ⌜ Sound (now monitor) × Unused (now monitor) ⌝ }
-    ensures { λ _. ⌜ Alike (now (monitor .entry)) (now (monitor .exit)) × Tables (now (monitor .exit)) ⌝ }
+    ensures { λ _. ⌜ Alike (now (monitor .entry)) (now (monitor .exit)) × Tables (now (monitor .exit)) × SameLedger (now (monitor .entry)) (now (monitor .exit)) ⌝ }
 {
     fill_moves(monitor);
     fill_values(monitor);

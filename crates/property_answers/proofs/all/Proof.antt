@@ -6,7 +6,8 @@ use Rattle.memory.specs.Tables.{propertyCount}
 use Rattle.property_answers.specs.Verdict.{verdictOf}
 use Rattle.property_answers.specs.Private.{absent}
 use Rattle.lists.proofs.Filled.{Filled, filled-start, filled-more, filled-all}
-use Rattle.property_answers.proofs.Bridge.{properties-length, verdict-out, few-count}
+use Rattle.memory.proofs.Properties.{properties-length}
+use Rattle.property_answers.proofs.Bridge.{verdict-out, few-count}
 use borrow.Author.Needs.{needs}
 use Rattle.property_answers.proofs.all.Statement.{statement}
 use Rattle.property_answers.proofs.all.Tie as tie
@@ -45,7 +46,7 @@ loop-again : tie.Need-loop-again Inv-loop μ-loop
 loop-again c = let s = (c .before .before .before .before .before) in let l = (c .before .before) .loop in let e = l .inv .1 in let h = few-count {i = l .i} (s .pre) (omega arith) in (omega arith, e, filled-more _ absent 32 (l .inv .2) (omega arith) (c .verdict-at .ensures))
 
 returns : tie.Need-returns Inv-loop μ-loop
-returns c = let s = (c .before .before .before .before) in let l = (c .before) .loop in let e = l .inv .1 in let le = l .inv .0 in (e ∙ sym (properties-length (s .args .monitor .now) (s .pre)), filled-all _ absent 32 (l .inv .2) (λ k h few. verdict-out (s .args .monitor .now) (s .pre) k (omega arith)))
+returns c = let s = (c .before .before .before .before) in let l = (c .before) .loop in let e = l .inv .1 in let le = l .inv .0 in (e ∙ sym (properties-length (s .args .monitor .now) (s .pre .sound .book)), filled-all _ absent 32 (l .inv .2) (λ k h few. verdict-out (s .args .monitor .now) (s .pre) k (omega arith)))
 
 pub all-spec : {M : Type 1} → statement M
 all-spec =

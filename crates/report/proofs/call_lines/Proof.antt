@@ -72,13 +72,13 @@ loop-again c =
     (go-more (l .inv .0) made (c .before .before .before .before .before .before .before .before .before .before .before .before .before .before .before .loop-test .taken) line (c .before .before .put-call .kept .0), l .inv .1, counted)
 
 last-requires : tie.Need-last-requires Inv-loop μ-loop
-last-requires c κs = search needs
+last-requires c κs = c .before .before .before .loop .inv .0 .kept
 
 same-length-2 : tie.Need-same-length-2 Inv-loop μ-loop
 same-length-2 c = search needs
 
 returns-2 : tie.Need-returns-2 Inv-loop μ-loop
-returns-2 c = go-end ((c .before .before .before .before .before) .loop .inv .0) ((c .before .before .before .before) .loop-test .left) ((c .before .before) .last .ensures)
+returns-2 c = go-end ((c .before .before .before .before .before .before) .loop .inv .0) ((c .before .before .before .before .before) .loop-test .left) ((c .before .before) .last .ensures)
 
 pub call-lines-spec : {M : Type 1} → statement M
 call-lines-spec =

@@ -34,7 +34,7 @@ same-length-2 : tie.Need-same-length-2
 same-length-2 c = search needs
 
 returns-2 : tie.Need-returns-2
-returns-2 c = after-count _ _ _ _ _ _ (sym (c .before .before .before .before .before .before .before .before .next-word .ensures) ∙ c .before .before .before .before .before .before .r .given .1) (c .before .before .before .before .before .before .before .before .before .before .before .pre .1) (c .before .before .call-lines .ensures)
+returns-2 c = after-count _ _ _ _ _ _ (sym (c .before .before .before .before .before .before .before .before .next-word .ensures) ∙ c .before .before .before .before .before .before .r .given .1) (c .before .before .before .before .before .before .before .before .before .before .before .pre .1) (c .before .before .before .before .before .before .before .before .before .before .before .pre .2) (c .before .before .call-lines .ensures)
 
 pub counted-calls-spec : {M : Type 1} → statement M
 counted-calls-spec =

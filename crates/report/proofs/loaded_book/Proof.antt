@@ -1,5 +1,5 @@
 -- `report::loaded_book` meets its contract. Assumes nothing.
-use Rattle.report.proofs.Going.{way-loaded, fresh-in, book-accepted, book-refused}
+use Rattle.report.proofs.Going.{way-loaded, fresh-in, blank-in, book-accepted, book-refused}
 use borrow.Author.Needs.{needs}
 use Rattle.report.proofs.loaded_book.Statement.{statement}
 use Rattle.report.proofs.loaded_book.Tie as tie
@@ -11,7 +11,7 @@ put-book-requires : tie.Need-put-book-requires
 put-book-requires c κs = search needs
 
 counted-calls-requires : tie.Need-counted-calls-requires
-counted-calls-requires c κs = let l = c .before .before .before .before .before .before .before .load-by .ensures in (l .kept, fresh-in _ (l .book) (l .state))
+counted-calls-requires c κs = let l = c .before .before .before .before .before .before .before .load-by .ensures in (l .kept, fresh-in _ (l .book) (l .state), blank-in (l .book) (l .ledger))
 
 same-length : tie.Need-same-length
 same-length c = search needs

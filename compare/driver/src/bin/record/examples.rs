@@ -110,11 +110,13 @@ fn refused_books() -> Vec<(&'static str, String)> {
 
 fn refused_calls() -> Vec<(&'static str, String)> {
     let atom = "1\n2 1 0 0\n0\n0\n1 0\n";
+    let now = "1\n2 0 0 0\n0\n0\n1 0\n";
     let states = ["1 1 5", "1 2 0 2", &format!("1 2 0 {MAX}"), "1 2 0 257", "1 3 0 1 2", "1 3 0 1 0", "1 2 0 1", "1 0"];
     let wide = |atom: &str, width: usize| format!("{atom}2\n0 1\n1 {width}{}\n", " 1".repeat(width));
     vec![
         ("call-states", case(atom, &states)),
         ("call-times", case(atom, &["0 5", "0 4", "0 5", "0 6", "0 0"])),
+        ("call-refused-in-a-stretch", case(now, &["1 1 1", "1 1 0", "1 1 2", "0 5", "0 4", "1 1 1", "1 1 0"])),
         ("call-stamped", case(atom, &["2 5 2 0 1", "2 4 1 2", &format!("2 {OVER_H} 1 2"), "2 6 1 2", "2 6 3 0 1 2", "2 6 2 0 2", "2 6 2 0 1"])),
         ("stop-no-count", atom.to_string()),
         ("stop-bad-count", format!("{atom}1x")),

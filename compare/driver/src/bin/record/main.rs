@@ -12,6 +12,7 @@ use compare::chance::Chance;
 use compare::cover::{decided, Sentences};
 use compare::inputs::{at_limits, many_runs, shallow};
 use judge::report::{report, Nobody};
+use judge::summaries::calls_of;
 use std::collections::BTreeMap;
 use std::path::Path;
 use std::process::ExitCode;
@@ -92,7 +93,7 @@ fn large(name: &str, draw: impl Fn(&mut Chance) -> Vec<u8>, shows: impl Fn(&Reco
 }
 
 fn lines_with(output: &[u8], refusal: &str) -> usize {
-    String::from_utf8_lossy(output).lines().filter(|line| line.split(' ').nth(1) == Some(refusal)).count()
+    calls_of(&String::from_utf8_lossy(output)).filter(|line| line.split(' ').nth(1) == Some(refusal)).count()
 }
 
 /// All inputs, and what they decide.
