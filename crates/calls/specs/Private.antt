@@ -145,6 +145,16 @@ pub record Atoms (m atoms : List ℕ) (n : ℕ) (m′ : List ℕ) : Type 0 where
   pub below : (i : ℕ) → i < ATOMS → getD m′ i 0 ≡ getD m i 0
   pub above : (i : ℕ) → ATOMS + n ≤ i → getD m′ i 0 ≡ getD m i 0
 
+-- a call was accepted, and the clock stands there
+pub record ClockStands (m : List ℕ) (t : ℕ) : Type 0 where
+  pub begun : begunWord m ≡ 1
+  pub same : t ≡ clockOf m
+
+-- a call was accepted, and the atoms that stand there are these
+pub record AtomsStand (m atoms : List ℕ) : Type 0 where
+  pub begun : begunWord m ≡ 1
+  pub same : (i : ℕ) → i < length atoms → getD m (ATOMS + i) 0 ≡ getD atoms i 0
+
 -- m with begun set, and the clock
 abbrev pub clocked : List ℕ → ℕ → List ℕ
 clocked m c = set (set m BEGUN 1) CLOCK c

@@ -1,12 +1,13 @@
 -- What loading leaves, accepted and refused. Assumes nothing.
 use Prim.Native.Nat.{ℕ, _≤_}
 use mathlib.Core.Path.{_≡_, refl, sym, ap, ap₂, _∙_}
-use mathlib.Core.Bool.{Bool, true, false}
+use mathlib.Core.Bool.{Bool, true, false, true≢false}
 use mathlib.Core.List.{List}
 use lib.ListN.{getD}
 use Rattle.pmtl.specs.Book.{Book, emptyBook}
 use Rattle.pmtl.specs.Sets.{Way}
 use Rattle.pmtl.specs.Monitor.{State, initialIn}
+use Rattle.pmtl.specs.Again.{Rests}
 use Rattle.memory.specs.Layout.{LEDGER}
 use Rattle.memory.specs.Memory.{rowsOf, bookOf, wayOf, stateOf}
 use Rattle.memory.specs.Kept.{Sound}
@@ -60,6 +61,11 @@ module _ {w : Way} {b : Book} {m m′ : List ℕ} (h : Holds w b m) (alike : Ali
   unfolding stateOf initialIn bookOf
   worked-taken = ap₂ takes (ap (λ (st : State). st .way) worked-state) (ap (λ (x : Book). x .rows) worked-book)
 
+  -- no call was accepted yet
+  worked-rests : Rests (rowsOf m′) (stateOf m′)
+  unfolding initialIn
+  worked-rests begun = absurd (true≢false (sym begun ∙ ap (λ (st : State). st .begun) worked-state))
+
 worked : (way : Loading) {b : Book} {m m′ : List ℕ} → Holds (wayIn way) b m → Alike m m′ → Tables m′ → SameLedger m m′ → (words : List ℕ) {l : Loaded} {r : ℕ} → loadedBy way words ≡ l → b ≡ l .book
     → r ≡ l .number → Loads way words m′ r
 worked way {m′ = m′} h alike tables same words is eb er =
@@ -70,7 +76,7 @@ worked way {m′ = m′} h alike tables same words is eb er =
       book = rw is (worked-book h alike ∙ eb);
       state = rw is (worked-state h alike ∙ ap (λ (x : Book). initialIn (wayIn way) (x .rows)) eb);
       ledger = rw is (ledger-blank (sound .book) blank ∙ ap blankLedger (worked-book h alike ∙ eb));
-      kept = record { sound = sound; tables = tables; ledger = kept-blank (sound .book) blank };
+      kept = record { sound = sound; tables = tables; ledger = kept-blank (sound .book) blank; rests = worked-rests h alike };
     }
 
 module _ {way : Loading} {words m m′ : List ℕ} {r : ℕ} (st : Stored way words m r) (alike : Alike m m′) {t : Bool} (et : t ≡ takes (wayOf m′) (rowsOf m′)) where

@@ -26,7 +26,7 @@ use Rattle.memory.specs.Memory.{propertyRow, valueAt, numberWord, takenWord, en
 use Rattle.memory.specs.Tables.{propertyCount}
 use Rattle.memory.specs.Kept.{Kept}
 use Rattle.memory.specs.Alike.{Alike}
-use Rattle.memory.proofs.Alike.{alike-sound, alike-book, alike-state}
+use Rattle.memory.proofs.Alike.{alike-rows, alike-sound, alike-book, alike-state}
 use Rattle.memory.proofs.Bits.{bit-back}
 use Rattle.memory.proofs.Ledger.{ledger-entry}
 use Rattle.memory.proofs.Properties.{properties-length, property-is}
@@ -192,6 +192,7 @@ module _ {m : List ℕ} (kept : Kept m) where
             sound = alike-sound (kept .sound) alike;
             tables = tables-same (kept .sound) alike same (kept .tables);
             ledger = record { bounds = rw (is, same-count, ← count) bounds; rest = rw same-count (λ i p h. rest i p ∙ kept .ledger .rest i p h) };
+            rests = rw (alike-rows (kept .sound) alike, alike-state (kept .sound) alike) (kept .rests);
           };
         }
 

@@ -16,8 +16,8 @@ use Rattle.pmtl.specs.Book.{Range, Row, mapRow, Rows, rowAt, Ordered, so
 use Rattle.pmtl.specs.Book.Row.{never, always, atom, conj, disj, neg, implies, historically, once, since}
 use Rattle.pmtl.specs.Sets.{addedIf, renewed, lasted, Way, ordinary, lasting, renewedIn, setRuleBy}
 use Rattle.pmtl.specs.Monitor.{Snap, State, setAt, initialIn, value, stepBy, stepIn}
-use Rattle.pmtl.specs.Calls.{Call, time, state, stamped, timed, stated, turns, timeRefusal, stateRefusal, firstOf, refusal, crowded, Outcome, call, afterIn}
-use Rattle.pmtl.specs.Again.{SaysAgain, unchanged}
+use Rattle.pmtl.specs.Calls.{Call, time, state, stamped, timed, stated, turns, timeRefusal, stateRefusal, firstOf, refusal, crowded, Outcome, play, call, afterIn}
+use Rattle.pmtl.specs.Again.{SaysAgain, unchanged, Rests}
 use Rattle.pmtl.proofs.Table.{by-rows, mapRow-local}
 use Rattle.pmtl.proofs.Answers.{step-sets-by, set-made-by, set-fix-by, value-local}
 use Rattle.pmtl.proofs.Renewed.{renewed-canonical, lasted-canonical, lasted-now, rule-any}
@@ -115,11 +115,11 @@ module _ (b : Rows) (w : Ordered b) (st : State) (ok : (r : ℕ) → Canonical (
         (step-sets-by (renewedIn (st .way) (n .clock)) b first n ∙ sym (step-sets-by (renewedIn (st .way) before) b st n)) (λ r l. same-set r))
 
 -- ---- what is so of every state that calls leave
-record Left (b : Rows) (st : State) : Type 0 where
-  canonical : (r : ℕ) → Canonical (setAt st r)
-  in-time : st .now .clock ≤ LAST-TIME
-  room : crowded st ≡ false
-  rests : st .begun ≡ true → stepIn b st (st .now) ≡ st
+pub record Left (b : Rows) (st : State) : Type 0 where
+  pub canonical : (r : ℕ) → Canonical (setAt st r)
+  pub in-time : st .now .clock ≤ LAST-TIME
+  pub room : crowded st ≡ false
+  pub rests : Rests b st
 
 none-crowded : (n : ℕ) → some (λ (s : Runs). ltb MOST-RUNS (length s)) (replicate n []) ≡ false
 unfolding some
@@ -156,7 +156,7 @@ module _ (b : Rows) (w : Ordered b) where
       step-left (stepIn b st n) (step-left st l n up (a .room .0)) (stated n bytes) up (a .room .1 .0)
 
   -- any call
-  call-left : (st : State) → Left b st → (k : Call) → Left b (call b st k .state)
+  pub call-left : (st : State) → Left b st → (k : Call) → Left b (call b st k .state)
   call-left st l k = go (eqb (call b st k .number) ACCEPTED) refl
     where
       go : (z : Bool) → eqb (call b st k .number) ACCEPTED ≡ z → Left b (call b st k .state)
@@ -195,9 +195,30 @@ module _ (b : Rows) (st : State) (l : Left b st) (begun : st .begun ≡ true) wh
   turns-now (stamped t bytes) e =
       (ap (timed (st .now)) (e .0), (ap₂ (λ c bits. record { clock = c; atoms = bits }) (e .0) (e .1), tt))
 
-  says-again : (k : Call) → refusal b (st .now) k ≡ ACCEPTED → SaysAgain (st .now) k → call b st k ≡ unchanged st
+  pub says-again : (k : Call) → refusal b (st .now) k ≡ ACCEPTED → SaysAgain (st .now) k → call b st k ≡ unchanged st
   says-again k fine again = let a = turns-now k again in
       accepts-call b st k (record { fine = fine; room = roomy-now (turns (st .now) k) a }) ∙ ap unchanged (steps-now (turns (st .now) k) a)
+
+  -- a stamped call whose time is the clock is a state call: its first step changes nothing
+  played-on : (n : Snap) → n ≡ st .now → (ns : List Snap) → play b st st (n ∷ ns) ≡ play b st st ns
+  unfolding play
+  played-on n e ns =
+      let same = one-more n e in
+      let fits : crowded (stepIn b st n) ≡ false = ap crowded same ∙ l .room in
+      rw (fits, play) (ap (λ (s : State). play b st s ns) same)
+
+  not-refused : (k : Call) → refusal b (st .now) k ≡ ACCEPTED → call b st k ≡ play b st st (turns (st .now) k)
+  unfolding call
+  not-refused k e = rw (eq-eqb (refusal b (st .now) k) ACCEPTED e, call)
+
+  pub at-clock-stated : (t : ℕ) (bytes : List ℕ) → timeRefusal (st .now) t ≡ ACCEPTED → stateRefusal b bytes ≡ ACCEPTED → t ≡ st .now .clock
+      → call b st (stamped t bytes) ≡ call b st (state bytes)
+  unfolding refusal firstOf
+  at-clock-stated t bytes in-time right e =
+      not-refused (stamped t bytes) (rw (eq-eqb (timeRefusal (st .now) t) ACCEPTED in-time) right)
+      ∙ played-on (timed (st .now) t) (ap (timed (st .now)) e) (stated (timed (st .now) t) bytes ∷ [])
+      ∙ ap (λ (c : ℕ). play b st st (record { clock = c; atoms = stated (st .now) bytes .atoms } ∷ [])) e
+      ∙ sym (not-refused (state bytes) right)
 
 -- what an accepted call has left is what it says again
 again-in-time : (now : Snap) (t : ℕ) → timeRefusal now t ≡ ACCEPTED → (bits : List Bool) → timeRefusal (record { clock = t; atoms = bits }) t ≡ ACCEPTED
