@@ -1,16 +1,18 @@
 -- Steps of a report: a call that is read and made, and its line from digits. No public contract cites these. Definitions only.
 use Prim.Native.Nat.{ℕ, zero, suc, _+_}
 use mathlib.Core.Path.{_≡_}
-use mathlib.Core.Bool.{cond}
+use mathlib.Core.Bool.{Bool, true, false, cond}
 use mathlib.Core.List.{List, [], _∷_, _++_}
 use lib.Dec.{eqb}
 use Rattle.text.specs.Words.{space, digit0, supplyFrom}
 use Rattle.text.specs.Decimals.{decimal}
 use Rattle.pmtl.specs.Calls.{Call}
+use Rattle.pmtl.specs.Calls.Call.{state, stamped}
 use Rattle.book.specs.Reading.{Read, got, refused}
 use Rattle.memory.specs.Memory.{propertyRow, valueAt, earlyAt, settledAt, fullestWord}
 use Rattle.memory.specs.Tables.{propertyCount}
 use Rattle.calls.specs.Called.{Called}
+use Rattle.report.specs.Lines.{timeFrom, stampedFrom}
 use Rattle.report.specs.Report.{ended}
 use Rattle.report.specs.declared.text_calls.Turn.{Turn}
 use Rattle.report.specs.declared.text_calls.Turn.the-variants.{Made, Stopped}
@@ -19,6 +21,16 @@ use Rattle.report.specs.declared.text_calls.Turn.the-variants.{Made, Sto
 unfoldable pub turnNumber : Turn → ℕ
 turnNumber (Made r next) = 0
 turnNumber (Stopped n) = n
+
+-- a call that has a state, stamped with a time or not
+unfoldable pub withState : Bool → ℕ → List ℕ → Call
+withState true t = stamped t
+withState false t = state
+
+-- what a call that has a time is read from, stamped or not
+unfoldable pub timedFrom : Bool → ℕ → List ℕ → Read Call
+timedFrom true = stampedFrom
+timedFrom false = timeFrom
 
 -- a call was read, from words that leave off with `ending`, and made on the memory m, which it left as m′ with the number r
 pub record CallMade (input : List ℕ) (ending : ℕ) (asked : Read Call) (m m′ : List ℕ) (r next : ℕ) : Type 0 where
