@@ -4,6 +4,7 @@ use mathlib.Core.Path.{_≡_}
 use mathlib.Core.Bool.{Bool, true, false, cond}
 use mathlib.Core.List.{List, [], _∷_, _++_}
 use lib.Dec.{eqb}
+use lib.Seq.{sets}
 use Rattle.text.specs.Words.{space, digit0, supplyFrom}
 use Rattle.text.specs.Decimals.{decimal}
 use Rattle.pmtl.specs.Calls.{Call}
@@ -56,6 +57,10 @@ wordAt m i = digitWord (valueAt m (propertyRow m i)) (earlyAt m i) (settledAt m 
 unfoldable pub digitWords : List ℕ → ℕ → List ℕ
 digitWords m zero = []
 digitWords m (suc i) = digitWords m i ++ wordAt m i
+
+-- where those of the first properties stand in out, out′ is what has the words up to `count` in their place
+pub record LaidOn (m : List ℕ) (at first count : ℕ) (out out′ : List ℕ) : Type 0 where
+  pub laid : (o : List ℕ) → out ≡ sets o at (digitWords m first) → out′ ≡ sets o at (digitWords m count)
 
 -- those of all properties, and the count
 unfoldable pub digitRest : List ℕ → List ℕ
