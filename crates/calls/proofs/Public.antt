@@ -22,15 +22,15 @@ use Rattle.pmtl.proofs.Calls.{timely, well-stated}
 use Rattle.memory.specs.Layout.{SIZE}
 use Rattle.memory.specs.Memory.{begunWord, clockOf, widthWord, atomAt, rowsOf, bookOf, stateOf, ledgerOf, atomsOf}
 use Rattle.memory.specs.Tables.{propertyCount, Tables}
-use Rattle.memory.specs.Kept.{BookKept, Sound, LedgerKept, Kept}
+use Rattle.memory.specs.Kept.{BookKept, Sound, LedgerKept, Awaited, Kept}
 use Rattle.memory.specs.Alike.{Alike, SameLedger}
 use Rattle.memory.proofs.Alike.{alike-sound, alike-book, alike-state}
 use Rattle.memory.proofs.Ledger.{ledger-self, ledger-on, ledger-same, ledger-kept}
 use Rattle.memory.proofs.Properties.{properties-length}
-use Rattle.calls.specs.Private.{ClockStands, AtomsStand, Bytes, snapOf, ownRenew, timeStep, Atoms, Moved, Tried, TriedBoth, Due, Done, Advanced}
+use Rattle.calls.specs.Private.{AtomsStand, Bytes, snapOf, ownRenew, timeStep, Atoms, Moved, Tried, TriedBoth, Due, Done, Advanced}
 use Rattle.notes.specs.Noting.{numbered, CallNoted}
 use Rattle.calls.specs.Called.{Called}
-use Rattle.calls.proofs.Resting.{rests-after, unmoved-by, stamped-there}
+use Rattle.calls.proofs.Resting.{rests-after, unmoved-by}
 use Rattle.calls.proofs.Plans.{some-hit}
 use Rattle.calls.proofs.Heads.{bits-listed, old-same, old-bytes, old-atoms}
 use Rattle.calls.proofs.Advances.{Leads, played, due, has-room, tried-moved, tried-refused, tried-stands}
@@ -44,10 +44,10 @@ called-refused {m} {k} {n} kept e ne =
 
 -- what the words of a memory owe, apart from that its monitor rests
 abbrev Right : List ℕ → Type 0
-Right m = Sound m × Tables m × LedgerKept m
+Right m = Sound m × Tables m × LedgerKept m × Awaited m
 
 right-now : {m : List ℕ} → Kept m → Right m
-right-now kept = (kept .sound, kept .tables, kept .ledger)
+right-now kept = (kept .sound, kept .tables, kept .ledger, kept .awaited)
 
 called-played : {m m′ : List ℕ} {k : Call} {r : ℕ} {ns : List Snap} → Kept m → refusal (rowsOf m) (stateOf m .now) k ≡ 0 → ns ≡ turns (stateOf m .now) k → Advanced m ns m′ r
     → Right m′ → Done k m m′ r
@@ -60,7 +60,7 @@ called-played {m} {m′} {k} {r} kept e en a right =
       book = a .book;
       refused = a .refused;
       ledger = a .ledger;
-      kept = record { sound = right .0; tables = right .1; ledger = right .2; rests = rests-after kept m′ k (ap (λ (x : Book). x .rows) (a .book)) state };
+      kept = record { sound = right .0; tables = right .1; ledger = right .2; rests = rests-after kept m′ k (ap (λ (x : Book). x .rows) (a .book)) state; awaited = right .3 };
     }
 
 -- a call that says again what stands there
@@ -81,7 +81,7 @@ same-count : {m m′ : List ℕ} → BookKept m → BookKept m′ → bookOf m�
 same-count {m} {m′} kept kept′ same = sym (properties-length m′ kept′) ∙ ap (λ (b : Book). length (properties b)) same ∙ properties-length m kept
 
 -- a call that was accepted, once what is due was told and asked
-pub advanced-renewed : {m m₁ m₂ : List ℕ} {ns : List Snap} → Kept m → Advanced m ns m₁ 0 → Sound m₁ → Alike m₁ m₂ × Tables m₂ × SameLedger m₁ m₂ → Advanced m ns m₂ 0 × Right m₂
+pub advanced-renewed : {m m₁ m₂ : List ℕ} {ns : List Snap} → Kept m → Advanced m ns m₁ 0 → Sound m₁ → Alike m₁ m₂ × Tables m₂ × SameLedger m₁ m₂ × Awaited m₂ → Advanced m ns m₂ 0 × Right m₂
 advanced-renewed {m} {m₁} {m₂} kept a sound t =
     let book : bookOf m₂ ≡ bookOf m = alike-book sound (t .0) ∙ a .book in
     let sound₂ = alike-sound sound (t .0) in
@@ -93,7 +93,7 @@ advanced-renewed {m} {m₁} {m₂} kept a sound t =
         refused = λ ne. absurd (ne refl);
         ledger = same;
       },
-      (sound₂, t .1, ledger-kept (same-count (kept .sound .book) (sound₂ .book) book) same (kept .ledger)),
+      (sound₂, t .1, ledger-kept (same-count (kept .sound .book) (sound₂ .book) book) same (kept .ledger), t .3),
     )
 
 -- ---- what is wrong with a time, and with a state
@@ -164,11 +164,6 @@ module _ {m : List ℕ} (kept : Kept m) (t : ℕ) {late : ℕ} (el : late ≡ ti
     unfolding refusal stateOf
     time-played a right = called-played kept (sym el ∙ in-time) (ap (λ (bs : List Bool). record { clock = t; atoms = bs } ∷ []) (old-atoms (kept .sound))) a right
 
-    -- the clock stands there already
-    pub time-stands : ClockStands m t → Done (time t) m m 0
-    unfolding refusal stateOf
-    time-stands there = called-again kept (rw (there .begun)) (time t) (sym el ∙ in-time) (there .same)
-
     module _ {m₁ : List ℕ} {r : ℕ} (tried : Tried m (ownRenew (stateOf m)) (stateOf m) t (atomsOf m) m₁ r) where
       pub time-full : (r ≡ 0 → ⊥) → Done (time t) m m₁ r
       time-full ne = let q = tried-refused tried refl ne in time-played (q .0) (rw (q .1) (right-now kept))
@@ -180,7 +175,7 @@ module _ {m : List ℕ} (kept : Kept m) (t : ℕ) {late : ℕ} (el : late ≡ ti
       pub time-due : r ≡ 0 → {first : Bool} → first ≡ eqb (begunWord m) 0 → Due m₁ first
       time-due z ef = due kept in-range (old-bytes (kept .sound)) (has-room tried z) (tried-moved tried z) (stands z) refl ef
 
-      pub time-done : {m₂ : List ℕ} → r ≡ 0 → Alike m₁ m₂ × Tables m₂ × SameLedger m₁ m₂ → Done (time t) m m₂ 0
+      pub time-done : {m₂ : List ℕ} → r ≡ 0 → Alike m₁ m₂ × Tables m₂ × SameLedger m₁ m₂ × Awaited m₂ → Done (time t) m m₂ 0
       time-done z renewed =
           let a = played kept in-range (old-bytes (kept .sound)) (has-room tried z) (tried-moved tried z) (stands z) refl refl in
           let q = advanced-renewed kept a (time-due z refl .sound) renewed in
@@ -226,7 +221,7 @@ module _ {m : List ℕ} (kept : Kept m) (s : List ℕ) {wrong : ℕ} (ew : wrong
           pub state-due : {first : Bool} → first ≡ eqb (begunWord m) 0 → Due m₂ first
           state-due ef = due kept (state-timely .0 .1) new-bytes (has-room tried z) (tried-moved tried z) a refl ef
 
-          pub state-done : {m₃ : List ℕ} → Alike m₂ m₃ × Tables m₃ × SameLedger m₂ m₃ → Done (state s) m m₃ 0
+          pub state-done : {m₃ : List ℕ} → Alike m₂ m₃ × Tables m₃ × SameLedger m₂ m₃ × Awaited m₃ → Done (state s) m m₃ 0
           state-done renewed =
               let p = played kept (state-timely .0 .1) new-bytes (has-room tried z) (tried-moved tried z) a refl refl in
               let q = advanced-renewed kept p (state-due refl .sound) renewed in
@@ -304,28 +299,11 @@ module _ {m : List ℕ} (kept : Kept m) (t : ℕ) (s : List ℕ) {late : ℕ} (e
             pub stamped-due : {first : Bool} → first ≡ eqb (begunWord m) 0 → Due m₂ first
             stamped-due ef = due kept small bytes (has-room last z) (tried-moved last z) a own ef
 
-            pub stamped-done : {m₃ : List ℕ} → Alike m₂ m₃ × Tables m₃ × SameLedger m₂ m₃ → Done (stamped t s) m m₃ 0
+            pub stamped-done : {m₃ : List ℕ} → Alike m₂ m₃ × Tables m₃ × SameLedger m₂ m₃ × Awaited m₃ → Done (stamped t s) m m₃ 0
             stamped-done renewed =
                 let p = played kept small bytes (has-room last z) (tried-moved last z) a own (leads roomy) in
                 let q = advanced-renewed kept p (stamped-due refl .sound) renewed in
                 stamped-played (q .0) (q .1)
-
--- where the clock stands there already, a stamped call is a state call
-module _ {m : List ℕ} (kept : Kept m) (t : ℕ) (s : List ℕ) (in-time : timeRefusal (stateOf m .now) t ≡ 0) (right : stateRefusal (rowsOf m) s ≡ 0) (there : ClockStands m t) where
-  as-stated : call (rowsOf m) (stateOf m) (stamped t s) ≡ call (rowsOf m) (stateOf m) (state s)
-  as-stated = stamped-there kept t s in-time right there
-
-  pub stamped-stands : {m′ : List ℕ} {r : ℕ} → Done (state s) m m′ r → Done (stamped t s) m m′ r
-  unfolding bookOf
-  stamped-stands a =
-      record {
-        number = a .number ∙ sym (ap (λ (o : Outcome). o .number) as-stated);
-        state = a .state ∙ sym (ap (λ (o : Outcome). o .state) as-stated);
-        book = a .book;
-        refused = a .refused;
-        ledger = a .ledger;
-        kept = a .kept;
-      }
 
 -- ---- and then noted
 pub done-noted : {k : Call} {m m₁ m₂ : List ℕ} {r : ℕ} → Kept m → Done k m m₁ r → CallNoted m₁ r m₂ → Called k m m₂ r

@@ -1,31 +1,29 @@
 -- A monitor that rests: every call leaves one, and a call that says what stands there already changes nothing. Assumes nothing.
-use Prim.Native.Nat.{ℕ, _+_, _*_, _≤_, _<_}
-use mathlib.Core.Path.{_≡_, refl, sym, ap, ap₂, subst, _∙_}
+use Prim.Native.Nat.{ℕ, _*_, _≤_, _<_}
+use mathlib.Core.Path.{_≡_, ap, subst, _∙_}
 use mathlib.Core.Logic.{⊎-elim}
-use mathlib.Core.Bool.{Bool, true, false, not, _&&_}
-use mathlib.Core.List.{List, [], _∷_}
+use mathlib.Core.Bool.{true, false, not}
+use mathlib.Core.List.{List, []}
 use native.Mathlib.Omega.{arith}
 use lib.ListN.{length, getD}
-use lib.Dec.{ltb, eqb}
-use borrow.Author.Tests.{lt-ltb, eqb-true}
+use lib.Dec.{ltb}
+use borrow.Author.Tests.{lt-ltb}
 use Rattle.numbers.specs.Limits.{MOST-RUNS}
 use Rattle.numbers.specs.Refusals.{ACCEPTED}
-use Rattle.lists.specs.Lists.{listed}
 use Rattle.lists.proofs.Tests.{lt-or-ge}
 use Rattle.lists.proofs.Listed.{listed-length}
 use Rattle.numset.specs.Runs.{Runs, runs, fits}
 use Rattle.numset.proofs.Words.{length-runs}
 use Rattle.pmtl.specs.Book.{Rows}
-use Rattle.pmtl.specs.Monitor.{State, setAt}
-use Rattle.pmtl.specs.Calls.{Call, stamped, state, timeRefusal, stateRefusal, refusal, crowded, call}
+use Rattle.pmtl.specs.Monitor.{setAt}
+use Rattle.pmtl.specs.Calls.{Call, refusal, crowded, call}
 use Rattle.pmtl.specs.Again.{SaysAgain, unchanged, Rests}
-use Rattle.pmtl.proofs.Doubled.{Left, call-left, says-again, at-clock-stated}
+use Rattle.pmtl.proofs.Doubled.{Left, call-left, says-again}
 use Rattle.memory.specs.Layout.{SET}
 use Rattle.memory.specs.Memory.{rowCount, kindAt, slotAt, slotWords, rowsOf, stateOf, setOf}
 use Rattle.memory.specs.Kept.{Kept}
 use Rattle.memory.proofs.Rows.{kept-ordered}
 use Rattle.memory.proofs.Sets.{owner-set, no-set, set-canonical}
-use Rattle.calls.specs.Private.{ClockStands}
 use Rattle.calls.proofs.Plans.{some-none, crowds}
 use Rattle.calls.proofs.Commits.{set-long}
 
@@ -49,7 +47,7 @@ module _ {m : List ℕ} (kept : Kept m) where
       (rw (owner-set m (kept .sound) slot inside) (lt-ltb (2 * length (runs (slotWords m slot))) SET (rw (length-runs (slotWords m slot) (getD (slotWords m slot) 0 0)) (omega (arith, good .room, long)))))))
       (lt-or-ge (kindAt m r) 7)
 
-  left : Left (rowsOf m) (stateOf m)
+  pub left : Left (rowsOf m) (stateOf m)
   unfolding stateOf
   left = record { canonical = set-canonical m (kept .sound); in-time = kept .sound .clock; room = room; rests = kept .rests }
 
@@ -60,9 +58,3 @@ module _ {m : List ℕ} (kept : Kept m) where
   -- a call that says again what stands there
   pub unmoved-by : stateOf m .begun ≡ true → (k : Call) → refusal (rowsOf m) (stateOf m .now) k ≡ ACCEPTED → SaysAgain (stateOf m .now) k → call (rowsOf m) (stateOf m) k ≡ unchanged (stateOf m)
   unmoved-by = says-again (rowsOf m) (stateOf m) left
-
-  -- where the clock stands there already, a stamped call is a state call: its first step changes nothing
-  pub stamped-there : (t : ℕ) (s : List ℕ) → timeRefusal (stateOf m .now) t ≡ ACCEPTED → stateRefusal (rowsOf m) s ≡ ACCEPTED → ClockStands m t
-      → call (rowsOf m) (stateOf m) (stamped t s) ≡ call (rowsOf m) (stateOf m) (state s)
-  unfolding stateOf
-  stamped-there t s in-time right there = at-clock-stated (rowsOf m) (stateOf m) left (rw (there .begun)) t s in-time right (there .same)

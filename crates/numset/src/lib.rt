@@ -10,6 +10,7 @@ ghost use mathlib.Core.Logic.{_↔_};
 ghost use Prim.Native.Nat.{_+_, _*_, _-_, _<_, _≤_, min, max};
 ghost use lib.ListN.{length, getD, replicate};
 ghost use Rattle.numset.specs.Runs.{Good, Covers, emptyNumber, runs, has, lo, hi, kept, union, fits, pack, addNumber, addWords, addCount, setToNumber, setToWords};
+ghost use Rattle.numset.specs.Until.{restsUntil};
 ghost use Rattle.numset.specs.Private.{Shifted, Cleared, Replaced, Ended, Spanned, oldestLapsed, Lapsed, Dropped, takesIn, withRun};
 
 mod by_value; // by_value.rt: a set of 64 runs by value
@@ -405,6 +406,21 @@ fn drop_one(set: &mut [u64])
     let left = set[0] as usize - 1;
     move_down(set, SECOND, 1, 2 * left);
     store(set, left, 0, 0, left);
+}
+
+// Up to when, from `t` on, no run begins or ends, where none ended before `t`: the oldest decides, since every newer one begins later.
+pub fn rests_until(set: &[u64], t: u64) -> u64
+    requires { ⌜ Good (now set) ⌝ }
+    ensures { λ r. ⌜ r ≡ restsUntil t (runs (now (set .entry))) ⌝ }
+{
+    if set[0] == 0 {
+        return MAX;
+    }
+    let lower = lower_at(set, 0);
+    if t < lower {
+        return lower - 1;
+    }
+    upper_at(set, 0)
 }
 
 // Drops the `count` oldest runs; what is left moves once, and the words that become free are wiped.

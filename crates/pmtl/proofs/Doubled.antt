@@ -170,6 +170,11 @@ module _ (b : Rows) (w : Ordered b) where
   left way [] = initial-left way b
   left way (k ∷ ks) = call-left (afterIn way b ks) (left way ks) k
 
+-- ---- a call that is not refused for what it is
+pub not-refused : (b : Rows) (st : State) (k : Call) → refusal b (st .now) k ≡ ACCEPTED → call b st k ≡ play b st st (turns (st .now) k)
+unfolding call
+not-refused b st k e = rw (eq-eqb (refusal b (st .now) k) ACCEPTED e, call)
+
 -- ---- a call that says what stands there already
 -- all snapshots are the one that stands
 abbrev AllNow : Snap → List Snap → Type 0
@@ -198,27 +203,6 @@ module _ (b : Rows) (st : State) (l : Left b st) (begun : st .begun ≡ true) wh
   pub says-again : (k : Call) → refusal b (st .now) k ≡ ACCEPTED → SaysAgain (st .now) k → call b st k ≡ unchanged st
   says-again k fine again = let a = turns-now k again in
       accepts-call b st k (record { fine = fine; room = roomy-now (turns (st .now) k) a }) ∙ ap unchanged (steps-now (turns (st .now) k) a)
-
-  -- a stamped call whose time is the clock is a state call: its first step changes nothing
-  played-on : (n : Snap) → n ≡ st .now → (ns : List Snap) → play b st st (n ∷ ns) ≡ play b st st ns
-  unfolding play
-  played-on n e ns =
-      let same = one-more n e in
-      let fits : crowded (stepIn b st n) ≡ false = ap crowded same ∙ l .room in
-      rw (fits, play) (ap (λ (s : State). play b st s ns) same)
-
-  not-refused : (k : Call) → refusal b (st .now) k ≡ ACCEPTED → call b st k ≡ play b st st (turns (st .now) k)
-  unfolding call
-  not-refused k e = rw (eq-eqb (refusal b (st .now) k) ACCEPTED e, call)
-
-  pub at-clock-stated : (t : ℕ) (bytes : List ℕ) → timeRefusal (st .now) t ≡ ACCEPTED → stateRefusal b bytes ≡ ACCEPTED → t ≡ st .now .clock
-      → call b st (stamped t bytes) ≡ call b st (state bytes)
-  unfolding refusal firstOf
-  at-clock-stated t bytes in-time right e =
-      not-refused (stamped t bytes) (rw (eq-eqb (timeRefusal (st .now) t) ACCEPTED in-time) right)
-      ∙ played-on (timed (st .now) t) (ap (timed (st .now)) e) (stated (timed (st .now) t) bytes ∷ [])
-      ∙ ap (λ (c : ℕ). play b st st (record { clock = c; atoms = stated (st .now) bytes .atoms } ∷ [])) e
-      ∙ sym (not-refused (state bytes) right)
 
 -- what an accepted call has left is what it says again
 again-in-time : (now : Snap) (t : ℕ) → timeRefusal now t ≡ ACCEPTED → (bits : List Bool) → timeRefusal (record { clock = t; atoms = bits }) t ≡ ACCEPTED

@@ -1,19 +1,19 @@
--- `calls::restamp` meets its contract: a state call where the clock stands there already, or played. Assumes nothing.
+-- `calls::restamp` meets its contract: a state call where its time moves the clock alone, or played. Assumes nothing.
 use mathlib.Core.Path.{ap, refl, sym}
 use lib.Dec.{eqb}
-use Rattle.calls.proofs.Public.{stamped-stands, stamped-timely, stamped-full, stamped-roomy, stamped-due, stamped-done}
+use Rattle.calls.proofs.Public.{stamped-timely, stamped-full, stamped-roomy, stamped-due, stamped-done}
 use borrow.Author.Needs.{needs}
 use Rattle.calls.proofs.restamp.Statement.{statement}
 use Rattle.calls.proofs.restamp.Tie as tie
 
-stands-at-requires : tie.Need-stands-at-requires
-stands-at-requires c κs = search needs
+quiet-at-requires : tie.Need-quiet-at-requires
+quiet-at-requires c κs = search needs
 
-restate-requires : tie.Need-restate-requires
-restate-requires c κs = let s = (c .before .before .before .before .before) in (s .pre .0, s .pre .2)
+tick-and-restate-requires : tie.Need-tick-and-restate-requires
+tick-and-restate-requires c κs = let s = (c .before .before .before .before .before) in ((s .pre .0, (c .before .before) .quiet-at .ensures ((c .before) .if1 .taken)), (s .pre .1, s .pre .2))
 
 returns : tie.Need-returns
-returns c = let s = (c .before .before .before .before .before .before) in stamped-stands (s .pre .0) (s .args .time) (s .args .state .now) (s .pre .1) (s .pre .2) ((c .before .before .before) .stands-at .ensures ((c .before .before) .if1 .taken)) (c .restate .ensures)
+returns c = c .tick-and-restate .ensures
 
 begun-requires : tie.Need-begun-requires
 begun-requires c κs = search needs
@@ -37,8 +37,8 @@ pub restamp-spec : {M : Type 1} → statement M
 restamp-spec =
     tie.close
     (tie.spec
-    stands-at-requires
-    restate-requires
+    quiet-at-requires
+    tick-and-restate-requires
     returns
     begun-requires
     advance-both-requires

@@ -1,8 +1,9 @@
--- `calls::time_call` meets its contract: refused for itself, what stands there already, or played. Assumes nothing.
-use mathlib.Core.Path.{ap, sym}
+-- `calls::time_call` meets its contract: refused for itself, up to a time until which nothing else changes, or played. Assumes nothing.
+use mathlib.Core.Path.{ap, sym, _∙_}
 use mathlib.Core.Bool.{true≢false}
 use lib.Dec.{eqb}
-use Rattle.calls.proofs.Public.{time-wrong, in-range, time-stands, time-full, time-due, time-done}
+use Rattle.calls.proofs.Public.{time-wrong, in-range, time-full, time-due, time-done}
+use Rattle.calls.proofs.Quiet.{time-quiet}
 use borrow.Author.Needs.{needs}
 use Rattle.calls.proofs.time_call.Statement.{statement}
 use Rattle.calls.proofs.time_call.Tie as tie
@@ -13,11 +14,15 @@ time-number-requires c κs = search needs
 returns : tie.Need-returns
 returns c = let s = (c .before .before .before) in time-wrong (s .pre) (s .args .time) ((c .before) .time-number .ensures) (c .if1 .taken)
 
-stands-at-requires : tie.Need-stands-at-requires
-stands-at-requires c κs = search needs
+quiet-at-requires : tie.Need-quiet-at-requires
+quiet-at-requires c κs = search needs
+
+tick-requires : tie.Need-tick-requires
+tick-requires c κs = search needs
 
 returns-2 : tie.Need-returns-2
-returns-2 c = let s = (c .before .before .before .before .before .before) in time-stands (s .pre) (s .args .time) ((c .before .before .before .before) .time-number .ensures) ((c .before .before .before) .if1 .left) ((c .before) .stands-at .ensures (c .if2 .taken))
+returns-2 c = let s = (c .before .before .before .before .before .before .before .before) in
+    rw (c .tick .ensures) (time-quiet (s .pre) (s .args .time) (sym ((c .before .before .before .before .before .before) .time-number .ensures) ∙ (c .before .before .before .before .before) .if1 .left) ((c .before .before .before) .quiet-at .ensures ((c .before .before) .if2 .taken)))
 
 begun-requires : tie.Need-begun-requires
 begun-requires c κs = search needs
@@ -43,7 +48,8 @@ time-call-spec =
     (tie.spec
     time-number-requires
     returns
-    stands-at-requires
+    quiet-at-requires
+    tick-requires
     returns-2
     begun-requires
     slice-aggregate-advance
