@@ -14,7 +14,7 @@ ghost use Rattle.report.specs.Private.{wordAt, digitWords, LaidOn, digit
 ghost use Rattle.memory.specs.Memory.{ledgerOf};
 ghost use Rattle.memory.specs.Tables.{propertyCount};
 ghost use Rattle.memory.specs.Kept.{Kept};
-use crate::summaries::put_summaries;
+use crate::sums::put_summaries;
 use book::strict::Excess;
 use memory::SIZE;
 use numbers::ACCEPTED;

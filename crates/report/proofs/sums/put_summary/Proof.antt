@@ -1,8 +1,8 @@
--- `report::summaries::put_summary` meets its contract. Assumes nothing.
+-- `report::sums::put_summary` meets its contract. Assumes nothing.
 use Rattle.report.proofs.Summing.{summary-written}
 use borrow.Author.Needs.{needs}
-use Rattle.report.proofs.summaries.put_summary.Statement.{statement}
-use Rattle.report.proofs.summaries.put_summary.Tie as tie
+use Rattle.report.proofs.sums.put_summary.Statement.{statement}
+use Rattle.report.proofs.sums.put_summary.Tie as tie
 
 taken-requires : tie.Need-taken-requires
 taken-requires c κs = search needs

@@ -1,8 +1,8 @@
--- `report::summaries::put_fails` meets its contract. Assumes nothing.
+-- `report::sums::put_fails` meets its contract. Assumes nothing.
 use Rattle.report.proofs.Summing.{fails-written}
 use borrow.Author.Needs.{needs}
-use Rattle.report.proofs.summaries.put_fails.Statement.{statement}
-use Rattle.report.proofs.summaries.put_fails.Tie as tie
+use Rattle.report.proofs.sums.put_fails.Statement.{statement}
+use Rattle.report.proofs.sums.put_fails.Tie as tie
 
 put-entry-word-requires : tie.Need-put-entry-word-requires
 put-entry-word-requires c κs = search needs

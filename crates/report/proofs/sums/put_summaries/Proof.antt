@@ -1,12 +1,12 @@
--- `report::summaries::put_summaries` meets its contract. The invariant: the lines of the properties passed are written. Assumes nothing.
+-- `report::sums::put_summaries` meets its contract. The invariant: the lines of the properties passed are written. Assumes nothing.
 use Prim.Native.Nat.{_-_}
 use mathlib.Core.Path.{_≡_}
 use native.Mathlib.Omega.{arith}
 use Rattle.memory.specs.Tables.{propertyCount}
 use Rattle.report.proofs.Summing.{Summing, sum-start, sum-more, sum-done}
 use borrow.Author.Needs.{needs}
-use Rattle.report.proofs.summaries.put_summaries.Statement.{statement}
-use Rattle.report.proofs.summaries.put_summaries.Tie as tie
+use Rattle.report.proofs.sums.put_summaries.Statement.{statement}
+use Rattle.report.proofs.sums.put_summaries.Tie as tie
 
 abbrev Inv-loop : tie.InvT-loop
 Inv-loop out₀ at monitor count p₀ i₀ out p i = (count ≡ propertyCount monitor) × Summing monitor count out₀ at out p i

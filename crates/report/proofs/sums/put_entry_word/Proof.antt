@@ -1,7 +1,7 @@
--- `report::summaries::put_entry_word` meets its contract. Assumes nothing.
+-- `report::sums::put_entry_word` meets its contract. Assumes nothing.
 use borrow.Author.Needs.{needs}
-use Rattle.report.proofs.summaries.put_entry_word.Statement.{statement}
-use Rattle.report.proofs.summaries.put_entry_word.Tie as tie
+use Rattle.report.proofs.sums.put_entry_word.Statement.{statement}
+use Rattle.report.proofs.sums.put_entry_word.Tie as tie
 
 slice-aggregate-put-numbered : tie.Need-slice-aggregate-put-numbered
 slice-aggregate-put-numbered c = search needs

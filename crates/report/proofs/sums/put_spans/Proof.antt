@@ -1,8 +1,8 @@
--- `report::summaries::put_spans` meets its contract. Assumes nothing.
+-- `report::sums::put_spans` meets its contract. Assumes nothing.
 use Rattle.report.proofs.Summing.{spans-written}
 use borrow.Author.Needs.{needs}
-use Rattle.report.proofs.summaries.put_spans.Statement.{statement}
-use Rattle.report.proofs.summaries.put_spans.Tie as tie
+use Rattle.report.proofs.sums.put_spans.Statement.{statement}
+use Rattle.report.proofs.sums.put_spans.Tie as tie
 
 put-entry-word-requires : tie.Need-put-entry-word-requires
 put-entry-word-requires c κs = search needs
