@@ -60,7 +60,7 @@ zero-done {m₀} {m} {i} g h =
     g .memory ∙ rw (e, drop-length m₀) (append-nil (replicate (length m₀) 0))
 
 -- ---- what a report comes to
-sets-append : (bs rest m : List ℕ) (at : ℕ) → sets m at (bs ++ rest) ≡ sets (sets m at bs) (at + length bs) rest
+pub sets-append : (bs rest m : List ℕ) (at : ℕ) → sets m at (bs ++ rest) ≡ sets (sets m at bs) (at + length bs) rest
 sets-append [] rest m at = let e : at + 0 ≡ at = omega arith in rw e
 sets-append (b ∷ bs) rest m at =
     let e : suc at + length bs ≡ at + suc (length bs) = omega arith in

@@ -2,6 +2,7 @@
 ghost use mathlib.Core.Path.{_≡_};
 ghost use mathlib.Core.List.{[]};
 ghost use Prim.Native.Nat.{_+_, _≤_};
+ghost use lib.Dec.{leb};
 ghost use lib.ListN.{length, replicate};
 ghost use lib.Seq.{sets};
 ghost use Rattle.text.specs.Decimals.{decimal as Decimals·decimal};
@@ -10,7 +11,7 @@ ghost use Rattle.buffer_writer.specs.Finish.{finish, Wrote};
 use numbers::MAX;
 
 // The place of a report that does not fit. The number for it is MAX, too.
-const FULL: usize = MAX as usize;
+pub const FULL: usize = MAX as usize;
 
 // No number of 64 bits has more digits.
 const MOST_DIGITS: usize = 20;
@@ -20,7 +21,21 @@ const TEN: u64 = 10;
 
 const ZERO: u8 = b'0';
 
-fn copy_to(out: &mut [u8], at: usize, bytes: &[u8])
+// Whether `count` bytes fit from a place on.
+pub fn has_room(out: &[u8], at: usize, count: usize) -> bool
+    ensures { λ r. ⌜ r ≡ leb (at + count) (length (now (out .entry))) ⌝ }
+{
+    if out.len() < at {
+        return false;
+    }
+    if out.len() - at < count {
+        return false;
+    }
+    true
+}
+
+// Writes bytes where there is room for them.
+pub fn copy_to(out: &mut [u8], at: usize, bytes: &[u8])
     requires { ⌜ at + length (now bytes) ≤ length (now out) ⌝ }
     ensures { λ _. ⌜ now (out .exit) ≡ sets (now (out .entry)) at (now (bytes .entry)) ⌝ }
 {
@@ -35,14 +50,11 @@ fn copy_to(out: &mut [u8], at: usize, bytes: &[u8])
 pub fn put_bytes(out: &mut [u8], at: usize, bytes: &[u8]) -> usize
     ensures { λ r. ⌜ Wrote (now (out .entry)) at (now (bytes .entry)) (now (out .exit)) r ⌝ }
 {
-    if out.len() < at {
-        return FULL;
+    if has_room(out, at, bytes.len()) {
+        copy_to(out, at, bytes);
+        return at + bytes.len();
     }
-    if out.len() - at < bytes.len() {
-        return FULL;
-    }
-    copy_to(out, at, bytes);
-    at + bytes.len()
+    FULL
 }
 
 // Writes the digits of a number. A number of one digit needs no scratch.

@@ -5,6 +5,8 @@ pub mod Commits
 pub mod Heads
 pub mod Plans
 pub mod Advances
+pub mod Resting
+pub mod Quiet
 pub mod Public
 pub mod Joins
 pub mod Tries

@@ -16,21 +16,23 @@ use Rattle.pmtl.specs.Sets.{Renew}
 use Rattle.pmtl.specs.Monitor.{Snap, State}
 use Rattle.pmtl.specs.Calls.{Call, Outcome, turns, timeRefusal, stateRefusal, firstOf, refusal, crowded, play, call}
 use Rattle.pmtl.specs.Calls.Call.{time, state, stamped}
+use Rattle.pmtl.specs.Again.{SaysAgain}
 use Rattle.pmtl.proofs.Answers.{step-way-by}
 use Rattle.pmtl.proofs.Calls.{timely, well-stated}
 use Rattle.memory.specs.Layout.{SIZE}
-use Rattle.memory.specs.Memory.{begunWord, clockOf, widthWord, rowsOf, bookOf, stateOf, ledgerOf, atomsOf}
+use Rattle.memory.specs.Memory.{begunWord, clockOf, widthWord, atomAt, rowsOf, bookOf, stateOf, ledgerOf, atomsOf}
 use Rattle.memory.specs.Tables.{propertyCount, Tables}
-use Rattle.memory.specs.Kept.{BookKept, Sound, Kept}
+use Rattle.memory.specs.Kept.{BookKept, Sound, LedgerKept, Awaited, Kept}
 use Rattle.memory.specs.Alike.{Alike, SameLedger}
 use Rattle.memory.proofs.Alike.{alike-sound, alike-book, alike-state}
 use Rattle.memory.proofs.Ledger.{ledger-self, ledger-on, ledger-same, ledger-kept}
 use Rattle.memory.proofs.Properties.{properties-length}
-use Rattle.calls.specs.Private.{Bytes, snapOf, ownRenew, timeStep, Atoms, Moved, Tried, TriedBoth, Due, Done, Advanced}
+use Rattle.calls.specs.Private.{AtomsStand, Bytes, snapOf, ownRenew, timeStep, Atoms, Moved, Tried, TriedBoth, Due, Done, Advanced}
 use Rattle.notes.specs.Noting.{numbered, CallNoted}
 use Rattle.calls.specs.Called.{Called}
+use Rattle.calls.proofs.Resting.{rests-after, unmoved-by}
 use Rattle.calls.proofs.Plans.{some-hit}
-use Rattle.calls.proofs.Heads.{old-same, old-bytes, old-atoms}
+use Rattle.calls.proofs.Heads.{bits-listed, old-same, old-bytes, old-atoms}
 use Rattle.calls.proofs.Advances.{Leads, played, due, has-room, tried-moved, tried-refused, tried-stands}
 
 -- ---- a call that is refused for itself, and one that is not
@@ -40,15 +42,37 @@ called-refused {m} {k} {n} kept e ne =
     let q = ne-eqb n 0 ne in
     record { number = sym (rw (e, q) e); state = sym (rw (e, q)); book = refl; refused = λ z. refl; ledger = ledger-self m; kept = kept }
 
-called-played : {m m′ : List ℕ} {k : Call} {r : ℕ} {ns : List Snap} → refusal (rowsOf m) (stateOf m .now) k ≡ 0 → ns ≡ turns (stateOf m .now) k → Advanced m ns m′ r → Kept m′ → Done k m m′ r
+-- what the words of a memory owe, apart from that its monitor rests
+abbrev Right : List ℕ → Type 0
+Right m = Sound m × Tables m × LedgerKept m × Awaited m
+
+right-now : {m : List ℕ} → Kept m → Right m
+right-now kept = (kept .sound, kept .tables, kept .ledger, kept .awaited)
+
+called-played : {m m′ : List ℕ} {k : Call} {r : ℕ} {ns : List Snap} → Kept m → refusal (rowsOf m) (stateOf m .now) k ≡ 0 → ns ≡ turns (stateOf m .now) k → Advanced m ns m′ r
+    → Right m′ → Done k m m′ r
 unfolding call bookOf
-called-played {m} {m′} {k} {r} e en a kept =
+called-played {m} {m′} {k} {r} kept e en a right =
+    let state : stateOf m′ ≡ call (rowsOf m) (stateOf m) k .state = a .state ∙ ap (λ (ns : List Snap). play (rowsOf m) (stateOf m) (stateOf m) ns .state) en ∙ sym (rw e) in
     record {
       number = a .number ∙ ap (λ (ns : List Snap). play (rowsOf m) (stateOf m) (stateOf m) ns .number) en ∙ sym (rw e);
-      state = a .state ∙ ap (λ (ns : List Snap). play (rowsOf m) (stateOf m) (stateOf m) ns .state) en ∙ sym (rw e);
+      state = state;
       book = a .book;
       refused = a .refused;
       ledger = a .ledger;
+      kept = record { sound = right .0; tables = right .1; ledger = right .2; rests = rests-after kept m′ k (ap (λ (x : Book). x .rows) (a .book)) state; awaited = right .3 };
+    }
+
+-- a call that says again what stands there
+called-again : {m : List ℕ} → Kept m → stateOf m .begun ≡ true → (k : Call) → refusal (rowsOf m) (stateOf m .now) k ≡ 0 → SaysAgain (stateOf m .now) k → Done k m m 0
+unfolding bookOf
+called-again {m} kept begun k fine again = let e = unmoved-by kept begun k fine again in
+    record {
+      number = sym (ap (λ (o : Outcome). o .number) e);
+      state = sym (ap (λ (o : Outcome). o .state) e);
+      book = refl;
+      refused = λ z. refl;
+      ledger = ledger-self m;
       kept = kept;
     }
 
@@ -57,7 +81,7 @@ same-count : {m m′ : List ℕ} → BookKept m → BookKept m′ → bookOf m�
 same-count {m} {m′} kept kept′ same = sym (properties-length m′ kept′) ∙ ap (λ (b : Book). length (properties b)) same ∙ properties-length m kept
 
 -- a call that was accepted, once what is due was told and asked
-pub advanced-renewed : {m m₁ m₂ : List ℕ} {ns : List Snap} → Kept m → Advanced m ns m₁ 0 → Sound m₁ → Alike m₁ m₂ × Tables m₂ × SameLedger m₁ m₂ → Advanced m ns m₂ 0 × Kept m₂
+pub advanced-renewed : {m m₁ m₂ : List ℕ} {ns : List Snap} → Kept m → Advanced m ns m₁ 0 → Sound m₁ → Alike m₁ m₂ × Tables m₂ × SameLedger m₁ m₂ × Awaited m₂ → Advanced m ns m₂ 0 × Right m₂
 advanced-renewed {m} {m₁} {m₂} kept a sound t =
     let book : bookOf m₂ ≡ bookOf m = alike-book sound (t .0) ∙ a .book in
     let sound₂ = alike-sound sound (t .0) in
@@ -69,7 +93,7 @@ advanced-renewed {m} {m₁} {m₂} kept a sound t =
         refused = λ ne. absurd (ne refl);
         ledger = same;
       },
-      record { sound = sound₂; tables = t .1; ledger = ledger-kept (same-count (kept .sound .book) (sound₂ .book) book) same (kept .ledger) },
+      (sound₂, t .1, ledger-kept (same-count (kept .sound .book) (sound₂ .book) book) same (kept .ledger), t .3),
     )
 
 -- ---- what is wrong with a time, and with a state
@@ -136,13 +160,13 @@ module _ {m : List ℕ} (kept : Kept m) (t : ℕ) {late : ℕ} (el : late ≡ ti
     pub in-range : t ≤ LAST-TIME
     in-range = timely (stateOf m .now) t (sym el ∙ in-time) .1
 
-    time-played : {m′ : List ℕ} {r : ℕ} → Advanced m (snapOf t (atomsOf m) ∷ []) m′ r → Kept m′ → Done (time t) m m′ r
+    time-played : {m′ : List ℕ} {r : ℕ} → Advanced m (snapOf t (atomsOf m) ∷ []) m′ r → Right m′ → Done (time t) m m′ r
     unfolding refusal stateOf
-    time-played a kept′ = called-played (sym el ∙ in-time) (ap (λ (bs : List Bool). record { clock = t; atoms = bs } ∷ []) (old-atoms (kept .sound))) a kept′
+    time-played a right = called-played kept (sym el ∙ in-time) (ap (λ (bs : List Bool). record { clock = t; atoms = bs } ∷ []) (old-atoms (kept .sound))) a right
 
     module _ {m₁ : List ℕ} {r : ℕ} (tried : Tried m (ownRenew (stateOf m)) (stateOf m) t (atomsOf m) m₁ r) where
       pub time-full : (r ≡ 0 → ⊥) → Done (time t) m m₁ r
-      time-full ne = let q = tried-refused tried refl ne in time-played (q .0) (rw (q .1) kept)
+      time-full ne = let q = tried-refused tried refl ne in time-played (q .0) (rw (q .1) (right-now kept))
 
       -- its atoms stand there already
       stands : r ≡ 0 → Atoms m₁ (atomsOf m) (length (atomsOf m)) m₁
@@ -151,7 +175,7 @@ module _ {m : List ℕ} (kept : Kept m) (t : ℕ) {late : ℕ} (el : late ≡ ti
       pub time-due : r ≡ 0 → {first : Bool} → first ≡ eqb (begunWord m) 0 → Due m₁ first
       time-due z ef = due kept in-range (old-bytes (kept .sound)) (has-room tried z) (tried-moved tried z) (stands z) refl ef
 
-      pub time-done : {m₂ : List ℕ} → r ≡ 0 → Alike m₁ m₂ × Tables m₂ × SameLedger m₁ m₂ → Done (time t) m m₂ 0
+      pub time-done : {m₂ : List ℕ} → r ≡ 0 → Alike m₁ m₂ × Tables m₂ × SameLedger m₁ m₂ × Awaited m₂ → Done (time t) m m₂ 0
       time-done z renewed =
           let a = played kept in-range (old-bytes (kept .sound)) (has-room tried z) (tried-moved tried z) (stands z) refl refl in
           let q = advanced-renewed kept a (time-due z refl .sound) renewed in
@@ -167,18 +191,28 @@ module _ {m : List ℕ} (kept : Kept m) (s : List ℕ) {wrong : ℕ} (ew : wrong
     new-bytes : Bytes s (widthWord m)
     new-bytes = sound-bytes (kept .sound .book) s (sym ew ∙ right)
 
+    pub state-few : length s ≤ MOST-ATOMS
+    state-few = omega (arith, kept .sound .book .narrow, new-bytes .long)
+
+    -- the atoms stand there already
+    pub state-stands : AtomsStand m s → Done (state s) m m 0
+    unfolding refusal stateOf
+    state-stands there =
+        called-again kept (rw (there .begun)) (state s) (sym ew ∙ right)
+        (bits-listed (atomAt m) s (widthWord m) (new-bytes .long) (λ i h. sym (there .same i (omega (arith, new-bytes .long)))))
+
     module _ {clock : ℕ} (ec : clock ≡ clockOf m) where
       pub state-timely : (Kept m × (clock ≤ LAST-TIME)) × (true ≡ true → (widthWord m ≤ length s) × (clock ≡ clockOf m))
       state-timely = ((kept, rw ec (kept .sound .clock)), λ e. (enough new-bytes, ec))
 
-      state-played : {m′ : List ℕ} {r : ℕ} → Advanced m (snapOf clock s ∷ []) m′ r → Kept m′ → Done (state s) m m′ r
+      state-played : {m′ : List ℕ} {r : ℕ} → Advanced m (snapOf clock s ∷ []) m′ r → Right m′ → Done (state s) m m′ r
       unfolding refusal stateOf
-      state-played a kept′ =
-          called-played (sym ew ∙ right) (ap (λ (c : ℕ). snapOf c s ∷ []) ec) a kept′
+      state-played a tables =
+          called-played kept (sym ew ∙ right) (ap (λ (c : ℕ). snapOf c s ∷ []) ec) a tables
 
       module _ {m₁ : List ℕ} {r : ℕ} (tried : Tried m (ownRenew (stateOf m)) (stateOf m) clock s m₁ r) where
         pub state-full : (r ≡ 0 → ⊥) → Done (state s) m m₁ r
-        state-full ne = let q = tried-refused tried refl ne in state-played (q .0) (rw (q .1) kept)
+        state-full ne = let q = tried-refused tried refl ne in state-played (q .0) (rw (q .1) (right-now kept))
 
         pub state-roomy : r ≡ 0 → (length m₁ ≡ SIZE) × (length s ≤ MOST-ATOMS)
         state-roomy z = roomy-for kept new-bytes (tried-moved tried z)
@@ -187,7 +221,7 @@ module _ {m : List ℕ} (kept : Kept m) (s : List ℕ) {wrong : ℕ} (ew : wrong
           pub state-due : {first : Bool} → first ≡ eqb (begunWord m) 0 → Due m₂ first
           state-due ef = due kept (state-timely .0 .1) new-bytes (has-room tried z) (tried-moved tried z) a refl ef
 
-          pub state-done : {m₃ : List ℕ} → Alike m₂ m₃ × Tables m₃ × SameLedger m₂ m₃ → Done (state s) m m₃ 0
+          pub state-done : {m₃ : List ℕ} → Alike m₂ m₃ × Tables m₃ × SameLedger m₂ m₃ × Awaited m₃ → Done (state s) m m₃ 0
           state-done renewed =
               let p = played kept (state-timely .0 .1) new-bytes (has-room tried z) (tried-moved tried z) a refl refl in
               let q = advanced-renewed kept p (state-due refl .sound) renewed in
@@ -223,11 +257,11 @@ module _ {m : List ℕ} (kept : Kept m) (t : ℕ) (s : List ℕ) {late : ℕ} (e
       abbrev snaps : List Snap
       snaps = snapOf t (atomsOf m) ∷ snapOf t s ∷ []
 
-      stamped-played : {m′ : List ℕ} {r : ℕ} → Advanced m snaps m′ r → Kept m′ → Done (stamped t s) m m′ r
+      stamped-played : {m′ : List ℕ} {r : ℕ} → Advanced m snaps m′ r → Right m′ → Done (stamped t s) m m′ r
       unfolding refusal firstOf stateOf
-      stamped-played a kept′ =
-          called-played (rw (eq-eqb (timeRefusal (stateOf m .now) t) 0 time-fine) state-fine)
-          (ap (λ (bs : List Bool). record { clock = t; atoms = bs } ∷ snapOf t s ∷ []) (old-atoms (kept .sound))) a kept′
+      stamped-played a tables =
+          called-played kept (rw (eq-eqb (timeRefusal (stateOf m .now) t) 0 time-fine) state-fine)
+          (ap (λ (bs : List Bool). record { clock = t; atoms = bs } ∷ snapOf t s ∷ []) (old-atoms (kept .sound))) a tables
 
       abbrev between : State
       between = timeStep m t (atomsOf m)
@@ -247,8 +281,8 @@ module _ {m : List ℕ} (kept : Kept m) (t : ℕ) (s : List ℕ) {late : ℕ} (e
         pub stamped-full : (r ≡ 0 → ⊥) → Done (stamped t s) m m₁ r
         stamped-full ne =
             ⊎-elim
-            (λ (f : crowded between ≡ true). let q = tried .between f in stamped-played (rw (q .0, q .1) (none-between f)) (rw (q .1) kept))
-            (λ (f : crowded between ≡ false). let q = tried-refused (tried .last f) (leads f) ne in stamped-played (q .0) (rw (q .1) kept))
+            (λ (f : crowded between ≡ true). let q = tried .between f in stamped-played (rw (q .0, q .1) (none-between f)) (rw (q .1) (right-now kept)))
+            (λ (f : crowded between ≡ false). let q = tried-refused (tried .last f) (leads f) ne in stamped-played (q .0) (rw (q .1) (right-now kept)))
             (either (crowded between))
 
         module _ (z : r ≡ 0) where
@@ -265,7 +299,7 @@ module _ {m : List ℕ} (kept : Kept m) (t : ℕ) (s : List ℕ) {late : ℕ} (e
             pub stamped-due : {first : Bool} → first ≡ eqb (begunWord m) 0 → Due m₂ first
             stamped-due ef = due kept small bytes (has-room last z) (tried-moved last z) a own ef
 
-            pub stamped-done : {m₃ : List ℕ} → Alike m₂ m₃ × Tables m₃ × SameLedger m₂ m₃ → Done (stamped t s) m m₃ 0
+            pub stamped-done : {m₃ : List ℕ} → Alike m₂ m₃ × Tables m₃ × SameLedger m₂ m₃ × Awaited m₃ → Done (stamped t s) m m₃ 0
             stamped-done renewed =
                 let p = played kept small bytes (has-room last z) (tried-moved last z) a own (leads roomy) in
                 let q = advanced-renewed kept p (stamped-due refl .sound) renewed in

@@ -15,7 +15,7 @@ use Rattle.pmtl.specs.Monitor.{Snap, State, setAt, valueRule, value, stepBy}
 use Rattle.pmtl.specs.Calls.{Call, crowded, play, call}
 use Rattle.book.specs.Rows.{temporal, ATOM, HISTORICALLY}
 use Rattle.memory.specs.Layout.{ATOMS, SETS, SET, VALUES, SIZE, BEGUN, CLOCK}
-use Rattle.memory.specs.Memory.{rowCount, rangeAt, begunWord, clockOf, temporals, kindAt, argAt, lowerAt, upperAt, slotAt, ownerAt, slotWords, wayWord, atomsOf, valueAt, earlyAt, settledAt, rowOf, rowsOf, bookOf, stateOf, isOne}
+use Rattle.memory.specs.Memory.{rowCount, rangeAt, begunWord, clockOf, temporals, kindAt, argAt, lowerAt, upperAt, slotAt, ownerAt, slotWords, wayWord, atomsOf, valueAt, earlyAt, settledAt, untilWord, rowOf, rowsOf, bookOf, stateOf, isOne}
 use Rattle.memory.specs.Tables.{propertyCount, Valued, Moving, Unused}
 use Rattle.memory.specs.Kept.{Sound, Kept}
 use Rattle.memory.specs.Alike.{SameLedger}
@@ -144,6 +144,20 @@ pub record Atoms (m atoms : List ℕ) (n : ℕ) (m′ : List ℕ) : Type 0 where
   pub new : (i : ℕ) → i < n → getD m′ (ATOMS + i) 0 ≡ getD atoms i 0
   pub below : (i : ℕ) → i < ATOMS → getD m′ i 0 ≡ getD m i 0
   pub above : (i : ℕ) → ATOMS + n ≤ i → getD m′ i 0 ≡ getD m i 0
+
+-- a call was accepted, and up to this time a time call moves the clock alone
+pub record QuietAt (m : List ℕ) (t : ℕ) : Type 0 where
+  pub begun : begunWord m ≡ 1
+  pub until : t ≤ untilWord m
+
+-- a call was accepted, and the atoms that stand there are these
+pub record AtomsStand (m atoms : List ℕ) : Type 0 where
+  pub begun : begunWord m ≡ 1
+  pub same : (i : ℕ) → i < length atoms → getD m (ATOMS + i) 0 ≡ getD atoms i 0
+
+-- m with the clock alone moved
+abbrev pub ticked : List ℕ → ℕ → List ℕ
+ticked m t = set m CLOCK t
 
 -- m with begun set, and the clock
 abbrev pub clocked : List ℕ → ℕ → List ℕ

@@ -15,13 +15,14 @@ ghost use Rattle.pmtl.specs.Calls.{Call, timeRefusal, stateRefusal};
 ghost use Rattle.memory.specs.Layout.{SET, VALUES, SIZE};
 ghost use Rattle.memory.specs.Memory.{rowCount, clockOf, widthWord, temporals, kindAt, setStart, slotWords, movesAt, rangeAt, rowOf, rowsOf, stateOf, atomsOf, isOne};
 ghost use Rattle.memory.specs.Tables.{Tables};
-ghost use Rattle.memory.specs.Kept.{BookKept, Sound, Kept};
+ghost use Rattle.memory.specs.Kept.{BookKept, Sound, Awaited, Kept};
 ghost use Rattle.memory.specs.Alike.{Alike, SameLedger};
 ghost use Rattle.set_change.specs.Change.{changed, spannedIf, bothOf};
-ghost use Rattle.calls.specs.Private.{ahead, atomsFor, ownRenew, spansIn, renewOver, countsFrom, heldIn, Named, modeAt, setAfter, rowPlan, Unplanned, Leading, RowTried, clocked, Bounded, Slot, Planned, Timely, Held, Roomy, Fit, Fitting, Written, Atoms, Tried, TriedBoth, Due, Done};
+ghost use Rattle.calls.specs.Private.{ahead, atomsFor, QuietAt, ticked, AtomsStand, ownRenew, spansIn, renewOver, countsFrom, heldIn, Named, modeAt, setAfter, rowPlan, Unplanned, Leading, RowTried, clocked, Bounded, Slot, Planned, Timely, Held, Roomy, Fit, Fitting, Written, Atoms, Tried, TriedBoth, Due, Done};
 ghost use Rattle.calls.specs.Called.{Called};
 ghost use Rattle.book.specs.Rows.{HISTORICALLY};
 ghost use Rattle.numbers.specs.Limits.{LAST-TIME, MOST-ATOMS, MOST-ROWS, MOST-TEMPORALS};
+ghost use Rattle.numbers.specs.Refusals.{ACCEPTED as Refusals·ACCEPTED};
 use book::AND;
 use book::ATOM;
 use book::FALSE;
@@ -382,7 +383,7 @@ fn advance_both(monitor: &mut [u64; SIZE], clock: u64, state: &[u8]) -> u64
 
 // After an accepted call the rows are told anew what is so of their sets. Only if that is something new, or at the first such call, are
 // the properties asked again.
-fn renew(monitor: &mut [u64; SIZE], first: bool)
+fn ask_anew(monitor: &mut [u64; SIZE], first: bool)
     requires { ⌜ Due (now monitor) first ⌝ }
     ensures { λ _. ⌜ Alike (now (monitor .entry)) (now (monitor .exit)) × Tables (now (monitor .exit)) × SameLedger (now (monitor .entry)) (now (monitor .exit)) ⌝ }
 {
@@ -395,6 +396,15 @@ fn renew(monitor: &mut [u64; SIZE], first: bool)
         return;
     }
     tables::ask(monitor);
+}
+
+// After an accepted call: the answers, and up to when a time call moves the clock alone.
+fn renew(monitor: &mut [u64; SIZE], first: bool)
+    requires { ⌜ Due (now monitor) first ⌝ }
+    ensures { λ _. ⌜ Alike (now (monitor .entry)) (now (monitor .exit)) × Tables (now (monitor .exit)) × SameLedger (now (monitor .entry)) (now (monitor .exit)) × Awaited (now (monitor .exit)) ⌝ }
+{
+    ask_anew(monitor, first);
+    tables::fill_until(monitor);
 }
 
 // Whether a byte is neither 0 nor 1.
@@ -445,7 +455,45 @@ fn state_number(monitor: &[u64; SIZE], state: &[u8]) -> u64
     ACCEPTED
 }
 
-// The clock becomes `time`, and every row is evaluated anew. The answer is 0, or the number of the refusal: then nothing changed.
+// Whether a call was accepted already and up to this time a time call moves the clock alone.
+fn quiet_at(monitor: &[u64; SIZE], time: u64) -> bool
+    ensures { λ r. ⌜ (r ≡ true → QuietAt (now (monitor .entry)) time) ⌝ }
+{
+    if memory::begun(monitor) != 1 {
+        return false;
+    }
+    time <= memory::until(monitor)
+}
+
+// Moves the clock alone.
+fn tick(monitor: &mut [u64; SIZE], time: u64)
+    requires { ⌜ length (now monitor) ≡ SIZE ⌝ }
+    ensures { λ _. ⌜ now (monitor .exit) ≡ ticked (now (monitor .entry)) time ⌝ }
+{
+    monitor[memory::CLOCK] = time;
+}
+
+// Whether a call was accepted already and the atoms that stand there are the bytes of a state.
+fn stands_with(monitor: &[u64; SIZE], state: &[u8]) -> bool
+    requires { ⌜ length (now state) ≤ MOST-ATOMS ⌝ }
+    ensures { λ r. ⌜ (r ≡ true → AtomsStand (now (monitor .entry)) (now (state .entry))) ⌝ }
+{
+    if memory::begun(monitor) != 1 {
+        return false;
+    }
+    let mut i = 0;
+    while i < state.len() {
+        if memory::word(monitor, memory::ATOMS + i) == lists::wide(state[i]) {
+            i += 1;
+        } else {
+            return false;
+        }
+    }
+    true
+}
+
+// The clock becomes `time`, and every row is evaluated anew, but up to a time until which nothing else changes. The answer is 0, or the
+// number of the refusal: then nothing changed.
 fn time_call(monitor: &mut [u64; SIZE], time: u64) -> u64
     requires { ⌜ Kept (now monitor) ⌝ }
     ensures { λ r. ⌜ Done (Call.time time) (now (monitor .entry)) (now (monitor .exit)) r ⌝ }
@@ -453,6 +501,10 @@ fn time_call(monitor: &mut [u64; SIZE], time: u64) -> u64
     let late = time_number(monitor, time);
     if late != ACCEPTED {
         return late;
+    }
+    if quiet_at(monitor, time) {
+        tick(monitor, time);
+        return ACCEPTED;
     }
     let first = memory::begun(monitor) == 0;
     let number = advance(monitor, time, b"", false);
@@ -463,14 +515,14 @@ fn time_call(monitor: &mut [u64; SIZE], time: u64) -> u64
     ACCEPTED
 }
 
-// The atoms become the bytes of `state`, and every row is evaluated anew. The answer is as that of `time_call`.
-fn state_call(monitor: &mut [u64; SIZE], state: &[u8]) -> u64
-    requires { ⌜ Kept (now monitor) ⌝ }
+// The atoms become the bytes of `state`, which nothing is wrong with, and every row is evaluated anew; but atoms that stand there already
+// change nothing. The answer is as that of `time_call`.
+fn restate(monitor: &mut [u64; SIZE], state: &[u8]) -> u64
+    requires { ⌜ Kept (now monitor) × (stateRefusal (rowsOf (now monitor)) (now state) ≡ Refusals·ACCEPTED) ⌝ }
     ensures { λ r. ⌜ Done (Call.state (now (state .entry))) (now (monitor .entry)) (now (monitor .exit)) r ⌝ }
 {
-    let wrong = state_number(monitor, state);
-    if wrong != ACCEPTED {
-        return wrong;
+    if stands_with(monitor, state) {
+        return ACCEPTED;
     }
     let first = memory::begun(monitor) == 0;
     let clock = memory::clock(monitor);
@@ -483,8 +535,54 @@ fn state_call(monitor: &mut [u64; SIZE], state: &[u8]) -> u64
     ACCEPTED
 }
 
-// The clock becomes `time` and then the atoms the bytes of `state`, every row evaluated anew at each of the two steps; or neither. The
-// answer is as that of `time_call`.
+// A state call, which may be wrong in itself.
+fn state_call(monitor: &mut [u64; SIZE], state: &[u8]) -> u64
+    requires { ⌜ Kept (now monitor) ⌝ }
+    ensures { λ r. ⌜ Done (Call.state (now (state .entry))) (now (monitor .entry)) (now (monitor .exit)) r ⌝ }
+{
+    let wrong = state_number(monitor, state);
+    if wrong != ACCEPTED {
+        return wrong;
+    }
+    restate(monitor, state)
+}
+
+// A stamped call whose time moves the clock alone: a state call is left. If that is refused, the clock goes back.
+fn tick_and_restate(monitor: &mut [u64; SIZE], time: u64, state: &[u8]) -> u64
+    requires { ⌜ Kept (now monitor) × QuietAt (now monitor) time ⌝ }
+    requires { ⌜ (timeRefusal (stateOf (now monitor) .now) time ≡ Refusals·ACCEPTED) × (stateRefusal (rowsOf (now monitor)) (now state) ≡ Refusals·ACCEPTED) ⌝ }
+    ensures { λ r. ⌜ Done (Call.stamped time (now (state .entry))) (now (monitor .entry)) (now (monitor .exit)) r ⌝ }
+{
+    let clock = memory::clock(monitor);
+    tick(monitor, time);
+    let number = restate(monitor, state);
+    if number != ACCEPTED {
+        tick(monitor, clock);
+        return number;
+    }
+    ACCEPTED
+}
+
+// The clock becomes `time`, which nothing is wrong with, and then the atoms the bytes of `state`, nor with these, every row evaluated
+// anew at each of the two steps; or neither. Where the first moves the clock alone, only the second is left.
+fn restamp(monitor: &mut [u64; SIZE], time: u64, state: &[u8]) -> u64
+    requires { ⌜ Kept (now monitor) × (timeRefusal (stateOf (now monitor) .now) time ≡ Refusals·ACCEPTED) × (stateRefusal (rowsOf (now monitor)) (now state) ≡ Refusals·ACCEPTED) ⌝ }
+    ensures { λ r. ⌜ Done (Call.stamped time (now (state .entry))) (now (monitor .entry)) (now (monitor .exit)) r ⌝ }
+{
+    if quiet_at(monitor, time) {
+        return tick_and_restate(monitor, time, state);
+    }
+    let first = memory::begun(monitor) == 0;
+    let number = advance_both(monitor, time, state);
+    if number != ACCEPTED {
+        return number;
+    }
+    put_atoms(monitor, state);
+    renew(monitor, first);
+    ACCEPTED
+}
+
+// A stamped call, whose time or state may be wrong in itself.
 fn stamped_call(monitor: &mut [u64; SIZE], time: u64, state: &[u8]) -> u64
     requires { ⌜ Kept (now monitor) ⌝ }
     ensures { λ r. ⌜ Done (Call.stamped time (now (state .entry))) (now (monitor .entry)) (now (monitor .exit)) r ⌝ }
@@ -497,14 +595,7 @@ fn stamped_call(monitor: &mut [u64; SIZE], time: u64, state: &[u8]) -> u64
     if wrong != ACCEPTED {
         return wrong;
     }
-    let first = memory::begun(monitor) == 0;
-    let number = advance_both(monitor, time, state);
-    if number != ACCEPTED {
-        return number;
-    }
-    put_atoms(monitor, state);
-    renew(monitor, first);
-    ACCEPTED
+    restamp(monitor, time, state)
 }
 
 // A time call. Its number, 0 or that of the refusal, comes with a count: how many runs the fullest set has, as the monitor is now, which

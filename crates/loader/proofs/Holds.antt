@@ -23,7 +23,7 @@ use Rattle.memory.specs.Kept.{RowKept, BookKept, startTo, slotTo, Tidy}
 use Rattle.lists.proofs.Listed.{listed-length, listed-agree, listed-all}
 use Rattle.book.specs.Reading.{Sections}
 use Rattle.book.specs.Judging.{kindIn, argIn, lowerIn, upperIn, rowsIn, temporalsIn, startIn, argGood, rowIn, bookIn}
-use Rattle.book.proofs.Accepted.{form, range, temporals-fit, operands-taken, operands-there, operand-below, assume-below, guarantee-below, form-arg, form-kind, lower-small, upper-small}
+use Rattle.book.proofs.Accepted.{form, range, temporals-fit, operands-taken, operands-there, operand-below, assume-below, guarantee-below, form-arg, form-kind, lower-small, range-ordered, upper-small}
 use Rattle.loader.specs.Private.{reach, widthIn, slotIn, rowsPut, headPut, stored, Rowed, Accepted, Holds}
 use Rattle.lists.proofs.Parts.{word-at, part-length, part-at, part-is, part-zeros}
 use Rattle.loader.proofs.Empty.{way-read, way-small}
@@ -121,6 +121,7 @@ module _ (way : Way) (s : Sections) (m : List ℕ) (ok : Accepted s) (st : Stand
           span = rw (start-is, kind-is, arg-is) (omega arith);
           below = rw (kind-is, arg-is, start-is) (λ k q. rw (st .operand (startIn (s .rows) r + k) (omega arith)) (operand-below s (ok .good) r h k q));
           lower = rw lower-is (lower-small (lowerIn (s .rows) r) (upperIn (s .rows) r) b);
+          range = rw (lower-is, upper-is) (range-ordered (lowerIn (s .rows) r) (upperIn (s .rows) r) b);
           upper = rw upper-is (upper-small (lowerIn (s .rows) r) (upperIn (s .rows) r) b);
           slot = rw (kind-is, st .temporal-count) (λ k. rw (slot-some k) (slot-fits (s .rows) r (rowsIn s) h k));
           owner = rw kind-is (λ k. rw (slot-some k) (st .owner r h k));

@@ -1,15 +1,16 @@
 -- What loading leaves, accepted and refused. Assumes nothing.
 use Prim.Native.Nat.{ℕ, _≤_}
 use mathlib.Core.Path.{_≡_, refl, sym, ap, ap₂, _∙_}
-use mathlib.Core.Bool.{Bool, true, false}
+use mathlib.Core.Bool.{Bool, true, false, true≢false}
 use mathlib.Core.List.{List}
 use lib.ListN.{getD}
 use Rattle.pmtl.specs.Book.{Book, emptyBook}
 use Rattle.pmtl.specs.Sets.{Way}
 use Rattle.pmtl.specs.Monitor.{State, initialIn}
+use Rattle.pmtl.specs.Again.{Rests}
 use Rattle.memory.specs.Layout.{LEDGER}
 use Rattle.memory.specs.Memory.{rowsOf, bookOf, wayOf, stateOf}
-use Rattle.memory.specs.Kept.{Sound}
+use Rattle.memory.specs.Kept.{Sound, Awaited}
 use Rattle.memory.specs.Tables.{Tables}
 use Rattle.memory.specs.Alike.{Alike, SameLedger}
 use Rattle.memory.proofs.Alike.{alike-sound, alike-book, alike-state}
@@ -60,9 +61,14 @@ module _ {w : Way} {b : Book} {m m′ : List ℕ} (h : Holds w b m) (alike : Ali
   unfolding stateOf initialIn bookOf
   worked-taken = ap₂ takes (ap (λ (st : State). st .way) worked-state) (ap (λ (x : Book). x .rows) worked-book)
 
-worked : (way : Loading) {b : Book} {m m′ : List ℕ} → Holds (wayIn way) b m → Alike m m′ → Tables m′ → SameLedger m m′ → (words : List ℕ) {l : Loaded} {r : ℕ} → loadedBy way words ≡ l → b ≡ l .book
+  -- no call was accepted yet
+  worked-rests : Rests (rowsOf m′) (stateOf m′)
+  unfolding initialIn
+  worked-rests begun = absurd (true≢false (sym begun ∙ ap (λ (st : State). st .begun) worked-state))
+
+worked : (way : Loading) {b : Book} {m m′ : List ℕ} → Holds (wayIn way) b m → Alike m m′ → Tables m′ → SameLedger m m′ → Awaited m′ → (words : List ℕ) {l : Loaded} {r : ℕ} → loadedBy way words ≡ l → b ≡ l .book
     → r ≡ l .number → Loads way words m′ r
-worked way {m′ = m′} h alike tables same words is eb er =
+worked way {m′ = m′} h alike tables same awaited words is eb er =
     let sound = worked-sound h alike in
     let blank : (i : ℕ) → LEDGER ≤ i → getD m′ i 0 ≡ 0 = λ i p. same .words i p ∙ h .blank i p in
     record {
@@ -70,15 +76,15 @@ worked way {m′ = m′} h alike tables same words is eb er =
       book = rw is (worked-book h alike ∙ eb);
       state = rw is (worked-state h alike ∙ ap (λ (x : Book). initialIn (wayIn way) (x .rows)) eb);
       ledger = rw is (ledger-blank (sound .book) blank ∙ ap blankLedger (worked-book h alike ∙ eb));
-      kept = record { sound = sound; tables = tables; ledger = kept-blank (sound .book) blank };
+      kept = record { sound = sound; tables = tables; ledger = kept-blank (sound .book) blank; rests = worked-rests h alike; awaited = awaited };
     }
 
 module _ {way : Loading} {words m m′ : List ℕ} {r : ℕ} (st : Stored way words m r) (alike : Alike m m′) {t : Bool} (et : t ≡ takes (wayOf m′) (rowsOf m′)) where
   judged-so : {z : Bool} → t ≡ z → takes (wayIn way) (roomed way (loaded words) .book .rows) ≡ z
   judged-so e = sym (et ∙ worked-taken (st .held) alike) ∙ e
 
-  pub loads-taken : Tables m′ → SameLedger m m′ → t ≡ true → Loads way words m′ r
-  loads-taken tables same e = worked way (st .held) alike tables same words (taken-stays (wayIn way) (roomed way (loaded words)) (judged-so e)) refl (st .number)
+  pub loads-taken : Tables m′ → SameLedger m m′ → Awaited m′ → t ≡ true → Loads way words m′ r
+  loads-taken tables same awaited e = worked way (st .held) alike tables same awaited words (taken-stays (wayIn way) (roomed way (loaded words)) (judged-so e)) refl (st .number)
 
-  pub loads-nested : {m₁ m₂ : List ℕ} → t ≡ false → Holds (wayIn way) emptyBook m₁ → Alike m₁ m₂ → Tables m₂ → SameLedger m₁ m₂ → Loads way words m₂ 17
-  loads-nested e empty alike₂ tables same = worked way empty alike₂ tables same words (nested-refused (wayIn way) (roomed way (loaded words)) (judged-so e)) refl refl
+  pub loads-nested : {m₁ m₂ : List ℕ} → t ≡ false → Holds (wayIn way) emptyBook m₁ → Alike m₁ m₂ → Tables m₂ → SameLedger m₁ m₂ → Awaited m₂ → Loads way words m₂ 17
+  loads-nested e empty alike₂ tables same awaited = worked way empty alike₂ tables same awaited words (nested-refused (wayIn way) (roomed way (loaded words)) (judged-so e)) refl refl

@@ -15,11 +15,12 @@ use Rattle.pmtl.specs.Answer.{bitOf, digitOf}
 use Rattle.pmtl.specs.Book.{Row, Rows, Book, widthOf, moves}
 use Rattle.pmtl.specs.Sets.{Way, ordinary, lasting}
 use Rattle.pmtl.specs.Monitor.{State, fullest, value}
+use Rattle.pmtl.specs.Quiet.{quietUntil}
 use Rattle.pmtl.specs.Early.{early}
 use Rattle.pmtl.specs.Settled.{settled}
-use Rattle.memory.specs.Layout.{ROWS, ROW, OPERANDS, PROPERTIES, ATOMS, OWNERS, SETS, SET, VALUES, TOLD, EARLY, SETTLED, MOVES, FULLEST, LEDGER, TAKEN, ENTRIES, ENTRY, SIZE}
+use Rattle.memory.specs.Layout.{ROWS, ROW, OPERANDS, PROPERTIES, ATOMS, OWNERS, SETS, SET, VALUES, TOLD, EARLY, SETTLED, MOVES, FULLEST, UNTIL, LEDGER, TAKEN, ENTRIES, ENTRY, SIZE}
 use Rattle.lists.specs.Lists.{part, listed}
-use Rattle.memory.specs.Memory.{rowCount, begunWord, clockOf, widthWord, temporals, assumeCount, guaranteeCount, wayWord, kindAt, argAt, lowerAt, upperAt, startAt, slotAt, operandsOf, ownerAt, setStart, slotWords, propertyRow, valueAt, toldAt, earlyAt, settledAt, movesAt, fullestWord, numberWord, takenWord, entryStart, entryWord, rowOf, rowsOf, bookOf, isOne, wayOf, setOf, stateOf, entryOf, ledgerOf}
+use Rattle.memory.specs.Memory.{rowCount, begunWord, clockOf, widthWord, temporals, assumeCount, guaranteeCount, wayWord, kindAt, argAt, lowerAt, upperAt, startAt, slotAt, operandsOf, ownerAt, setStart, slotWords, propertyRow, valueAt, toldAt, earlyAt, settledAt, movesAt, fullestWord, untilWord, numberWord, takenWord, entryStart, entryWord, rowOf, rowsOf, bookOf, isOne, wayOf, setOf, stateOf, entryOf, ledgerOf}
 use Rattle.memory.specs.Tables.{standing, propertyCount}
 use Rattle.book.specs.Rows.{countOf}
 use Rattle.ledger.specs.Ledger.{Entry, Ledger, entryAt}
@@ -394,6 +395,9 @@ module _ (m m′ : List ℕ) (k : Kept m) (k′ : Kept m′) (same-book : bookOf
   same-fullest : fullestWord m ≡ fullestWord m′
   same-fullest = k .tables .counts .right ∙ ap fullest same-state ∙ sym (k′ .tables .counts .right)
 
+  same-until : untilWord m ≡ untilWord m′
+  same-until = k .awaited .right ∙ ap₂ quietUntil (same-rows m m′ (k .sound) (k′ .sound) same-book same-state) same-state ∙ sym (k′ .awaited .right)
+
   -- the word at a place of the part from a on
   in-part : (a i : ℕ) → a ≤ i → getD m (a + (i - a)) 0 ≡ getD m′ (a + (i - a)) 0 → getD m i 0 ≡ getD m′ i 0
   in-part a i h e = word-at m i (a + (i - a)) (omega arith) ∙ e ∙ word-at m′ (a + (i - a)) i (omega arith)
@@ -406,7 +410,10 @@ module _ (m m′ : List ℕ) (k : Kept m) (k′ : Kept m′) (same-book : bookOf
       ⊎-elim (λ q. in-part TOLD i p₂ (same-told (i - TOLD) (omega arith))) (λ p₃.
       ⊎-elim (λ q. in-part EARLY i p₃ (same-early (i - EARLY) (omega arith))) (λ p₄.
       ⊎-elim (λ q. in-part SETTLED i p₄ (same-settled (i - SETTLED) (omega arith))) (λ p₅.
-      ⊎-elim (λ q. in-part MOVES i p₅ (same-moves (i - MOVES) (omega arith))) (λ p₆. word-at m i FULLEST (omega arith) ∙ same-fullest ∙ word-at m′ FULLEST i (omega arith))
+      ⊎-elim (λ q. in-part MOVES i p₅ (same-moves (i - MOVES) (omega arith))) (λ p₆.
+      ⊎-elim (λ q. word-at m i FULLEST (omega arith) ∙ same-fullest ∙ word-at m′ FULLEST i (omega arith)) (λ p₇.
+      word-at m i UNTIL (omega arith) ∙ same-until ∙ word-at m′ UNTIL i (omega arith))
+      (lt-or-ge i UNTIL))
       (lt-or-ge i FULLEST))
       (lt-or-ge i MOVES))
       (lt-or-ge i SETTLED))

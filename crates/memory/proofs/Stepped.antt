@@ -97,6 +97,7 @@ module _ (m m′ : List ℕ) (kept : Sound m) (step : Stepped m m′) where
               let s = k .span in
               rw (operand-same (startAt m r + i) (omega arith)) (k .below i p));
           lower = rw lower-same (k .lower);
+          range = rw (lower-same, upper-same) (k .range);
           upper = rw upper-same (k .upper);
           slot = rw (kind-same, slot-same, temporals-same) (k .slot);
           owner = rw (kind-same, slot-same) (λ p. let q = k .slot p in step .owners-same (slotAt m r) (omega arith) ∙ k .owner p);

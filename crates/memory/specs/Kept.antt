@@ -7,11 +7,13 @@ use lib.ListN.{length, getD, replicate}
 use Rattle.numbers.specs.Limits.{MAX, LAST-TIME, MOST-ROWS, MOST-OPERANDS, MOST-ASSUMES, MOST-GUARANTEES, MOST-PROPERTIES, MOST-TEMPORALS, MOST-ATOMS}
 use Rattle.numset.specs.Runs.{Good}
 use Rattle.pmtl.specs.Book.{widthOf}
+use Rattle.pmtl.specs.Again.{Rests}
+use Rattle.pmtl.specs.Quiet.{quietUntil}
 use Rattle.pmtl.specs.Answer.{bitOf}
 use Rattle.book.specs.Rows.{countOf, temporal, ATOM, HISTORICALLY, SINCE}
 use Rattle.book.specs.Judging.{formGood}
 use Rattle.memory.specs.Layout.{ROWS, ROW, OPERANDS, PROPERTIES, ATOMS, OWNERS, SET, ENTRIES, ENTRY, SIZE}
-use Rattle.memory.specs.Memory.{rowCount, begunWord, clockOf, widthWord, temporals, assumeCount, guaranteeCount, wayWord, kindAt, argAt, lowerAt, upperAt, startAt, slotAt, operandAt, ownerAt, atomAt, slotWords, rowsOf, ledgerOf}
+use Rattle.memory.specs.Memory.{rowCount, begunWord, clockOf, widthWord, temporals, assumeCount, guaranteeCount, wayWord, kindAt, argAt, lowerAt, upperAt, startAt, slotAt, operandAt, ownerAt, atomAt, slotWords, untilWord, rowsOf, stateOf, ledgerOf}
 use Rattle.ledger.specs.Ledger.{LedgerInBounds}
 use Rattle.memory.specs.Tables.{propertyCount, Tables}
 
@@ -22,6 +24,7 @@ pub record RowKept (m : List ℕ) (r : ℕ) : Type 0 where
   pub span : startAt m r + countOf (kindAt m r) (argAt m r) ≤ MOST-OPERANDS
   pub below : (k : ℕ) → k < countOf (kindAt m r) (argAt m r) → operandAt m (startAt m r + k) < r
   pub lower : lowerAt m r ≤ LAST-TIME
+  pub range : lowerAt m r ≤ upperAt m r
   pub upper : (upperAt m r ≡ MAX → ⊥) → upperAt m r ≤ LAST-TIME
   pub slot : HISTORICALLY ≤ kindAt m r → slotAt m r < temporals m
   pub owner : HISTORICALLY ≤ kindAt m r → ownerAt m (slotAt m r) ≡ r
@@ -84,8 +87,15 @@ pub record LedgerKept (m : List ℕ) : Type 0 where
   pub bounds : LedgerInBounds (propertyCount m) (ledgerOf m)
   pub rest : (i : ℕ) → ENTRIES + ENTRY * propertyCount m ≤ i → i < SIZE → getD m i 0 ≡ 0
 
--- the memory came from calls made here: it is sound, its tables say what the monitor that it holds answers, and its ledger can be one
+-- the word for it says up to when a time call moves the clock alone
+pub record Awaited (m : List ℕ) : Type 0 where
+  pub right : untilWord m ≡ quietUntil (rowsOf m) (stateOf m)
+
+-- the memory came from calls made here: it is sound, its tables say what the monitor that it holds answers, its ledger can be one, that
+-- monitor rests, and it is known for how long
 pub record Kept (m : List ℕ) : Type 0 where
   pub sound : Sound m
   pub tables : Tables m
   pub ledger : LedgerKept m
+  pub rests : Rests (rowsOf m) (stateOf m)
+  pub awaited : Awaited m

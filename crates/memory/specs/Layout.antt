@@ -86,9 +86,13 @@ MOVES = SETTLED + MOST-PROPERTIES
 abbrev pub FULLEST : ℕ
 FULLEST = MOVES + MOST-ROWS
 
+-- and a word for up to when a time call moves the clock alone
+abbrev pub UNTIL : ℕ
+UNTIL = FULLEST + 1
+
 -- the ledger: the number of the last call; how many calls were accepted; and an entry for each property
 abbrev pub LEDGER : ℕ
-LEDGER = FULLEST + 1
+LEDGER = UNTIL + 1
 
 abbrev pub TAKEN : ℕ
 TAKEN = LEDGER + 1

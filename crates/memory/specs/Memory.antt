@@ -13,7 +13,7 @@ use Rattle.pmtl.specs.Monitor.{State}
 use Rattle.book.specs.Rows.{rowFrom, temporal}
 use Rattle.ledger.specs.Ledger.{Entry, Ledger}
 use Rattle.memory.specs.declared.RowWords.{RowWords}
-use Rattle.memory.specs.Layout.{ROW-COUNT, BEGUN, CLOCK, WIDTH, TEMPORALS, ASSUMES, GUARANTEES, WAY, ROWS, ROW, OPERANDS, PROPERTIES, ATOMS, OWNERS, SETS, SET, VALUES, TOLD, EARLY, SETTLED, MOVES, FULLEST, LEDGER, TAKEN, ENTRIES, ENTRY, FAILED, FIRST, LAST, LONGEST, SETTLED-CALL, STRETCH}
+use Rattle.memory.specs.Layout.{ROW-COUNT, BEGUN, CLOCK, WIDTH, TEMPORALS, ASSUMES, GUARANTEES, WAY, ROWS, ROW, OPERANDS, PROPERTIES, ATOMS, OWNERS, SETS, SET, VALUES, TOLD, EARLY, SETTLED, MOVES, FULLEST, UNTIL, LEDGER, TAKEN, ENTRIES, ENTRY, FAILED, FIRST, LAST, LONGEST, SETTLED-CALL, STRETCH}
 
 -- ---- words read off a memory
 abbrev pub rowCount : List ℕ → ℕ
@@ -116,6 +116,10 @@ movesAt m r = getD m (MOVES + r) 0
 -- how many runs the fullest set has
 abbrev pub fullestWord : List ℕ → ℕ
 fullestWord m = getD m FULLEST 0
+
+-- up to when a time call moves the clock alone
+abbrev pub untilWord : List ℕ → ℕ
+untilWord m = getD m UNTIL 0
 
 -- ---- the ledger: the number of the last call, how many were accepted, where the entry of property p begins, and its words
 abbrev pub numberWord : List ℕ → ℕ

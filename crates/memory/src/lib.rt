@@ -4,7 +4,7 @@ ghost use Prim.Native.Nat.{_<_};
 ghost use lib.ListN.{getD};
 ghost use Rattle.numbers.specs.Limits.{MOST-ROWS, MOST-OPERANDS, MOST-PROPERTIES, MOST-TEMPORALS};
 ghost use Rattle.memory.specs.Layout.{ENTRY, SIZE};
-ghost use Rattle.memory.specs.Memory.{rowCount, begunWord, clockOf, widthWord, temporals, assumeCount, guaranteeCount, wayWord, kindAt, argAt, lowerAt, upperAt, startAt, wordsAt, slotAt, operandAt, propertyRow, ownerAt, slotWords, valueAt, toldAt, earlyAt, settledAt, movesAt, fullestWord, numberWord, takenWord, entryWord, isOne};
+ghost use Rattle.memory.specs.Memory.{rowCount, begunWord, clockOf, widthWord, temporals, assumeCount, guaranteeCount, wayWord, kindAt, argAt, lowerAt, upperAt, startAt, wordsAt, slotAt, operandAt, propertyRow, ownerAt, slotWords, valueAt, toldAt, earlyAt, settledAt, movesAt, fullestWord, untilWord, numberWord, takenWord, entryWord, isOne};
 ghost use Rattle.memory.specs.Kept.{BookKept};
 ghost use Rattle.memory.specs.Tables.{propertyCount};
 use numbers::MOST_ATOMS;
@@ -83,6 +83,9 @@ pub const MOVES: usize = SETTLED + MOST_PROPERTIES;
 // And how many runs the fullest set has.
 pub const FULLEST: usize = MOVES + MOST_ROWS;
 
+// And up to when a time call moves the clock alone.
+pub const UNTIL: usize = FULLEST + 1;
+
 // What is told of a set: that it has every instant from the clock on, that it has none of them, or neither.
 pub const COVERS: u64 = 1;
 
@@ -91,7 +94,7 @@ pub const GONE: u64 = 2;
 pub const NEITHER: u64 = 0;
 
 // The ledger: the number of the last call, how many calls were accepted, and an entry for each property.
-pub const LEDGER: usize = FULLEST + 1;
+pub const LEDGER: usize = UNTIL + 1;
 
 pub const TAKEN: usize = LEDGER + 1;
 
@@ -316,6 +319,13 @@ pub fn fullest(monitor: &[u64; SIZE]) -> u64
     ensures { λ r. ⌜ r ≡ fullestWord (now (monitor .entry)) ⌝ }
 {
     monitor[FULLEST]
+}
+
+// Up to when a time call moves the clock alone.
+pub fn until(monitor: &[u64; SIZE]) -> u64
+    ensures { λ r. ⌜ r ≡ untilWord (now (monitor .entry)) ⌝ }
+{
+    monitor[UNTIL]
 }
 
 // What was told of a set.

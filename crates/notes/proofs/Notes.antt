@@ -17,16 +17,17 @@ use Rattle.pmtl.specs.declared.Answer.the-variants.{False, True, Open}
 use Rattle.pmtl.specs.Answer.{digitOf, isOpen}
 use Rattle.pmtl.specs.Book.{properties, propertyAt}
 use Rattle.pmtl.specs.Monitor.{value}
+use Rattle.pmtl.specs.Quiet.{quietUntil}
 use Rattle.pmtl.specs.Settled.{settled}
 use Rattle.pmtl.specs.Calls.{Outcome}
 use Rattle.ledger.specs.Ledger.{LAST-COUNTED, Entry, noted, next}
 use Rattle.ledger.proofs.Noted.{notedAt, next-accepted, next-refused, next-past, next-counts}
-use Rattle.memory.specs.Layout.{PROPERTIES, VALUES, SETTLED, LEDGER, TAKEN}
+use Rattle.memory.specs.Layout.{PROPERTIES, VALUES, SETTLED, UNTIL, LEDGER, TAKEN}
 use Rattle.memory.specs.Memory.{propertyRow, valueAt, numberWord, takenWord, entryStart, rowsOf, bookOf, isOne, stateOf, entryOf, ledgerOf}
 use Rattle.memory.specs.Tables.{propertyCount}
 use Rattle.memory.specs.Kept.{Kept}
 use Rattle.memory.specs.Alike.{Alike}
-use Rattle.memory.proofs.Alike.{alike-sound, alike-book, alike-state}
+use Rattle.memory.proofs.Alike.{alike-rows, alike-sound, alike-book, alike-state}
 use Rattle.memory.proofs.Bits.{bit-back}
 use Rattle.memory.proofs.Ledger.{ledger-entry}
 use Rattle.memory.proofs.Properties.{properties-length, property-is}
@@ -190,8 +191,10 @@ module _ {m : List ℕ} (kept : Kept m) where
           refused = refused;
           kept = record {
             sound = alike-sound (kept .sound) alike;
-            tables = tables-same (kept .sound) alike same (kept .tables);
+            tables = tables-same (kept .sound) alike (λ i h. same i (omega arith)) (kept .tables);
             ledger = record { bounds = rw (is, same-count, ← count) bounds; rest = rw same-count (λ i p h. rest i p ∙ kept .ledger .rest i p h) };
+            rests = rw (alike-rows (kept .sound) alike, alike-state (kept .sound) alike) (kept .rests);
+            awaited = record { right = same UNTIL (omega arith) ∙ kept .awaited .right ∙ sym (ap₂ quietUntil (alike-rows (kept .sound) alike) (alike-state (kept .sound) alike)) };
           };
         }
 

@@ -5,18 +5,18 @@ use mathlib.Core.Logic.{⊎-elim}
 use mathlib.Core.Bool.{Bool, true, false, _||_}
 use mathlib.Core.List.{List, [], _∷_}
 use native.Mathlib.Omega.{arith}
-use lib.ListN.{length, getD, set}
+use lib.ListN.{length, getD, set, length-set}
 use lib.Seq.{getD-set-other}
 use lib.Dec.{ltb}
 use borrow.Author.Tests.{lt-ltb, le-ltb, ltb-true, ltb-false}
 use Rattle.numset.specs.Runs.{run, Runs, Under, Canonical, within, has, lo, hi, runsTo, runs, Good, kept, insert, union, fits, pack}
-use Rattle.numset.specs.Private.{Shifted, Cleared, oldestLapsed, Lapsed, Dropped}
+use Rattle.numset.specs.Private.{Shifted, Cleared, oldestLapsed, Lapsed, Dropped, withRun}
 use Rattle.lists.proofs.Tests.{lt-or-ge, and-left, and-right}
 use Rattle.numset.proofs.Laws.{outside-below, under-mono, canonical, topOf, under-topOf}
 use Rattle.numset.proofs.Union.{insert-over, insert-past, insert-join, union-none, union-some}
 use Rattle.numset.proofs.Words.{at, runs-suc, length-runs}
 use Rattle.numset.proofs.Packs.{packed, good-pack}
-use Rattle.numset.proofs.Moves.{put-here}
+use Rattle.numset.proofs.Moves.{put-here, cleared-none, cleared-more, cleared-eq}
 
 -- ---- one run: it goes if it ends before t, else it stays
 module _ (t l u : ℕ) (rs : Runs) where
@@ -207,6 +207,16 @@ dropped {m} {m₁} {m₂} {m′} {k} w v q g r =
           getD-set-other m₂ 0 i (n - k) 0 (omega arith)
           ∙ ⊎-elim (λ x. v .zeros i (omega arith) x) (λ x. v .above i x ∙ w .above i (omega arith) ∙ g .rest i (omega arith)) (lt-or-ge i (2 * n + 1));
     })
+
+-- and those of `drop_one`: the words of one run are wiped by two stores
+pub dropped-one : {m m₁ m′ : List ℕ} → Shifted m m₁ 3 1 (2 * (getD m 0 0 - 1)) → m′ ≡ withRun m₁ (getD m 0 0 - 1) 0 0 (getD m 0 0 - 1)
+    → Good m → 0 < getD m 0 0 → length m₁ ≡ length m → Dropped m m′ 1 (getD m 0 0)
+dropped-one {m} {m₁} w q g h e =
+    let s = getD m 0 0 - 1 in
+    let r = g .room in
+    let lower = cleared-more m₁ m₁ (2 * s + 1) (2 * s + 1) (cleared-none m₁ (2 * s + 1)) (omega arith) (omega arith) in
+    let both = cleared-more m₁ (set m₁ (2 * s + 1) 0) (2 * s + 1) (2 * s + 2) (cleared-eq lower (omega arith)) (omega arith) (simp length-set (omega arith)) in
+    dropped w (cleared-eq both (omega arith)) q g (simp length-set (omega arith))
 
 module _ {m : List ℕ} {t k : ℕ} (w : Lapsed m t k) (g : Good m) where
   pub none-lapsed : k ≡ 0 → m ≡ pack (length m) (kept t (runs m))

@@ -14,3 +14,4 @@ pub mod Newest
 pub mod Last
 pub mod Changes
 pub mod Resets
+pub mod Until

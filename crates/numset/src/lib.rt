@@ -10,6 +10,7 @@ ghost use mathlib.Core.Logic.{_↔_};
 ghost use Prim.Native.Nat.{_+_, _*_, _-_, _<_, _≤_, min, max};
 ghost use lib.ListN.{length, getD, replicate};
 ghost use Rattle.numset.specs.Runs.{Good, Covers, emptyNumber, runs, has, lo, hi, kept, union, fits, pack, addNumber, addWords, addCount, setToNumber, setToWords};
+ghost use Rattle.numset.specs.Until.{restsUntil};
 ghost use Rattle.numset.specs.Private.{Shifted, Cleared, Replaced, Ended, Spanned, oldestLapsed, Lapsed, Dropped, takesIn, withRun};
 
 mod by_value; // by_value.rt: a set of 64 runs by value
@@ -23,6 +24,9 @@ use numbers::NO_ROOM;
 
 // The words of a set of one run.
 const ONE_RUN: usize = 3;
+
+// Where the second run begins.
+const SECOND: usize = 3;
 
 // The gap between the ends of two neighbours: runs that are no further apart are one run.
 const ADJACENT: u64 = 1;
@@ -393,12 +397,42 @@ pub fn contains_from_oldest(set: &[u64], t: u64) -> bool
     false
 }
 
+// Drops the oldest run. The others move by a distance that is known beforehand, of which the compiler makes one move.
+fn drop_one(set: &mut [u64])
+    requires { ⌜ Good (now set) ⌝ }
+    requires { ⌜ 0 < getD (now set) 0 0 ⌝ }
+    ensures { λ _. ⌜ Dropped (now (set .entry)) (now (set .exit)) 1 (getD (now (set .entry)) 0 0) ⌝ }
+{
+    let left = set[0] as usize - 1;
+    move_down(set, SECOND, 1, 2 * left);
+    store(set, left, 0, 0, left);
+}
+
+// Up to when, from `t` on, no run begins or ends, where none ended before `t`: the oldest decides, since every newer one begins later.
+pub fn rests_until(set: &[u64], t: u64) -> u64
+    requires { ⌜ Good (now set) ⌝ }
+    ensures { λ r. ⌜ r ≡ restsUntil t (runs (now (set .entry))) ⌝ }
+{
+    if set[0] == 0 {
+        return MAX;
+    }
+    let lower = lower_at(set, 0);
+    if t < lower {
+        return lower - 1;
+    }
+    upper_at(set, 0)
+}
+
 // Drops the `count` oldest runs; what is left moves once, and the words that become free are wiped.
 fn drop_oldest(set: &mut [u64], count: usize)
     requires { ⌜ Good (now set) ⌝ }
     requires { ⌜ count ≤ getD (now set) 0 0 ⌝ }
     ensures { λ _. ⌜ Dropped (now (set .entry)) (now (set .exit)) count (getD (now (set .entry)) 0 0) ⌝ }
 {
+    if count == 1 {
+        drop_one(set);
+        return;
+    }
     let n = set[0] as usize;
     let left = n - count;
     move_down(set, 2 * count + 1, 1, 2 * left);

@@ -16,8 +16,8 @@ use Rattle.pmtl.specs.Book.{Range, Row, mapRow, Rows, rowAt, Ordered, so
 use Rattle.pmtl.specs.Book.Row.{never, always, atom, conj, disj, neg, implies, historically, once, since}
 use Rattle.pmtl.specs.Sets.{addedIf, renewed, lasted, Way, ordinary, lasting, renewedIn, setRuleBy}
 use Rattle.pmtl.specs.Monitor.{Snap, State, setAt, initialIn, value, stepBy, stepIn}
-use Rattle.pmtl.specs.Calls.{Call, time, state, stamped, timed, stated, turns, timeRefusal, stateRefusal, firstOf, refusal, crowded, Outcome, call, afterIn}
-use Rattle.pmtl.specs.Again.{SaysAgain, unchanged}
+use Rattle.pmtl.specs.Calls.{Call, time, state, stamped, timed, stated, turns, timeRefusal, stateRefusal, firstOf, refusal, crowded, Outcome, play, call, afterIn}
+use Rattle.pmtl.specs.Again.{SaysAgain, unchanged, Rests}
 use Rattle.pmtl.proofs.Table.{by-rows, mapRow-local}
 use Rattle.pmtl.proofs.Answers.{step-sets-by, set-made-by, set-fix-by, value-local}
 use Rattle.pmtl.proofs.Renewed.{renewed-canonical, lasted-canonical, lasted-now, rule-any}
@@ -115,11 +115,11 @@ module _ (b : Rows) (w : Ordered b) (st : State) (ok : (r : ℕ) → Canonical (
         (step-sets-by (renewedIn (st .way) (n .clock)) b first n ∙ sym (step-sets-by (renewedIn (st .way) before) b st n)) (λ r l. same-set r))
 
 -- ---- what is so of every state that calls leave
-record Left (b : Rows) (st : State) : Type 0 where
-  canonical : (r : ℕ) → Canonical (setAt st r)
-  in-time : st .now .clock ≤ LAST-TIME
-  room : crowded st ≡ false
-  rests : st .begun ≡ true → stepIn b st (st .now) ≡ st
+pub record Left (b : Rows) (st : State) : Type 0 where
+  pub canonical : (r : ℕ) → Canonical (setAt st r)
+  pub in-time : st .now .clock ≤ LAST-TIME
+  pub room : crowded st ≡ false
+  pub rests : Rests b st
 
 none-crowded : (n : ℕ) → some (λ (s : Runs). ltb MOST-RUNS (length s)) (replicate n []) ≡ false
 unfolding some
@@ -156,7 +156,7 @@ module _ (b : Rows) (w : Ordered b) where
       step-left (stepIn b st n) (step-left st l n up (a .room .0)) (stated n bytes) up (a .room .1 .0)
 
   -- any call
-  call-left : (st : State) → Left b st → (k : Call) → Left b (call b st k .state)
+  pub call-left : (st : State) → Left b st → (k : Call) → Left b (call b st k .state)
   call-left st l k = go (eqb (call b st k .number) ACCEPTED) refl
     where
       go : (z : Bool) → eqb (call b st k .number) ACCEPTED ≡ z → Left b (call b st k .state)
@@ -169,6 +169,11 @@ module _ (b : Rows) (w : Ordered b) where
   unfolding afterIn
   left way [] = initial-left way b
   left way (k ∷ ks) = call-left (afterIn way b ks) (left way ks) k
+
+-- ---- a call that is not refused for what it is
+pub not-refused : (b : Rows) (st : State) (k : Call) → refusal b (st .now) k ≡ ACCEPTED → call b st k ≡ play b st st (turns (st .now) k)
+unfolding call
+not-refused b st k e = rw (eq-eqb (refusal b (st .now) k) ACCEPTED e, call)
 
 -- ---- a call that says what stands there already
 -- all snapshots are the one that stands
@@ -195,7 +200,7 @@ module _ (b : Rows) (st : State) (l : Left b st) (begun : st .begun ≡ true) wh
   turns-now (stamped t bytes) e =
       (ap (timed (st .now)) (e .0), (ap₂ (λ c bits. record { clock = c; atoms = bits }) (e .0) (e .1), tt))
 
-  says-again : (k : Call) → refusal b (st .now) k ≡ ACCEPTED → SaysAgain (st .now) k → call b st k ≡ unchanged st
+  pub says-again : (k : Call) → refusal b (st .now) k ≡ ACCEPTED → SaysAgain (st .now) k → call b st k ≡ unchanged st
   says-again k fine again = let a = turns-now k again in
       accepts-call b st k (record { fine = fine; room = roomy-now (turns (st .now) k) a }) ∙ ap unchanged (steps-now (turns (st .now) k) a)
 

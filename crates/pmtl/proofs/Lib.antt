@@ -23,3 +23,4 @@ pub mod Strict
 pub mod Fullest
 pub mod Lapsed
 pub mod Examples
+pub mod Quiet

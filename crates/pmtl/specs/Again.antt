@@ -1,7 +1,9 @@
 -- REFERENCE 3.10: a call that says what stands there already. Definitions only.
 use mathlib.Core.Path.{_≡_}
+use mathlib.Core.Bool.{true}
 use Rattle.numbers.specs.Refusals.{ACCEPTED}
-use Rattle.pmtl.specs.Monitor.{Snap, State}
+use Rattle.pmtl.specs.Book.{Rows}
+use Rattle.pmtl.specs.Monitor.{Snap, State, stepIn}
 use Rattle.pmtl.specs.Calls.{Call, time, state, stamped, stated, Outcome}
 
 -- its time is the clock, and its state has the atoms that stand
@@ -13,3 +15,7 @@ SaysAgain now (stamped t bytes) = (t ≡ now .clock) × (stated now bytes .atoms
 -- accepted, and the state as it was
 abbrev pub unchanged : State → Outcome
 unchanged st = record { number = ACCEPTED; state = st }
+
+-- a monitor rests: once a call was accepted, a step at the clock and with the atoms that stand changes nothing
+abbrev pub Rests : Rows → State → Type 0
+Rests b st = st .begun ≡ true → stepIn b st (st .now) ≡ st

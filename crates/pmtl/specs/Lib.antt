@@ -12,3 +12,4 @@ pub mod Past
 pub mod Kept
 pub mod Strict
 pub mod Lapsed
+pub mod Quiet

@@ -1,5 +1,5 @@
 -- Laws of a report's lines. Assumes nothing.
-use Prim.Native.Nat.{ℕ, zero, suc, _+_, _-_, _≤_, _<_}
+use Prim.Native.Nat.{ℕ, zero, suc, _+_, _*_, _-_, _≤_, _<_}
 use mathlib.Core.Path.{_≡_, refl, sym, ap, ap₂, _∙_}
 use mathlib.Core.Bool.{Bool, true, false}
 use mathlib.Core.List.{List, [], _∷_, _++_, append-nil, append-assoc}
@@ -7,10 +7,11 @@ use native.Mathlib.Omega.{arith}
 use native.Mathlib.Numerals.{add-one}
 use native.Mathlib.Decide.{ℕ-discrete}
 use lib.Dec.{lit≤}
-use lib.ListN.{length, take, drop, length-drop}
-use lib.Seq.{take-all}
+use lib.ListN.{length, take, drop, length-drop, length-append}
+use lib.Seq.{sets, take-all}
 use borrow.Author.Tests.{eq-eqb, ne-eqb}
 use Rattle.text.specs.Words.{space, lineFeed, digit0}
+use Rattle.numbers.specs.Limits.{MAX}
 use Rattle.text.specs.Decimals.{decimal}
 use Rattle.text.proofs.Digits.{one-place}
 use Rattle.pmtl.specs.declared.Answer.{Answer}
@@ -26,10 +27,10 @@ use Rattle.property_answers.specs.Verdict.{verdictIn, verdictOf}
 use Rattle.memory.proofs.Properties.{properties-length, property-is}
 use Rattle.buffer_writer.specs.Buffer.{Handed}
 use Rattle.buffer_writer.specs.Finish.{finish, Wrote}
-use Rattle.buffer_writer.proofs.Writes.{and-then}
+use Rattle.buffer_writer.proofs.Writes.{sets-append, it-fits, too-much, and-then}
 use Rattle.report.specs.Lines.{PropertyWord, wordOf, restOf, lineOf}
 use Rattle.report.specs.Report.{excessWords, propertyWord, propertyWords, restWords, callLine}
-use Rattle.report.specs.Private.{digitWord, wordAt, digitWords, digitRest, digitLine}
+use Rattle.report.specs.Private.{digitWord, wordAt, digitWords, LaidOn, digitRest, digitLine}
 
 pub ending : {h : Handed} (out : List ℕ) (at : ℕ) {x y : List ℕ} → h ≡ finish out at x → x ≡ y → h ≡ finish out at y
 ending out at p e = p ∙ ap (finish out at) e
@@ -45,23 +46,54 @@ unfolding excessWords
 excess-written e h p q = rw h (and-then p q)
 
 -- ---- the words of the properties
--- the words of the first i properties are written
-pub record Wording (m : List ℕ) (count : ℕ) (out₀ : List ℕ) (at : ℕ) (out : List ℕ) (p i : ℕ) : Type 0 where
+pub words-length : (m : List ℕ) (n : ℕ) → length (digitWords m n) ≡ 4 * n
+unfolding digitWords digitWord
+words-length m zero = refl
+words-length m (suc i) = length-append (digitWords m i) (wordAt m i) ∙ (let e = words-length m i in omega arith)
+
+-- those from `first` on, before the i-th, are laid
+pub record Laying (m : List ℕ) (at first count : ℕ) (out₀ out : List ℕ) (i : ℕ) : Type 0 where
   pub low : i ≤ count
   pub size : length out ≡ length out₀
-  pub wrote : Wrote out₀ at (digitWords m i) out p
+  pub on : LaidOn m at first i out₀ out
 
-pub word-start : (m : List ℕ) (count : ℕ) (out : List ℕ) (at : ℕ) → Wording m count out at out at 0
-unfolding digitWords
-word-start m count out at = record { low = omega arith; size = refl; wrote = record { same = λ rest. refl } }
+pub lay-start : (m : List ℕ) (at first count : ℕ) (out : List ℕ) → first ≤ count → Laying m at first count out out first
+lay-start m at first count out h = record { low = h; size = refl; on = record { laid = λ o e. e } }
 
-module _ {m : List ℕ} {count : ℕ} {out₀ : List ℕ} {at : ℕ} {out : List ℕ} {p i : ℕ} (g : Wording m count out₀ at out p i) where
-  pub word-more : {out′ : List ℕ} {p′ : ℕ} → i < count → Wrote out p (wordAt m i) out′ p′ → length out′ ≡ length out → Wording m count out₀ at out′ p′ (i + 1)
+module _ {m : List ℕ} {at first count : ℕ} {out₀ out : List ℕ} {i : ℕ} (g : Laying m at first count out₀ out i) where
+  pub lay-more : {out′ : List ℕ} → i < count → out′ ≡ sets out (at + 4 * i) (wordAt m i) → length out′ ≡ length out → Laying m at first count out₀ out′ (i + 1)
   unfolding digitWords
-  word-more h w z = record { low = omega arith; size = z ∙ g .size; wrote = rw add-one (and-then (g .wrote) w) }
+  lay-more h w z =
+      record {
+        low = omega arith;
+        size = z ∙ g .size;
+        on = record { laid = λ o e. w ∙ rw (add-one, g .on .laid o e, ← words-length m i) (sym (sets-append (digitWords m i) (wordAt m i) o at)) };
+      }
 
-  pub word-done : count ≤ i → Wrote out₀ at (digitWords m count) out p
-  word-done h = let e : count ≡ i = omega (arith, g .low) in rw e (g .wrote)
+  pub lay-done : count ≤ i → LaidOn m at first count out₀ out
+  lay-done h = let e : count ≡ i = omega (arith, g .low) in rw e (g .on)
+
+-- all, the first before the others
+pub none-laid : (m out : List ℕ) (at : ℕ) {count : ℕ} → count ≡ 0 → out ≡ sets out at (digitWords m count)
+unfolding digitWords
+none-laid m out at e = rw e
+
+pub all-laid : (m out : List ℕ) (at : ℕ) {out₁ out₂ : List ℕ} {count : ℕ} → out₁ ≡ sets out at (wordAt m 0) → LaidOn m at 1 count out₁ out₂ → out₂ ≡ sets out at (digitWords m count)
+unfolding digitWords
+all-laid m out at p q = q .laid out p
+
+module _ (m out : List ℕ) (at : ℕ) {count : ℕ} (e : count ≡ propertyCount m) where
+  pub words-few : Kept m → count ≤ 32
+  words-few kept = let a = kept .sound .book .assumes-few in let g = kept .sound .book .guarantees-few in omega arith
+
+  bytes : length (digitWords m (propertyCount m)) ≡ 4 * count
+  bytes = rw (← e) (words-length m count)
+
+  pub words-wrote : {out′ : List ℕ} → out′ ≡ sets out at (digitWords m count) → Wrote out at (digitWords m (propertyCount m)) out′ (at + 4 * count)
+  words-wrote {out′} p = it-fits out at (digitWords m (propertyCount m)) out′ (at + 4 * count) (rw e at p) (omega (arith, bytes))
+
+  pub words-not : length out < MAX → length out < at + 4 * count → Wrote out at (digitWords m (propertyCount m)) out MAX
+  words-not h k = too-much out at (digitWords m (propertyCount m)) h (omega (arith, bytes))
 
 -- ---- a call's line
 pub rest-whole : (m : List ℕ) (i : ℕ) → take (length m - i) (drop i m) ≡ drop i m

@@ -1,15 +1,20 @@
 -- Laws of a call that is read and made. Assumes nothing.
-use Prim.Native.Nat.{ℕ}
+use Prim.Native.Nat.{ℕ, _≤_, _<_}
 use mathlib.Core.Path.{_≡_}
+use mathlib.Core.Bool.{Bool, true, false}
+use mathlib.Core.Logic.{⊎-elim}
 use mathlib.Core.List.{List}
+use native.Mathlib.Omega.{arith}
+use lib.Dec.{eqb}
 use lib.ListN.{take}
 use borrow.Author.Tests.{ne-eqb}
+use Rattle.lists.proofs.Tests.{lt-or-ge}
 use Rattle.numbers.specs.Refusals.{BAD-WORD}
 use Rattle.text.specs.Words.{nextWord, supplyFrom}
 use Rattle.text.specs.declared.words.Read.the-variants.{Word, Refused}
 use Rattle.text.proofs.Supplies.{word, refused as ended}
 use Rattle.pmtl.specs.Calls.{Call}
-use Rattle.pmtl.specs.Calls.Call.{time, state, stamped}
+use Rattle.pmtl.specs.Calls.Call.{time}
 use Rattle.book.specs.Reading.{Read, refused, next as andNext}
 use Rattle.calls.specs.Called.{Called}
 use Rattle.text_reader.specs.declared.Part as reader
@@ -17,8 +22,8 @@ use Rattle.text_reader.specs.Reads.{StateTook, StateRead}
 use Rattle.report.specs.declared.text_calls.Turn.{Turn}
 use Rattle.report.specs.declared.text_calls.Turn.the-variants.{Made, Stopped}
 use Rattle.report.specs.Lines.{timeFrom, stateFrom, stampedFrom, callFrom}
-use Rattle.report.specs.Private.{turnNumber, CallMade, Turned}
-use Rattle.report.proofs.Alike.{Bytewise, as-words}
+use Rattle.report.specs.Private.{turnNumber, CallMade, Turned, withState, timedFrom}
+use Rattle.report.proofs.Alike.{Bytewise, as-words, state-bytewise, stamped-bytewise}
 
 pub turn-stopped : {t : Turn} {n : ℕ} → t ≡ Stopped n → n ≡ turnNumber t
 unfolding turnNumber
@@ -28,14 +33,16 @@ pub turn-made : {t : Turn} {r next : ℕ} → t ≡ Made r next → 0 ≡ turnNu
 unfolding turnNumber
 turn-made e = rw e
 
+-- ---- the bytes of a state, whichever call has them
+pub with-bytewise : (s : Bool) (t : ℕ) → Bytewise (withState s t)
+unfolding withState
+with-bytewise true t = stamped-bytewise t
+with-bytewise false t = state-bytewise
+
 -- ---- time calls
 module _ (input : List ℕ) (at : ℕ) where
-  pub no-time : {r n : ℕ} → nextWord input at ≡ Refused r → n ≡ r → timeFrom (supplyFrom input at .ending) (supplyFrom input at .words) ≡ refused n
-  unfolding timeFrom
-  no-time e f = rw (ended input at e, f)
-
-  pub timed : {t next : ℕ} {m m′ : List ℕ} {r : ℕ} → nextWord input at ≡ Word t next → Called (time t) m m′ r → CallMade input (supplyFrom input at .ending) (timeFrom (supplyFrom input at .ending) (supplyFrom input at .words)) m m′ r next
-  unfolding timeFrom
+  pub timed : {t next : ℕ} {m m′ : List ℕ} {r : ℕ} → nextWord input at ≡ Word t next → Called (time t) m m′ r → CallMade input (supplyFrom input at .ending) (timedFrom false (supplyFrom input at .ending) (supplyFrom input at .words)) m m′ r next
+  unfolding timedFrom timeFrom
   timed {t} e c =
       record {
         what = time t;
@@ -72,13 +79,14 @@ module _ (input : List ℕ) (at : ℕ) where
     unfolding Turned
     turned m m′ t f k = rw (← f, ← ending-kept) k
 
-  -- ---- stamped calls
-  pub no-stamp : {r n : ℕ} → nextWord input at ≡ Refused r → n ≡ r → stampedFrom (supplyFrom input at .ending) (supplyFrom input at .words) ≡ refused n
-  unfolding stampedFrom
-  no-stamp e f = rw (ended input at e, f)
+  -- ---- calls that have a time, stamped or not
+  pub no-time : (s : Bool) {r n : ℕ} → nextWord input at ≡ Refused r → n ≡ r → timedFrom s (supplyFrom input at .ending) (supplyFrom input at .words) ≡ refused n
+  unfolding timedFrom timeFrom stampedFrom
+  no-time true e f = rw (ended input at e, f)
+  no-time false e f = rw (ended input at e, f)
 
-  pub stamped-on : {t from : ℕ} → nextWord input at ≡ Word t from → (m m′ : List ℕ) (turn : Turn) → Turned input (supplyFrom input from .ending) (stateFrom (stamped t) (supplyFrom input from .ending) (supplyFrom input from .words)) m m′ turn → Turned input (supplyFrom input at .ending) (stampedFrom (supplyFrom input at .ending) (supplyFrom input at .words)) m m′ turn
-  unfolding stampedFrom
+  pub stamped-on : {t from : ℕ} → nextWord input at ≡ Word t from → (m m′ : List ℕ) (turn : Turn) → Turned input (supplyFrom input from .ending) (stateFrom (withState true t) (supplyFrom input from .ending) (supplyFrom input from .words)) m m′ turn → Turned input (supplyFrom input at .ending) (timedFrom true (supplyFrom input at .ending) (supplyFrom input at .words)) m m′ turn
+  unfolding timedFrom stampedFrom withState
   stamped-on e m m′ turn k = turned e m m′ turn (rw (word input at e .gave)) k
 
   -- ---- calls
@@ -87,27 +95,24 @@ module _ (input : List ℕ) (at : ℕ) where
   no-kind e f = rw (ended input at e, f)
 
   module _ {kind from : ℕ} (e : nextWord input at ≡ Word kind from) where
-    is-time : kind ≡ 0 → timeFrom (supplyFrom input from .ending) (supplyFrom input from .words) ≡ callFrom (supplyFrom input at .ending) (supplyFrom input at .words)
-    unfolding callFrom
-    is-time h = rw (word input at e .gave, h)
-
-    is-state : kind ≡ 1 → stateFrom state (supplyFrom input from .ending) (supplyFrom input from .words) ≡ callFrom (supplyFrom input at .ending) (supplyFrom input at .words)
-    unfolding callFrom
+    is-state : kind ≡ 1 → stateFrom (withState false 0) (supplyFrom input from .ending) (supplyFrom input from .words) ≡ callFrom (supplyFrom input at .ending) (supplyFrom input at .words)
+    unfolding callFrom withState
     is-state h = rw (word input at e .gave, h)
 
-    is-stamped : kind ≡ 2 → stampedFrom (supplyFrom input from .ending) (supplyFrom input from .words) ≡ callFrom (supplyFrom input at .ending) (supplyFrom input at .words)
+    is-timed : (kind ≡ 1 → ⊥) → kind ≤ 2 → timedFrom (eqb kind 2) (supplyFrom input from .ending) (supplyFrom input from .words) ≡ callFrom (supplyFrom input at .ending) (supplyFrom input at .words)
+    unfolding callFrom timedFrom
+    is-timed h l =
+        ⊎-elim
+        (λ z. let k : kind ≡ 0 = omega arith in rw (word input at e .gave, k))
+        (λ z. let k : kind ≡ 2 = omega arith in rw (word input at e .gave, k))
+        (lt-or-ge kind 1)
+
+    pub other-kind : 2 < kind → callFrom (supplyFrom input at .ending) (supplyFrom input at .words) ≡ refused BAD-WORD
     unfolding callFrom
-    is-stamped h = rw (word input at e .gave, h)
+    other-kind h = rw (word input at e .gave, ne-eqb kind 0 (λ x. omega arith), ne-eqb kind 1 (λ x. omega arith), ne-eqb kind 2 (λ x. omega arith))
 
-    pub other-kind : (kind ≡ 0 → ⊥) → (kind ≡ 1 → ⊥) → (kind ≡ 2 → ⊥) → callFrom (supplyFrom input at .ending) (supplyFrom input at .words) ≡ refused BAD-WORD
-    unfolding callFrom
-    other-kind h k l = rw (word input at e .gave, ne-eqb kind 0 h, ne-eqb kind 1 k, ne-eqb kind 2 l)
-
-    pub turned-time : (m m′ : List ℕ) (t : Turn) → kind ≡ 0 → Turned input (supplyFrom input from .ending) (timeFrom (supplyFrom input from .ending) (supplyFrom input from .words)) m m′ t → Turned input (supplyFrom input at .ending) (callFrom (supplyFrom input at .ending) (supplyFrom input at .words)) m m′ t
-    turned-time m m′ t h k = turned e m m′ t (is-time h) k
-
-    pub turned-state : (m m′ : List ℕ) (t : Turn) → kind ≡ 1 → Turned input (supplyFrom input from .ending) (stateFrom state (supplyFrom input from .ending) (supplyFrom input from .words)) m m′ t → Turned input (supplyFrom input at .ending) (callFrom (supplyFrom input at .ending) (supplyFrom input at .words)) m m′ t
+    pub turned-state : (m m′ : List ℕ) (t : Turn) → kind ≡ 1 → Turned input (supplyFrom input from .ending) (stateFrom (withState false 0) (supplyFrom input from .ending) (supplyFrom input from .words)) m m′ t → Turned input (supplyFrom input at .ending) (callFrom (supplyFrom input at .ending) (supplyFrom input at .words)) m m′ t
     turned-state m m′ t h k = turned e m m′ t (is-state h) k
 
-    pub turned-stamped : (m m′ : List ℕ) (t : Turn) → kind ≡ 2 → Turned input (supplyFrom input from .ending) (stampedFrom (supplyFrom input from .ending) (supplyFrom input from .words)) m m′ t → Turned input (supplyFrom input at .ending) (callFrom (supplyFrom input at .ending) (supplyFrom input at .words)) m m′ t
-    turned-stamped m m′ t h k = turned e m m′ t (is-stamped h) k
+    pub turned-timed : (m m′ : List ℕ) (t : Turn) → (kind ≡ 1 → ⊥) → kind ≤ 2 → Turned input (supplyFrom input from .ending) (timedFrom (eqb kind 2) (supplyFrom input from .ending) (supplyFrom input from .words)) m m′ t → Turned input (supplyFrom input at .ending) (callFrom (supplyFrom input at .ending) (supplyFrom input at .words)) m m′ t
+    turned-timed m m′ t h l k = turned e m m′ t (is-timed h l) k

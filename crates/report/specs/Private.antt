@@ -1,17 +1,20 @@
 -- Steps of a report: a call that is read and made, and its line from digits. No public contract cites these. Definitions only.
 use Prim.Native.Nat.{ℕ, zero, suc, _+_}
 use mathlib.Core.Path.{_≡_}
-use mathlib.Core.Bool.{cond}
+use mathlib.Core.Bool.{Bool, true, false, cond}
 use mathlib.Core.List.{List, [], _∷_, _++_}
 use lib.Dec.{eqb}
+use lib.Seq.{sets}
 use Rattle.text.specs.Words.{space, digit0, supplyFrom}
 use Rattle.text.specs.Decimals.{decimal}
 use Rattle.pmtl.specs.Calls.{Call}
+use Rattle.pmtl.specs.Calls.Call.{state, stamped}
 use Rattle.book.specs.Reading.{Read, got, refused}
 use Rattle.memory.specs.Layout.{FAILED, FIRST, LAST, LONGEST, SETTLED-CALL}
 use Rattle.memory.specs.Memory.{propertyRow, valueAt, earlyAt, settledAt, fullestWord, takenWord, entryWord}
 use Rattle.memory.specs.Tables.{propertyCount}
 use Rattle.calls.specs.Called.{Called}
+use Rattle.report.specs.Lines.{timeFrom, stampedFrom}
 use Rattle.report.specs.Report.{ended}
 use Rattle.report.specs.declared.text_calls.Turn.{Turn}
 use Rattle.report.specs.declared.text_calls.Turn.the-variants.{Made, Stopped}
@@ -20,6 +23,16 @@ use Rattle.report.specs.declared.text_calls.Turn.the-variants.{Made, Sto
 unfoldable pub turnNumber : Turn → ℕ
 turnNumber (Made r next) = 0
 turnNumber (Stopped n) = n
+
+-- a call that has a state, stamped with a time or not
+unfoldable pub withState : Bool → ℕ → List ℕ → Call
+withState true t = stamped t
+withState false t = state
+
+-- what a call that has a time is read from, stamped or not
+unfoldable pub timedFrom : Bool → ℕ → List ℕ → Read Call
+timedFrom true = stampedFrom
+timedFrom false = timeFrom
 
 -- a call was read, from words that leave off with `ending`, and made on the memory m, which it left as m′ with the number r
 pub record CallMade (input : List ℕ) (ending : ℕ) (asked : Read Call) (m m′ : List ℕ) (r next : ℕ) : Type 0 where
@@ -45,6 +58,10 @@ wordAt m i = digitWord (valueAt m (propertyRow m i)) (earlyAt m i) (settledAt m 
 unfoldable pub digitWords : List ℕ → ℕ → List ℕ
 digitWords m zero = []
 digitWords m (suc i) = digitWords m i ++ wordAt m i
+
+-- where those of the first properties stand in out, out′ is what has the words up to `count` in their place
+pub record LaidOn (m : List ℕ) (at first count : ℕ) (out out′ : List ℕ) : Type 0 where
+  pub laid : (o : List ℕ) → out ≡ sets o at (digitWords m first) → out′ ≡ sets o at (digitWords m count)
 
 -- those of all properties, and the count
 unfoldable pub digitRest : List ℕ → List ℕ

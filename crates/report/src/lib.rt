@@ -1,6 +1,6 @@
 // Text in, report out.
 mod lines;
-mod summaries;
+mod sums;
 mod text_calls;
 
 ghost use mathlib.Core.Path.{_≡_};

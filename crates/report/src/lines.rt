@@ -1,19 +1,20 @@
 // The lines of a report.
 ghost use mathlib.Core.Path.{_≡_};
 ghost use mathlib.Core.List.{_∷_, _++_};
-ghost use Prim.Native.Nat.{_+_, _≤_, _<_};
+ghost use Prim.Native.Nat.{_+_, _*_, _≤_, _<_};
 ghost use lib.ListN.{length, drop};
+ghost use lib.Seq.{sets};
 ghost use Rattle.text.specs.Words.{space, digit0, supplyFrom};
 ghost use Rattle.text.specs.Decimals.{decimal};
 ghost use Rattle.buffer_writer.specs.Buffer.{handed};
 ghost use Rattle.buffer_writer.specs.Finish.{finish, Wrote};
 ghost use Rattle.report.specs.Lines.{Ending, endingOf, endLines};
 ghost use Rattle.report.specs.Report.{excessWords, bookLine, stopLine, written};
-ghost use Rattle.report.specs.Private.{wordAt, digitWords, digitRest, digitLine};
+ghost use Rattle.report.specs.Private.{wordAt, digitWords, LaidOn, digitRest, digitLine};
 ghost use Rattle.memory.specs.Memory.{ledgerOf};
 ghost use Rattle.memory.specs.Tables.{propertyCount};
 ghost use Rattle.memory.specs.Kept.{Kept};
-use crate::summaries::put_summaries;
+use crate::sums::put_summaries;
 use book::strict::Excess;
 use memory::SIZE;
 use numbers::ACCEPTED;
@@ -23,6 +24,9 @@ use text::Read;
 
 // The byte of the digit 0.
 const ZERO: u8 = b'0';
+
+// A property's word, with the space before it.
+const WORD_BYTES: usize = 4;
 
 // A word and a number.
 pub fn put_numbered(out: &mut [u8], at: usize, word: &[u8], number: u64) -> usize
@@ -99,32 +103,58 @@ fn glyph(digit: u64) -> u8
     ZERO + digit as u8
 }
 
-// A property's word, of the three digits that the tables hold.
-fn put_word(out: &mut [u8], at: usize, monitor: &[u64; SIZE], i: usize) -> usize
+// A property's word, of the three digits that the tables hold, where there is room for it.
+fn lay_word(out: &mut [u8], at: usize, monitor: &[u64; SIZE], i: usize)
     requires { ⌜ Kept (now monitor) ⌝ }
-    requires { ⌜ i < propertyCount (now monitor) ⌝ }
-    ensures { λ r. ⌜ Wrote (now (out .entry)) at (wordAt (now (monitor .entry)) i) (now (out .exit)) r ⌝ }
+    requires { ⌜ (i < propertyCount (now monitor)) × (at + 4 ≤ length (now out)) ⌝ }
+    ensures { λ _. ⌜ now (out .exit) ≡ sets (now (out .entry)) at (wordAt (now (monitor .entry)) i) ⌝ }
 {
     let value = glyph(memory::value_at(monitor, memory::property_row(monitor, i)));
     let early = glyph(memory::early_at(monitor, i));
     let settled = glyph(memory::settled_at(monitor, i));
     let word = [b' ', value, early, settled];
-    buffer_writer::put_bytes(out, at, &word)
+    buffer_writer::copy_to(out, at, &word);
 }
 
-// The words of the properties.
+// The words of the properties from `first` on, after those before them, where there is room.
+fn lay_from(out: &mut [u8], at: usize, monitor: &[u64; SIZE], first: usize, count: usize)
+    requires { ⌜ Kept (now monitor) ⌝ }
+    requires { ⌜ (first ≤ count) × (count ≡ propertyCount (now monitor)) × (at + 4 * count ≤ length (now out)) ⌝ }
+    ensures { λ _. ⌜ LaidOn (now (monitor .entry)) at first count (now (out .entry)) (now (out .exit)) ⌝ }
+{
+    let mut i = first;
+    while i < count {
+        lay_word(out, at + WORD_BYTES * i, monitor, i);
+        i += 1;
+    }
+}
+
+// The words of all properties. The compiler takes many turns of the loop at once, which takes a start: so the first word is laid
+// before it, and a book of one property needs none.
+fn lay_words(out: &mut [u8], at: usize, monitor: &[u64; SIZE], count: usize)
+    requires { ⌜ Kept (now monitor) ⌝ }
+    requires { ⌜ (count ≡ propertyCount (now monitor)) × (at + 4 * count ≤ length (now out)) ⌝ }
+    ensures { λ _. ⌜ now (out .exit) ≡ sets (now (out .entry)) at (digitWords (now (monitor .entry)) count) ⌝ }
+{
+    if count == 0 {
+        return;
+    }
+    lay_word(out, at, monitor, 0);
+    lay_from(out, at, monitor, 1, count);
+}
+
+// The words of the properties, by one test of room.
 fn put_words(out: &mut [u8], at: usize, monitor: &[u64; SIZE]) -> usize
     requires { ⌜ Kept (now monitor) ⌝ }
     ensures { λ r. ⌜ Wrote (now (out .entry)) at (digitWords (now (monitor .entry)) (propertyCount (now (monitor .entry)))) (now (out .exit)) r ⌝ }
 {
     let count = memory::property_count(monitor);
-    let mut p = at;
-    let mut i = 0;
-    while i < count {
-        p = put_word(out, p, monitor, i);
-        i += 1;
+    let size = WORD_BYTES * count;
+    if buffer_writer::has_room(out, at, size) {
+        lay_words(out, at, monitor, count);
+        return at + size;
     }
-    p
+    buffer_writer::FULL
 }
 
 // What an accepted call's line has after its refusal: the words of the properties, and the count.

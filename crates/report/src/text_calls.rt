@@ -6,17 +6,15 @@ ghost use Rattle.text.specs.Words.{supplyFrom};
 ghost use Rattle.pmtl.specs.Calls.{Call};
 ghost use Rattle.memory.specs.Kept.{Kept};
 ghost use Rattle.calls.specs.Called.{Called};
-ghost use Rattle.report.specs.Lines.{timeFrom, stateFrom, stampedFrom, callFrom};
-ghost use Rattle.report.specs.Private.{turnNumber, Turned};
+ghost use Rattle.report.specs.Lines.{stateFrom, callFrom};
+ghost use Rattle.report.specs.Private.{turnNumber, Turned, withState, timedFrom};
 use memory::SIZE;
 use numbers::BAD_WORD;
 use numbers::MOST_ATOMS;
 use text::Read;
 use text_reader::Part;
 
-// The kinds of a call.
-const TIME: u64 = 0;
-
+// The kinds of a call but a time alone, which is 0.
 const STATE: u64 = 1;
 
 const STAMPED: u64 = 2;
@@ -37,18 +35,6 @@ pub fn turn_number(t: Turn) -> u64
     }
 }
 
-fn time_call(input: &[u8], at: usize, monitor: &mut [u64; SIZE]) -> Turn
-    requires { ⌜ Kept (now monitor) ⌝ }
-    ensures { λ t. ⌜ Turned (now (input .entry)) (supplyFrom (now (input .entry)) at .ending) (timeFrom (supplyFrom (now (input .entry)) at .ending) (supplyFrom (now (input .entry)) at .words)) (now (monitor .entry)) (now (monitor .exit)) t ⌝ }
-{
-    let r = text::next_word(input, at);
-    let Read::Word(time, next) = r else {
-        return Turn::Stopped(text_reader::number_of(r));
-    };
-    let made = calls::update_time(monitor, time);
-    Turn::Made(made.number, next)
-}
-
 // A state call of the first `width` bytes.
 fn state_made(monitor: &mut [u64; SIZE], bytes: &[u8], width: usize) -> u64
     requires { ⌜ Kept (now monitor) × (width ≤ length (now bytes)) ⌝ }
@@ -56,22 +42,6 @@ fn state_made(monitor: &mut [u64; SIZE], bytes: &[u8], width: usize) -> u64
 {
     let made = calls::update_state(monitor, &bytes[..width]);
     made.number
-}
-
-fn state_call(
-    input: &[u8],
-    at: usize,
-    bytes: &mut [u8; MOST_ATOMS],
-    monitor: &mut [u64; SIZE],
-) -> Turn
-    requires { ⌜ Kept (now monitor) ⌝ }
-    ensures { λ t. ⌜ Turned (now (input .entry)) (supplyFrom (now (input .entry)) at .ending) (stateFrom Call.state (supplyFrom (now (input .entry)) at .ending) (supplyFrom (now (input .entry)) at .words)) (now (monitor .entry)) (now (monitor .exit)) t ⌝ }
-{
-    let p = text_reader::state(input, at, bytes);
-    let Part::Words(width, next) = p else {
-        return Turn::Stopped(text_reader::part_number(p));
-    };
-    Turn::Made(state_made(monitor, bytes, width), next)
 }
 
 // A stamped call of the first `width` bytes.
@@ -83,38 +53,57 @@ fn stamped_made(monitor: &mut [u64; SIZE], time: u64, bytes: &[u8], width: usize
     made.number
 }
 
-// The rest of a stamped call, after its time.
-fn stamped_at(
+// The call of the first `width` bytes, stamped or not.
+fn made_of(monitor: &mut [u64; SIZE], stamped: bool, time: u64, bytes: &[u8], width: usize) -> u64
+    requires { ⌜ Kept (now monitor) × (width ≤ length (now bytes)) ⌝ }
+    ensures { λ r. ⌜ Called (withState stamped time (take width (now (bytes .entry)))) (now (monitor .entry)) (now (monitor .exit)) r ⌝ }
+{
+    if stamped {
+        return stamped_made(monitor, time, bytes, width);
+    }
+    state_made(monitor, bytes, width)
+}
+
+// The rest of a call that has a state. Stamped or not, its state is read here alone, as every time is in `timed_call`: what is
+// called from one place the compiler makes part of its caller.
+fn state_call(
     input: &[u8],
     at: usize,
+    stamped: bool,
     time: u64,
     bytes: &mut [u8; MOST_ATOMS],
     monitor: &mut [u64; SIZE],
 ) -> Turn
     requires { ⌜ Kept (now monitor) ⌝ }
-    ensures { λ t. ⌜ Turned (now (input .entry)) (supplyFrom (now (input .entry)) at .ending) (stateFrom (Call.stamped time) (supplyFrom (now (input .entry)) at .ending) (supplyFrom (now (input .entry)) at .words)) (now (monitor .entry)) (now (monitor .exit)) t ⌝ }
+    ensures { λ t. ⌜ Turned (now (input .entry)) (supplyFrom (now (input .entry)) at .ending) (stateFrom (withState stamped time) (supplyFrom (now (input .entry)) at .ending) (supplyFrom (now (input .entry)) at .words)) (now (monitor .entry)) (now (monitor .exit)) t ⌝ }
 {
     let p = text_reader::state(input, at, bytes);
     let Part::Words(width, next) = p else {
         return Turn::Stopped(text_reader::part_number(p));
     };
-    Turn::Made(stamped_made(monitor, time, bytes, width), next)
+    Turn::Made(made_of(monitor, stamped, time, bytes, width), next)
 }
 
-fn stamped_call(
+// The rest of a call that has a time, and a state after it if it is stamped.
+fn timed_call(
     input: &[u8],
     at: usize,
+    stamped: bool,
     bytes: &mut [u8; MOST_ATOMS],
     monitor: &mut [u64; SIZE],
 ) -> Turn
     requires { ⌜ Kept (now monitor) ⌝ }
-    ensures { λ t. ⌜ Turned (now (input .entry)) (supplyFrom (now (input .entry)) at .ending) (stampedFrom (supplyFrom (now (input .entry)) at .ending) (supplyFrom (now (input .entry)) at .words)) (now (monitor .entry)) (now (monitor .exit)) t ⌝ }
+    ensures { λ t. ⌜ Turned (now (input .entry)) (supplyFrom (now (input .entry)) at .ending) (timedFrom stamped (supplyFrom (now (input .entry)) at .ending) (supplyFrom (now (input .entry)) at .words)) (now (monitor .entry)) (now (monitor .exit)) t ⌝ }
 {
-    let r = text::next_word(input, at);
+    let r = text::next_number(input, at);
     let Read::Word(time, next) = r else {
         return Turn::Stopped(text_reader::number_of(r));
     };
-    stamped_at(input, next, time, bytes, monitor)
+    if stamped {
+        return state_call(input, next, true, time, bytes, monitor);
+    }
+    let made = calls::update_time(monitor, time);
+    Turn::Made(made.number, next)
 }
 
 // The next call. `bytes` is room for a state, whatever stands there.
@@ -131,14 +120,11 @@ pub fn call(
     let Read::Word(kind, next) = r else {
         return Turn::Stopped(text_reader::number_of(r));
     };
-    if kind == TIME {
-        return time_call(input, next, monitor);
-    }
     if kind == STATE {
-        return state_call(input, next, bytes, monitor);
+        return state_call(input, next, false, 0, bytes, monitor);
     }
-    if kind == STAMPED {
-        return stamped_call(input, next, bytes, monitor);
+    if STAMPED < kind {
+        return Turn::Stopped(BAD_WORD);
     }
-    Turn::Stopped(BAD_WORD)
+    timed_call(input, next, kind == STAMPED, bytes, monitor)
 }

@@ -21,7 +21,7 @@ use Rattle.pmtl.proofs.Table.{mapRow-local, answer-in}
 use Rattle.pmtl.specs.Monitor.{State, fullest, value}
 use Rattle.pmtl.specs.Early.{early}
 use Rattle.pmtl.specs.Settled.{settled}
-use Rattle.memory.specs.Layout.{VALUES, TOLD, EARLY, SETTLED, MOVES, FULLEST, LEDGER, PROPERTIES}
+use Rattle.memory.specs.Layout.{VALUES, TOLD, EARLY, SETTLED, MOVES, FULLEST, UNTIL, PROPERTIES}
 use Rattle.memory.specs.Memory.{rowCount, clockOf, temporals, slotWords, propertyRow, valueAt, toldAt, earlyAt, settledAt, movesAt, fullestWord, rowOf, rowsOf, stateOf, isOne}
 use Rattle.memory.specs.Tables.{standing, valueOf, earlyOf, settledOf, propertyCount, Valued, Told, Answered, Moving, Counts, Unused, Tables}
 use Rattle.memory.specs.Kept.{Sound}
@@ -118,8 +118,8 @@ module _ {m m′ : List ℕ} (sound : Sound m) (alike : Alike m m′) where
         moves = rw same-rows (λ r p q. moved r p q ∙ u .moves r p q);
       }
 
-  -- so are all tables, where the memories differ in their ledger alone
-  pub tables-same : ((i : ℕ) → i < LEDGER → getD m′ i 0 ≡ getD m i 0) → Tables m → Tables m′
+  -- so are all tables, where the memories differ in what stands behind them alone
+  pub tables-same : ((i : ℕ) → i < UNTIL → getD m′ i 0 ≡ getD m i 0) → Tables m → Tables m′
   tables-same same t = record {
     valued = valued-same (λ r h. same (VALUES + r) (omega arith)) (t .valued);
     told = told-same (λ j h. same (TOLD + j) (omega arith)) (t .told);

@@ -5,14 +5,15 @@ use mathlib.Core.List.{List}
 use lib.ListN.{getD, set}
 use lib.Dec.{eqb}
 use Rattle.lists.specs.Lists.{filledFrom}
-use Rattle.numset.specs.Runs.{runs}
+use Rattle.numset.specs.Runs.{Runs, runs}
 use Rattle.pmtl.specs.declared.Answer.{Answer}
 use Rattle.pmtl.specs.declared.Answer.the-variants.{Open}
 use Rattle.pmtl.specs.Answer.{bitOf, digitOf}
-use Rattle.memory.specs.Layout.{VALUES, TOLD, EARLY, SETTLED, MOVES, FULLEST}
-use Rattle.memory.specs.Memory.{rowCount, begunWord, clockOf, temporals, slotWords, propertyRow, toldAt, isOne, rowsOf, stateOf}
+use Rattle.memory.specs.Layout.{VALUES, TOLD, EARLY, SETTLED, MOVES, FULLEST, UNTIL}
+use Rattle.memory.specs.Memory.{rowCount, begunWord, clockOf, temporals, rangeAt, ownerAt, slotWords, propertyRow, toldAt, isOne, rowsOf, stateOf}
 use Rattle.pmtl.specs.Monitor.{fullest}
 use Rattle.pmtl.specs.Book.{moves}
+use Rattle.pmtl.specs.Quiet.{untilSet, quietUntil}
 use Rattle.memory.specs.Tables.{standing, valueOf, propertyCount}
 use Rattle.row_answers.specs.Told.{earlyTold, settledTold}
 
@@ -43,6 +44,18 @@ countPut m = set m FULLEST (fullest (stateOf m))
 unfoldable pub toldAgain : List ℕ → ℕ → Bool
 toldAgain m zero = true
 toldAgain m (suc j) = toldAgain m j && eqb (toldAt m j) (standingAt m j)
+
+-- up to when a set stays as it is, by the words of its row's range
+abbrev pub untilOf : ℕ → ℕ → ℕ → Runs → ℕ
+untilOf c lower upper s = untilSet c (record { lower = lower; upper = upper }) s
+
+-- of the set of slot j
+abbrev pub untilAt : List ℕ → ℕ → ℕ
+untilAt m j = untilSet (clockOf m) (rangeAt m (ownerAt m j)) (runs (slotWords m j))
+
+-- up to when a time call moves the clock alone
+abbrev pub untilPut : List ℕ → List ℕ
+untilPut m = set m UNTIL (quietUntil (rowsOf m) (stateOf m))
 
 -- the digit of each property's early answer, of its settled answer
 abbrev pub earlyDigit : List ℕ → ℕ → ℕ

@@ -2,20 +2,21 @@
 ghost use mathlib.Core.Path.{_≡_};
 ghost use mathlib.Core.Bool.{true, cond, _&&_};
 ghost use mathlib.Core.List.{map};
-ghost use Prim.Native.Nat.{_+_, _≤_, _<_, max};
+ghost use Prim.Native.Nat.{_+_, _≤_, _<_, min, max};
 ghost use lib.Dec.{eqb};
 ghost use Rattle.numset.specs.Runs.{Good, runs, held};
 ghost use Rattle.pmtl.specs.Sets.{gone};
-ghost use Rattle.numbers.specs.Limits.{MOST-ROWS};
+ghost use Rattle.numbers.specs.Limits.{MAX as Limits·MAX, LAST-TIME, MOST-ROWS};
 ghost use Rattle.pmtl.specs.Book.{mapRow, moveRule};
+ghost use Rattle.pmtl.specs.Quiet.{quietUntil};
 ghost use Rattle.memory.specs.Layout.{MOVES, SIZE};
-ghost use Rattle.memory.specs.Memory.{rowCount, begunWord, temporals, operandsFrom, rowOf, isOne};
+ghost use Rattle.memory.specs.Memory.{rowCount, begunWord, temporals, operandsFrom, rowOf, rowsOf, stateOf, isOne};
 ghost use Rattle.memory.specs.Tables.{standing, Unused, Tables};
-ghost use Rattle.memory.specs.Kept.{BookKept, Span, Sound};
+ghost use Rattle.memory.specs.Kept.{BookKept, Span, Sound, Awaited};
 ghost use Rattle.memory.specs.Alike.{Alike, SameLedger};
 ghost use Rattle.row_answers.specs.Told.{settledTold};
 ghost use Rattle.row_answers.specs.Private.{joined};
-ghost use Rattle.tables.specs.Puts.{bitIn, movesPut, valuesPut, toldPut, countPut, earlyPut, settledPut, toldAgain};
+ghost use Rattle.tables.specs.Puts.{bitIn, movesPut, valuesPut, toldPut, countPut, earlyPut, settledPut, toldAgain, untilOf, untilAt, untilPut};
 use book::HISTORICALLY;
 use memory::COVERS;
 use memory::EARLY;
@@ -26,7 +27,9 @@ use memory::NEITHER;
 use memory::SETTLED;
 use memory::SIZE;
 use memory::TOLD;
+use memory::UNTIL;
 use memory::VALUES;
+use numbers::MAX;
 use pmtl::Answer;
 
 // And, which stops at a false, or Or, which stops at a true, of what a table has of `left` operands from `place` on.
@@ -201,13 +204,83 @@ pub fn ask(monitor: &mut [u64; SIZE])
     ask_settled(monitor);
 }
 
-// All tables of a memory whose unused words are 0.
+// Up to when a set stays as it is, and the clock meets the same of it, by the range that its row adds and its newest run.
+fn until_of(set: &[u64], clock: u64, lower: u64, upper: u64) -> u64
+    requires { ⌜ Good (now set) × (clock ≤ LAST-TIME) × (lower ≤ LAST-TIME) ⌝ }
+    requires { ⌜ ((upper ≡ Limits·MAX → ⊥) → upper ≤ LAST-TIME) ⌝ }
+    ensures { λ r. ⌜ r ≡ untilOf clock lower upper (runs (now (set .entry))) ⌝ }
+{
+    let count = set[0] as usize;
+    if count == 0 {
+        return MAX;
+    }
+    if upper == MAX {
+        if set[2 * count - 1] < clock + lower {
+            return numset::rests_until(set, clock);
+        }
+        return clock;
+    }
+    if set[2 * count] < clock + upper {
+        return numset::rests_until(set, clock);
+    }
+    clock
+}
+
+// The same of the set of a slot.
+fn until_at(monitor: &[u64; SIZE], slot: usize) -> u64
+    requires { ⌜ Sound (now monitor) × (slot < temporals (now monitor)) ⌝ }
+    ensures { λ r. ⌜ r ≡ untilAt (now (monitor .entry)) slot ⌝ }
+{
+    let row = memory::owner_at(monitor, slot);
+    let clock = memory::clock(monitor);
+    let lower = memory::lower_at(monitor, row);
+    let upper = memory::upper_at(monitor, row);
+    until_of(memory::set_at(monitor, slot), clock, lower, upper)
+}
+
+fn sooner(a: u64, b: u64) -> u64
+    ensures { λ r. ⌜ r ≡ min a b ⌝ }
+{
+    if a < b { a } else { b }
+}
+
+// Up to when a time call moves the clock alone: what changes first decides. No set changes before the clock, so the first that may
+// change after it ends the look.
+fn least_until(monitor: &[u64; SIZE]) -> u64
+    requires { ⌜ Sound (now monitor) ⌝ }
+    ensures { λ r. ⌜ r ≡ quietUntil (rowsOf (now (monitor .entry))) (stateOf (now (monitor .entry))) ⌝ }
+{
+    let clock = memory::clock(monitor);
+    let count = memory::temporal_count(monitor);
+    let mut least = MAX;
+    let mut slot = 0;
+    while slot < count {
+        least = sooner(least, until_at(monitor, slot));
+        if least <= clock {
+            return clock;
+        }
+        slot += 1;
+    }
+    least
+}
+
+// Notes it.
+pub fn fill_until(monitor: &mut [u64; SIZE])
+    requires { ⌜ Sound (now monitor) ⌝ }
+    ensures { λ _. ⌜ now (monitor .exit) ≡ untilPut (now (monitor .entry)) ⌝ }
+{
+    let until = least_until(monitor);
+    monitor[UNTIL] = until;
+}
+
+// All tables of a memory whose unused words are 0, and up to when a time call moves the clock alone.
 pub fn work_out(monitor: &mut [u64; SIZE])
     requires { ⌜ Sound (now monitor) × Unused (now monitor) ⌝ }
-    ensures { λ _. ⌜ Alike (now (monitor .entry)) (now (monitor .exit)) × Tables (now (monitor .exit)) × SameLedger (now (monitor .entry)) (now (monitor .exit)) ⌝ }
+    ensures { λ _. ⌜ Alike (now (monitor .entry)) (now (monitor .exit)) × Tables (now (monitor .exit)) × SameLedger (now (monitor .entry)) (now (monitor .exit)) × Awaited (now (monitor .exit)) ⌝ }
 {
     fill_moves(monitor);
     fill_values(monitor);
     retell(monitor);
     ask(monitor);
+    fill_until(monitor);
 }

@@ -311,3 +311,43 @@ pub next-is-bit : (s : List ℕ) (at : ℕ) → at + 2 < length s → parts (get
 next-is-bit s at h p low high q =
     let b = getD s (at + 1) 0 in
     sym (next-is-short s at (b - 48) h p q (kind-digit b low (omega arith)) (omega arith))
+
+-- ---- a word of fewer than 20 digits, the first of which is not 0: n is what those before i say, which are too few to pass MAX
+pub record Counting (s : List ℕ) (at i n : ℕ) : Type 0 where
+  pub going : Going s (at + 1) i n
+  pub small : n < 10 ^ (i - (at + 1))
+
+module _ (s : List ℕ) (at first : ℕ) (h : at + 1 < length s) (e : first ≡ kindOf (getD s (at + 1) 0)) (f : first < 10) where
+  pub count-start : Counting s at (at + 2) first
+  count-start =
+      let a : at + 1 + 1 ≡ at + 2 = omega arith in
+      let v : 0 * 10 + first ≡ first = omega arith in
+      let k : at + 2 - (at + 1) ≡ 1 = omega arith in
+      record {
+        going = rw (a, v) at (more s (at + 1) (at + 1) 0 first (start s (at + 1)) (e ∙ kind-in s (at + 1) h) f);
+        small = rw k f;
+      }
+
+  pub count-ends : (i n : ℕ) → Counting s at i n → 0 < first → n ≤ MAX → i < length s → parts (getD s at 0) ≡ true → parts (getD s i 0) ≡ true → Word n i ≡ nextWord s at
+  count-ends i n g z few within p q =
+      let b = getD s (at + 1) 0 in
+      let w : Digit b = is-digit b (parts b) (digit b) refl refl (omega arith) in
+      let o : 10 ≡ kindAt (drop i s) = kind-over (getD s i 0) q ∙ kind-in s i within in
+      is-word s (at + 1) i n 10 (g .going) o h (w .stays) (λ x. omega (arith, w .value)) refl few
+      ∙ next-here s (at + 1) h (w .stays)
+      ∙ sym (next-more s at (omega arith) p)
+
+module _ {s : List ℕ} {at i n : ℕ} (g : Counting s at i n) where
+  pub count-few : i < at + 20 → n < 10 ^ 18
+  count-few h = clash (g .small) (pow-le-pow-right (lit< tt) {j = 18} (omega arith))
+    where
+      clash : {x y z : ℕ} → x < y → y ≤ z → x < z
+      clash p q = omega arith
+
+  pub count-more : {d : ℕ} → i < length s → d ≡ kindOf (getD s i 0) → d < 10 → Counting s at (i + 1) (n * 10 + d)
+  count-more {d} within e h =
+      let k : i + 1 - (at + 1) ≡ suc (i - (at + 1)) = omega (arith, g .going .low) in
+      record {
+        going = more s (at + 1) i n d (g .going) (e ∙ kind-in s i within) h;
+        small = rw k (omega (arith, pow-suc 10 (i - (at + 1)), g .small));
+      }

@@ -1,7 +1,7 @@
 // Decimal words in text.
 ghost use mathlib.Core.Path.{_≡_};
-ghost use mathlib.Core.Bool.{false};
-ghost use Prim.Native.Nat.{_-_, _/_, _<_};
+ghost use mathlib.Core.Bool.{true, false};
+ghost use Prim.Native.Nat.{_+_, _-_, _/_, _<_};
 ghost use lib.Dec.{ltb};
 ghost use lib.ListN.{length, getD, drop};
 ghost use Rattle.numbers.specs.Limits.{MAX as Words·MAX};
@@ -26,8 +26,11 @@ const BAD: u64 = 11;
 
 const TEN: u64 = 10;
 
-// Where a word of one digit ends, from the parting byte before it on.
+// Where a word of one digit ends, from the parting byte before it on; and where one of the most digits that are read with no
+// test whether they say more than MAX: 19.
 const SHORT: usize = 2;
+
+const LONG: usize = 20;
 
 // The largest number that a word says, before its last digit and there.
 const MAX_TENTH: u64 = MAX / TEN;
@@ -52,6 +55,13 @@ fn wide(b: u8) -> u64
     ensures { λ r. ⌜ r ≡ b ⌝ }
 {
     b as u64
+}
+
+// A digit's value; of any other byte TEN or more.
+fn value(b: u8) -> u64
+    ensures { λ r. ⌜ (r < 10 → r ≡ kindOf b) ⌝ }
+{
+    wide(std::num::wrapping_sub_u8(b, ZERO))
 }
 
 // What a byte is to a word: a digit's value, OVER where the word is over, BAD where it is spoilt.
@@ -155,9 +165,53 @@ pub fn next_short(input: &[u8], at: usize) -> Read
             let end = at + SHORT;
             if parts(input[at]) {
                 if parts(input[end]) {
-                    let d = kind(input[at + 1]);
+                    let d = value(input[at + 1]);
                     if d < TEN {
                         return Read::Word(d, end);
+                    }
+                }
+            }
+        }
+    }
+    next_word(input, at)
+}
+
+// The word whose first digit, which is not 0, stands after the parting byte at `at`. If it has no more digits than are looked at
+// here, there is no test of its size.
+fn number_here(input: &[u8], at: usize, first: u64) -> Read
+    requires { ⌜ (at + 20 < length (now input)) × (Words·parts (getD (now input) at 0) ≡ true) ⌝ }
+    requires { ⌜ (first ≡ kindOf (getD (now input) (at + 1) 0)) × (0 < first) × (first < 10) ⌝ }
+    ensures { λ r. ⌜ r ≡ nextWord (now (input .entry)) at ⌝ }
+{
+    let end = at + LONG;
+    let mut n = first;
+    let mut i = at + SHORT;
+    while i < end {
+        let d = value(input[i]);
+        if TEN <= d {
+            if parts(input[i]) {
+                return Read::Word(n, i);
+            }
+            return next_word(input, at);
+        }
+        n = n * TEN + d;
+        i += 1;
+    }
+    next_word(input, at)
+}
+
+// The same as `next_word`, for a caller whose words most often follow one parting byte and are no zero: by code that stands in the
+// caller and has few tests.
+pub fn next_number(input: &[u8], at: usize) -> Read
+    ensures { λ r. ⌜ r ≡ nextWord (now (input .entry)) at ⌝ }
+{
+    if at < input.len() {
+        if LONG < input.len() - at {
+            if parts(input[at]) {
+                let first = value(input[at + 1]);
+                if 0 < first {
+                    if first < TEN {
+                        return number_here(input, at, first);
                     }
                 }
             }

@@ -1,6 +1,7 @@
 -- Laws of reading words into lent memory. Assumes nothing.
-use Prim.Native.Nat.{ℕ, suc, _+_, _*_, _-_, _≤_, _<_}
-use mathlib.Core.Path.{_≡_, refl, sym, ap, _∙_}
+use Prim.Native.Nat.{ℕ, suc, _+_, _*_, _-_, _%_, _^_, _≤_, _<_, min, max}
+use mathlib.Core.Path.{_≡_, refl, sym, ap, _∙_, subst}
+use mathlib.Core.Logic.{⊎-elim}
 use mathlib.Core.Bool.{true}
 use mathlib.Core.List.{List, [], _∷_, _++_, map, append-assoc, append-nil, map-append}
 use native.Mathlib.Omega.{arith}
@@ -8,13 +9,14 @@ use native.Mathlib.Numerals.{add-one}
 use lib.ListN.{length, getD, take, drop, set, length-drop, length-set, length-append}
 use lib.Seq.{take-suc, drop-cons, take-suc-set, length-take-le, take-at, drop-at}
 use borrow.Author.Tests.{lt-ltb, le-ltb}
+use Rattle.lists.proofs.Tests.{lt-or-ge}
 use Rattle.text.specs.Words.{Supply, parts, nextWord, supplyFrom}
 use Rattle.text.specs.declared.words.Read as text
 use Rattle.text.proofs.Letters.{next-is-bit}
 use Rattle.text.proofs.Supplies.{word, refused as ended}
 use Rattle.numbers.specs.Limits.{MOST-ATOMS, ROW-WORDS}
 use Rattle.book.specs.Reading.{section, next as andNext, sections, got, refused}
-use Rattle.text_reader.specs.Reads.{numberOf, partNumber, byteOf, Took, Ended, WordsTook, WordsRead, SectionTook, SectionRead, BitsTook, BytesTook, BytesRead, StateTook, StateRead, BookTook, BookRead}
+use Rattle.text_reader.specs.Reads.{numberOf, partNumber, byteOf, Bit, Took, Ended, WordsTook, WordsRead, SectionTook, SectionRead, BitsTook, BytesTook, BytesRead, StateTook, StateRead, BookTook, BookRead}
 use Rattle.text_reader.specs.declared.Part.{Part}
 use Rattle.text_reader.specs.declared.Part.the-variants.{Words, Refused}
 
@@ -167,6 +169,43 @@ module _ {input : List ℕ} {cursor count : ℕ} {m₀ m : List ℕ} {i from : �
 
   pub tell-done : cursor + 2 * count < length input → BitsTook input cursor count m i
   tell-done long = record { low = g .turning .taking .low; within = omega (arith, g .turning .taking .low); took = rw (← (g .place)) (g .turning .taking .took); stand = g .turning .stand }
+
+-- the same of all words, told at the end: `most` is the largest bit and `far` the farthest byte from one that parts words
+pub record Telling-all (input : List ℕ) (cursor count : ℕ) (m₀ m : List ℕ) (most far i : ℕ) : Type 0 where
+  pub low : i ≤ count
+  pub size : length m ≡ length m₀
+  pub told : most < 2 → far ≡ 0 → Telling input cursor count m₀ m i (cursor + 2 * i)
+
+pub all-start : (input : List ℕ) (cursor count : ℕ) (m : List ℕ) → parts (getD input cursor 0) ≡ true → Telling-all input cursor count m m 0 0 0
+all-start input cursor count m h =
+    let e : cursor + 2 * 0 ≡ cursor = omega arith in
+    record { low = omega arith; size = refl; told = λ _ _. rw e (tell-start input cursor count m h) }
+
+module _ {input : List ℕ} {cursor count : ℕ} {m₀ m : List ℕ} {most far i : ℕ} (g : Telling-all input cursor count m₀ m most far i) where
+  pub all-more : {b most′ s far′ : ℕ} → i < count → count ≤ length m₀ → cursor + 2 * count < length input → (b < 2 → Bit (getD input (cursor + 2 * i + 1) 0) b) → most′ ≡ max most b → (s ≡ 0 → parts (getD input (cursor + 2 * i + 2) 0) ≡ true) → far′ ≡ max far s → Telling-all input cursor count m₀ (set m i b) most′ far′ (i + 1)
+  all-more {b} {most′} {s} {far′} h room long is-bit top is-parting edge =
+      record {
+        low = omega arith;
+        size = length-set m i b ∙ g .size;
+        told = λ few near.
+            let t = is-bit (omega arith) in
+            let e : cursor + 2 * (i + 1) ≡ cursor + 2 * i + 2 = omega arith in
+            rw (e, t .value) (tell-more (g .told (omega arith) (omega arith)) h room long (t .low) (t .high) (is-parting (omega arith)));
+      }
+
+  pub all-done : most < 2 → far ≡ 0 → count ≤ i → cursor + 2 * count < length input → BitsTook input cursor count m count
+  all-done few near h long =
+      let e : count ≡ i = omega (arith, g .low) in
+      subst (λ (n : ℕ). BitsTook input cursor count m n) (sym e) (tell-done (g .told few near) long)
+
+-- a byte is no distance upwards, around 256, from the one or the other that parts words
+pub no-stray : (b d e r : ℕ) → (d + 32) % 2 ^ 8 ≡ b → (e + 10) % 2 ^ 8 ≡ b → r ≡ min d e → r ≡ 0 → parts b ≡ true
+unfolding parts
+no-stray b d e r p q m z =
+    ⊎-elim
+    (λ h. let k : b ≡ 32 = omega arith in rw k)
+    (λ h. let k : b ≡ 10 = omega arith in rw k)
+    (lt-or-ge d e)
 
 pub tell-none : (input : List ℕ) (cursor count : ℕ) (m : List ℕ) → BitsTook input cursor count m 0
 tell-none input cursor count m =

@@ -78,6 +78,12 @@ BookRead input m′ (Refused number) = sections (supplyFrom input 0 .ending) (su
 abbrev pub byteOf : ℕ → ℕ
 byteOf w = cond (ltb 1 w) 2 w
 
+-- the byte b is the digit of a bit, r
+pub record Bit (b r : ℕ) : Type 0 where
+  pub low : 48 ≤ b
+  pub high : b ≤ 49
+  pub value : r ≡ b - 48
+
 -- n words, none more than asked for and each two bytes of the text, stand at the start of a memory, as bytes
 pub record BitsTook (input : List ℕ) (cursor count : ℕ) (m′ : List ℕ) (n : ℕ) : Type 0 where
   pub low : n ≤ count

@@ -1,11 +1,11 @@
 // The book and the states of a text, read word by word into lent memory.
 ghost use mathlib.Core.Path.{_≡_};
 ghost use mathlib.Core.Bool.{true};
-ghost use Prim.Native.Nat.{_+_, _*_, _≤_, _<_};
+ghost use Prim.Native.Nat.{_+_, _*_, _≤_, _<_, min, max};
 ghost use lib.ListN.{length, getD};
 ghost use Rattle.numbers.specs.Limits.{MOST-ATOMS};
 ghost use Rattle.text.specs.Words.{parts, supplyFrom};
-ghost use Rattle.text_reader.specs.Reads.{numberOf, partNumber, leftOver, byteOf, WordsRead, SectionRead, BookRead, BitsTook, BytesRead, StateRead};
+ghost use Rattle.text_reader.specs.Reads.{numberOf, partNumber, leftOver, byteOf, Bit, WordsRead, SectionRead, BookRead, BitsTook, BytesRead, StateRead};
 use numbers::ACCEPTED;
 use numbers::BAD_WORD;
 use numbers::MOST_ASSUMES;
@@ -28,12 +28,17 @@ pub const BOOK_WORDS: usize = 1
     + 1
     + MOST_GUARANTEES;
 
-// The bytes of the words 0 and 1.
+// The byte of the word 0, and the first number that is no bit.
 const ZERO: u8 = b'0';
 
-const ONE: u8 = b'1';
+const NO_BIT: u8 = 2;
 
-// Such a word and the byte before it.
+// Words are parted by these two bytes.
+const SPACE: u8 = b' ';
+
+const LINE_FEED: u8 = b'\n';
+
+// A bit's word and the byte before it.
 const BIT_BYTES: usize = 2;
 
 // What was read: the words stand in the memory up to a place, and the next word is looked for from another in the text; or
@@ -133,31 +138,58 @@ fn byte_of(w: u64) -> u8
     w as u8
 }
 
-// Of `count` words from the parting byte at `cursor` on, those before the first that is not 0 or 1 between two such bytes,
-// as a state's bytes: how many. Each is told by two tests, since the byte after it is the one before the next.
+// A state's bit that a byte says; what is no bit is NO_BIT or more.
+fn bit(b: u8) -> u8
+    ensures { λ r. ⌜ (r < 2 → Bit b r) ⌝ }
+{
+    std::num::wrapping_sub_u8(b, ZERO)
+}
+
+fn lesser(a: u8, b: u8) -> u8
+    ensures { λ r. ⌜ r ≡ min a b ⌝ }
+{
+    if a < b { a } else { b }
+}
+
+fn greater(a: u8, b: u8) -> u8
+    ensures { λ r. ⌜ r ≡ max a b ⌝ }
+{
+    if a < b { b } else { a }
+}
+
+// How far a byte is past those that part words: 0 for these alone. As a number, so that there is no branch on it.
+fn stray(b: u8) -> u8
+    ensures { λ r. ⌜ (r ≡ 0 → parts b ≡ true) ⌝ }
+{
+    lesser(
+        std::num::wrapping_sub_u8(b, SPACE),
+        std::num::wrapping_sub_u8(b, LINE_FEED),
+    )
+}
+
+// The `count` words from the parting byte at `cursor` on as a state's bytes, if each is 0 or 1 between two such bytes: `count`, or 0
+// where one is not. There is one way through the loop, so that the compiler takes many words at a time.
 fn bits_into(input: &[u8], cursor: usize, count: usize, bytes: &mut [u8]) -> usize
     requires { ⌜ (cursor + 2 * count < length (now input)) × (parts (getD (now input) cursor 0) ≡ true) × (count ≤ length (now bytes)) ⌝ }
     ensures { λ r. ⌜ BitsTook (now (input .entry)) cursor count (now (bytes .exit)) r ⌝ }
 {
-    let mut from = cursor;
+    let mut most: u8 = 0;
+    let mut farthest: u8 = 0;
     let mut i = 0;
     while i < count {
-        let b = input[from + 1];
-        if b < ZERO {
-            return i;
-        }
-        if ONE < b {
-            return i;
-        }
-        if text::parts(input[from + BIT_BYTES]) {
-            bytes[i] = b - ZERO;
-            from += BIT_BYTES;
-            i += 1;
-        } else {
-            return i;
+        let from = cursor + BIT_BYTES * i;
+        let b = bit(input[from + 1]);
+        bytes[i] = b;
+        most = greater(most, b);
+        farthest = greater(farthest, stray(input[from + BIT_BYTES]));
+        i += 1;
+    }
+    if most < NO_BIT {
+        if farthest == 0 {
+            return count;
         }
     }
-    i
+    0
 }
 
 // The same from any place on: none where the text may be too short for all, or no byte parts words there.

@@ -16,7 +16,7 @@ is-taken-requires c κs = let w = c .before .work-out .ensures in (worked-sound 
 returns : tie.Need-returns
 returns c =
     let w = c .before .before .before .work-out .ensures in
-    loads-taken (c .before .before .before .before .before .store-judged .ensures) (w .0) (c .before .is-taken .ensures) (w .1) (w .2) (c .if1 .taken)
+    loads-taken (c .before .before .before .before .before .store-judged .ensures) (w .0) (c .before .is-taken .ensures) (w .1) (w .2) (w .3) (c .if1 .taken)
 
 store-empty-requires : tie.Need-store-empty-requires
 store-empty-requires c κs = search needs
@@ -27,7 +27,7 @@ work-out-requires-2 c κs = let h = c .before .store-empty .ensures in (h .sound
 returns-2 : tie.Need-returns-2
 returns-2 c =
     let w = c .before .before .before .before .before .before .before .work-out .ensures in
-    loads-nested (c .before .before .before .before .before .before .before .before .before .store-judged .ensures) (w .0) (c .before .before .before .before .before .is-taken .ensures) (c .before .before .before .before .if1 .left) (c .before .before .store-empty .ensures) (c .work-out2 .ensures .0) (c .work-out2 .ensures .1) (c .work-out2 .ensures .2)
+    loads-nested (c .before .before .before .before .before .before .before .before .before .store-judged .ensures) (w .0) (c .before .before .before .before .before .is-taken .ensures) (c .before .before .before .before .if1 .left) (c .before .before .store-empty .ensures) (c .work-out2 .ensures .0) (c .work-out2 .ensures .1) (c .work-out2 .ensures .2) (c .work-out2 .ensures .3)
 
 pub load-by-spec : {M : Type 1} → statement M
 load-by-spec =

@@ -1,5 +1,6 @@
 -- `tables::work_out` meets its contract. Assumes nothing.
-use Rattle.tables.proofs.Puts.{moves-put-sound, values-put-sound, told-sound, worked-out}
+use Rattle.tables.proofs.Puts.{moves-put-sound, values-put-sound, told-sound}
+use Rattle.tables.proofs.Until.{asked-sound, worked-awaited}
 use borrow.Author.Needs.{needs}
 use Rattle.tables.proofs.work_out.Statement.{statement}
 use Rattle.tables.proofs.work_out.Tie as tie
@@ -16,10 +17,13 @@ retell-requires c κs = rw ((c .before) .fill-values .ensures, (c .before .befor
 ask-requires : tie.Need-ask-requires
 ask-requires c κs = rw ((c .before) .retell .ensures .0, (c .before .before .before) .fill-values .ensures, (c .before .before .before .before .before) .fill-moves .ensures) (told-sound (values-put-sound (moves-put-sound ((c .before .before .before .before .before .before .before) .pre .0))))
 
+fill-until-requires : tie.Need-fill-until-requires
+fill-until-requires c κs = let s = (c .before .before .before .before .before .before .before .before .before) in asked-sound (s .pre .0) (s .pre .1) ((c .before .before .before .before .before .before .before) .fill-moves .ensures) ((c .before .before .before .before .before) .fill-values .ensures) ((c .before .before .before) .retell .ensures .0) ((c .before) .ask .ensures)
+
 returns : tie.Need-returns
-returns c = let s = (c .before .before .before .before .before .before .before .before) in rw (c .ask .ensures, (c .before .before) .retell .ensures .0, (c .before .before .before .before) .fill-values .ensures, (c .before .before .before .before .before .before) .fill-moves .ensures) (worked-out (s .pre .0) (s .pre .1))
+returns c = let s = (c .before .before .before .before .before .before .before .before .before .before) in worked-awaited (s .pre .0) (s .pre .1) ((c .before .before .before .before .before .before .before .before) .fill-moves .ensures) ((c .before .before .before .before .before .before) .fill-values .ensures) ((c .before .before .before .before) .retell .ensures .0) ((c .before .before) .ask .ensures) (c .fill-until .ensures)
 
 pub work-out-spec : {M : Type 1} → statement M
 work-out-spec =
     tie.close
-    (tie.spec fill-moves-requires fill-values-requires retell-requires ask-requires returns)
+    (tie.spec fill-moves-requires fill-values-requires retell-requires ask-requires fill-until-requires returns)

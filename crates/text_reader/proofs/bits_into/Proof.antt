@@ -1,52 +1,52 @@
 -- `text_reader::bits_into` meets its contract. The loop's invariant stands first. Assumes nothing.
 use Prim.Native.Nat.{_-_}
-use mathlib.Core.Path.{_∙_, sym}
-use Rattle.text_reader.proofs.Taking.{Telling, tell-start, tell-more, tell-done}
+use native.Mathlib.Omega.{arith}
+use Rattle.text_reader.proofs.Taking.{Telling-all, all-start, all-more, all-done, tell-none}
 use borrow.Author.Needs.{needs}
 use Rattle.text_reader.proofs.bits_into.Statement.{statement}
 use Rattle.text_reader.proofs.bits_into.Tie as tie
 
 abbrev Inv-loop : tie.InvT-loop
-Inv-loop input cursor count bytes₀ from₀ i₀ bytes from i = Telling input cursor count bytes₀ bytes i from
+Inv-loop input cursor count bytes₀ most₀ farthest₀ i₀ bytes most farthest i = Telling-all input cursor count bytes₀ bytes most farthest i
 
 abbrev μ-loop : tie.MeasureT-loop
-μ-loop input cursor count bytes₀ from₀ i₀ bytes from i = count - i
+μ-loop input cursor count bytes₀ most₀ farthest₀ i₀ bytes most farthest i = count - i
 
 loop-holds : tie.Need-loop-holds Inv-loop μ-loop
-loop-holds c = tell-start _ _ _ _ (c .before .before .pre .1)
+loop-holds c = all-start _ _ _ _ (c .before .before .pre .1)
 
-add-b : tie.Need-add-b Inv-loop μ-loop
-add-b c = search needs
+mul-from : tie.Need-mul-from Inv-loop μ-loop
+mul-from c = search needs
 
-shared-slice-read-b : tie.Need-shared-slice-read-b Inv-loop μ-loop
-shared-slice-read-b c = search needs
+add-from : tie.Need-add-from Inv-loop μ-loop
+add-from c = search needs
 
-same-length : tie.Need-same-length Inv-loop μ-loop
-same-length c = search needs
+add-bit : tie.Need-add-bit Inv-loop μ-loop
+add-bit c = search needs
 
-returns : tie.Need-returns Inv-loop μ-loop
-returns c = let l = c .before .before .before in tell-done (l .loop .inv) (l .before .before .before .pre .0)
+shared-slice-read-bit : tie.Need-shared-slice-read-bit Inv-loop μ-loop
+shared-slice-read-bit c = search needs
 
-same-length-2 : tie.Need-same-length-2 Inv-loop μ-loop
-same-length-2 c = search needs
-
-returns-2 : tie.Need-returns-2 Inv-loop μ-loop
-returns-2 c = let l = c .before .before .before .before in tell-done (l .loop .inv) (l .before .before .before .pre .0)
-
-add-parts : tie.Need-add-parts Inv-loop μ-loop
-add-parts c = search needs
-
-shared-slice-read-parts : tie.Need-shared-slice-read-parts Inv-loop μ-loop
-shared-slice-read-parts c = search needs
-
-parts-requires : tie.Need-parts-requires Inv-loop μ-loop
-parts-requires c κs = search needs
+bit-requires : tie.Need-bit-requires Inv-loop μ-loop
+bit-requires c κs = search needs
 
 slice-write-bytes : tie.Need-slice-write-bytes Inv-loop μ-loop
 slice-write-bytes c = search needs
 
-add-from : tie.Need-add-from Inv-loop μ-loop
-add-from c = search needs
+greater-requires : tie.Need-greater-requires Inv-loop μ-loop
+greater-requires c κs = search needs
+
+add-stray : tie.Need-add-stray Inv-loop μ-loop
+add-stray c = search needs
+
+shared-slice-read-stray : tie.Need-shared-slice-read-stray Inv-loop μ-loop
+shared-slice-read-stray c = search needs
+
+stray-requires : tie.Need-stray-requires Inv-loop μ-loop
+stray-requires c κs = search needs
+
+greater-requires-2 : tie.Need-greater-requires-2 Inv-loop μ-loop
+greater-requires-2 c κs = search needs
 
 add-i : tie.Need-add-i Inv-loop μ-loop
 add-i c = search needs
@@ -58,19 +58,25 @@ loop-again : tie.Need-loop-again Inv-loop μ-loop
 loop-again c =
     let l = c .before .before .before .before .before .before .before in
     let asked = l .before .before .before .pre in
-    tell-more (l .loop .inv) (c .before .before .before .before .before .before .loop-test .taken) (asked .2) (asked .0) (c .before .before .before .before .if1 .left) (c .before .before .before .if2 .left) (sym (c .before .parts .ensures) ∙ c .if3 .taken)
+    all-more (l .loop .inv) (c .before .before .before .before .before .before .loop-test .taken) (asked .2) (asked .0) (c .before .before .before .before .bit .ensures) (c .before .before .before .greater .ensures) (c .before .stray .ensures) (c .greater2 .ensures)
+
+same-length : tie.Need-same-length Inv-loop μ-loop
+same-length c = search needs
+
+returns : tie.Need-returns Inv-loop μ-loop
+returns c = all-done (c .before .before .before .loop .inv) (c .before .if1 .taken) (c .if2 .taken) (omega arith) (c .before .before .before .before .before .before .pre .0)
+
+same-length-2 : tie.Need-same-length-2 Inv-loop μ-loop
+same-length-2 c = search needs
+
+returns-2 : tie.Need-returns-2 Inv-loop μ-loop
+returns-2 c = tell-none _ _ _ _
 
 same-length-3 : tie.Need-same-length-3 Inv-loop μ-loop
 same-length-3 c = search needs
 
 returns-3 : tie.Need-returns-3 Inv-loop μ-loop
-returns-3 c = let l = c .before .before .before .before .before .before .before in tell-done (l .loop .inv) (l .before .before .before .pre .0)
-
-same-length-4 : tie.Need-same-length-4 Inv-loop μ-loop
-same-length-4 c = search needs
-
-returns-4 : tie.Need-returns-4 Inv-loop μ-loop
-returns-4 c = let l = c .before in tell-done (l .loop .inv) (l .before .before .before .pre .0)
+returns-3 c = tell-none _ _ _ _
 
 pub bits-into-spec : {M : Type 1} → statement M
 bits-into-spec =
@@ -79,21 +85,23 @@ bits-into-spec =
     Inv-loop
     μ-loop
     loop-holds
-    add-b
-    shared-slice-read-b
+    mul-from
+    add-from
+    add-bit
+    shared-slice-read-bit
+    bit-requires
+    slice-write-bytes
+    greater-requires
+    add-stray
+    shared-slice-read-stray
+    stray-requires
+    greater-requires-2
+    add-i
+    loop-less
+    loop-again
     same-length
     returns
     same-length-2
     returns-2
-    add-parts
-    shared-slice-read-parts
-    parts-requires
-    slice-write-bytes
-    add-from
-    add-i
-    loop-less
-    loop-again
     same-length-3
-    returns-3
-    same-length-4
-    returns-4)
+    returns-3)

@@ -1,54 +1,55 @@
--- `report::lines::put_words` meets its contract. The invariant: the words of the properties passed are written. Assumes nothing.
-use Prim.Native.Nat.{_-_}
-use mathlib.Core.Path.{_≡_}
+-- `report::lines::put_words` meets its contract. Assumes nothing.
+use Prim.Native.Nat.{_+_, _*_}
+use mathlib.Core.Path.{sym, _∙_}
 use native.Mathlib.Omega.{arith}
-use Rattle.memory.specs.Tables.{propertyCount}
-use Rattle.report.proofs.Lasting.{Wording, word-start, word-more, word-done}
+use lib.ListN.{length}
+use borrow.Author.Tests.{leb-true, leb-false}
+use Rattle.report.proofs.Lasting.{words-few, words-wrote, words-not}
 use borrow.Author.Needs.{needs}
 use Rattle.report.proofs.lines.put_words.Statement.{statement}
 use Rattle.report.proofs.lines.put_words.Tie as tie
 
-abbrev Inv-loop : tie.InvT-loop
-Inv-loop out₀ at monitor count p₀ i₀ out p i = (count ≡ propertyCount monitor) × Wording monitor count out₀ at out p i
+property-count-requires : tie.Need-property-count-requires
+property-count-requires c κs = c .before .pre .sound .book
 
-abbrev μ-loop : tie.MeasureT-loop
-μ-loop out₀ at monitor count p₀ i₀ out p i = count - i
+mul-size : tie.Need-mul-size
+mul-size c = let s = c .before .before in let k = words-few _ (s .args .out .now) 0 (c .property-count .ensures) (s .pre) in omega arith
 
-property-count-requires : tie.Need-property-count-requires Inv-loop μ-loop
-property-count-requires c κs = (c .before) .pre .sound .book
+has-room-requires : tie.Need-has-room-requires
+has-room-requires c κs = search needs
 
-loop-holds : tie.Need-loop-holds Inv-loop μ-loop
-loop-holds c = (c .property-count .ensures, word-start _ _ _ _)
+lay-words-requires : tie.Need-lay-words-requires
+lay-words-requires c κs = (c .before .before .before .before .before .before .pre, (c .before .before .before .before .property-count .ensures, leb-true _ _ (sym (c .before .before .has-room .ensures) ∙ c .before .if1 .taken)))
 
-put-word-requires : tie.Need-put-word-requires Inv-loop μ-loop
-put-word-requires c κs = let s = (c .before .before .before .before .before) in let l = (c .before .before) .loop in (s .pre, let e = l .inv .0 in omega arith)
+add-result : tie.Need-add-result
+add-result c =
+    let asked = c .before .before .before .before .before in
+    let a = asked .before .before .before .before .args in
+    let k = leb-true (a .at + 4 * _) (length (a .out .now)) (sym (asked .has-room .ensures) ∙ c .before .before .before .before .if1 .taken) in
+    omega arith
 
-add-i : tie.Need-add-i Inv-loop μ-loop
-add-i c = search needs
-
-loop-less : tie.Need-loop-less Inv-loop μ-loop
-loop-less c = search needs
-
-loop-again : tie.Need-loop-again Inv-loop μ-loop
-loop-again c = let l = (c .before .before .before .before .before) .loop in (l .inv .0, word-more (l .inv .1) ((c .before .before .before .before) .loop-test .taken) ((c .before .before) .put-word .ensures) ((c .before .before) .put-word .kept .0))
-
-same-length : tie.Need-same-length Inv-loop μ-loop
+same-length : tie.Need-same-length
 same-length c = search needs
 
-returns : tie.Need-returns Inv-loop μ-loop
-returns c = let l = (c .before) .loop in rw (l .inv .0) at (word-done (l .inv .1) (c .loop-test .left))
+returns : tie.Need-returns
+returns c = words-wrote _ _ _ (c .before .before .before .before .before .before .before .property-count .ensures) (c .before .before .lay-words .ensures)
+
+same-length-2 : tie.Need-same-length-2
+same-length-2 c = search needs
+
+returns-2 : tie.Need-returns-2
+returns-2 c = words-not _ _ _ (c .before .before .before .property-count .ensures) (omega arith) (leb-false _ _ (sym (c .before .has-room .ensures) ∙ c .if1 .left))
 
 pub put-words-spec : {M : Type 1} → statement M
 put-words-spec =
     tie.close
     (tie.spec
-    Inv-loop
-    μ-loop
     property-count-requires
-    loop-holds
-    put-word-requires
-    add-i
-    loop-less
-    loop-again
+    mul-size
+    has-room-requires
+    lay-words-requires
+    add-result
     same-length
-    returns)
+    returns
+    same-length-2
+    returns-2)

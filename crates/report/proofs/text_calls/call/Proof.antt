@@ -1,8 +1,9 @@
 -- `report::text_calls::call` meets its contract. Assumes nothing.
 use mathlib.Core.Path.{_∙_, sym}
+use native.Mathlib.Omega.{arith}
 use Rattle.report.specs.Private.{Turned}
 use Rattle.text_reader.proofs.Taking.{number}
-use Rattle.report.proofs.Turns.{no-kind, other-kind, turned-time, turned-state, turned-stamped}
+use Rattle.report.proofs.Turns.{no-kind, other-kind, turned-state, turned-timed}
 use borrow.Author.Needs.{needs}
 use Rattle.report.proofs.text_calls.call.Statement.{statement}
 use Rattle.report.proofs.text_calls.call.Tie as tie
@@ -23,27 +24,21 @@ returns : tie.Need-returns
 unfolding Turned
 returns c = let e = c .before .enum-told .given .1 in no-kind _ _ (sym (c .before .before .before .next-short .ensures) ∙ e) (c .number-of .ensures ∙ sym (number e))
 
-time-call-requires : tie.Need-time-call-requires
-time-call-requires c κs = search needs
-
-returns-2 : tie.Need-returns-2
-returns-2 c = turned-time _ _ (sym ((c .before .before .before .before .before .before) .next-short .ensures) ∙ (c .before .before .before .before) .r .given .1) _ _ _ ((c .before .before) .if1 .taken) (c .time-call .ensures)
-
 state-call-requires : tie.Need-state-call-requires
 state-call-requires c κs = search needs
 
-returns-3 : tie.Need-returns-3
-returns-3 c = turned-state _ _ (sym ((c .before .before .before .before .before .before .before .before) .next-short .ensures) ∙ (c .before .before .before .before .before .before) .r .given .1) _ _ _ ((c .before .before .before) .if2 .taken) (c .state-call .ensures)
+returns-2 : tie.Need-returns-2
+returns-2 c = turned-state _ _ (sym ((c .before .before .before .before .before .before .before) .next-short .ensures) ∙ (c .before .before .before .before .before) .r .given .1) _ _ _ ((c .before .before .before) .if1 .taken) (c .state-call .ensures)
 
-stamped-call-requires : tie.Need-stamped-call-requires
-stamped-call-requires c κs = search needs
+returns-3 : tie.Need-returns-3
+unfolding Turned
+returns-3 c = other-kind _ _ (sym ((c .before .before .before .before .before) .next-short .ensures) ∙ (c .before .before .before) .r .given .1) (c .if2 .taken)
+
+timed-call-requires : tie.Need-timed-call-requires
+timed-call-requires c κs = search needs
 
 returns-4 : tie.Need-returns-4
-returns-4 c = turned-stamped _ _ (sym ((c .before .before .before .before .before .before .before .before .before) .next-short .ensures) ∙ (c .before .before .before .before .before .before .before) .r .given .1) _ _ _ ((c .before .before .before) .if3 .taken) (c .stamped-call .ensures)
-
-returns-5 : tie.Need-returns-5
-unfolding Turned
-returns-5 c = other-kind _ _ (sym (c .before .before .before .before .before .before .next-short .ensures) ∙ c .before .before .before .before .r .given .1) (c .before .before .if1 .left) (c .before .if2 .left) (c .if3 .left)
+returns-4 c = turned-timed _ _ (sym ((c .before .before .before .before .before .before .before .before) .next-short .ensures) ∙ (c .before .before .before .before .before .before) .r .given .1) _ _ _ ((c .before .before .before .before) .if1 .left) (omega (arith, (c .before .before .before) .if2 .left)) (c .timed-call .ensures)
 
 pub call-spec : {M : Type 1} → statement M
 call-spec =
@@ -54,10 +49,8 @@ call-spec =
     enum-told
     number-of-requires
     returns
-    time-call-requires
-    returns-2
     state-call-requires
+    returns-2
     returns-3
-    stamped-call-requires
-    returns-4
-    returns-5)
+    timed-call-requires
+    returns-4)

@@ -2,10 +2,8 @@
 use Rattle.text_reader.proofs.Taking.{part-refused}
 use native.Mathlib.Omega.{arith}
 use mathlib.Core.Path.{_∙_, sym}
-use Rattle.report.specs.Private.{Turned}
-use Rattle.report.proofs.Turns.{no-state, state-there, stated}
-use Rattle.report.proofs.Alike.{state-bytewise}
-use Rattle.pmtl.specs.Calls.Call.{state}
+use Rattle.report.specs.Private.{Turned, withState}
+use Rattle.report.proofs.Turns.{no-state, state-there, stated, with-bytewise}
 use borrow.Author.Needs.{needs}
 use Rattle.report.proofs.text_calls.state_call.Statement.{statement}
 use Rattle.report.proofs.text_calls.state_call.Tie as tie
@@ -24,14 +22,14 @@ part-number-requires c κs = search needs
 
 returns : tie.Need-returns
 unfolding Turned
-returns c = let e = c .before .enum-told .given .1 in no-state _ _ state _ (c .before .before .before .state .ensures) e (c .part-number .ensures ∙ sym (part-refused e))
+returns c = let e = c .before .enum-told .given .1 in let a = (c .before .before .before .before .before .before) .args in no-state _ _ (withState (a .stamped) (a .time)) _ (c .before .before .before .state .ensures) e (c .part-number .ensures ∙ sym (part-refused e))
 
-state-made-requires : tie.Need-state-made-requires
-state-made-requires c κs = let k = state-there _ _ _ ((c .before .before .before .before .before .before) .state .ensures) ((c .before .before .before .before) .p .given .1) in ((c .before .before .before .before .before .before .before .before .before) .pre, omega (arith, k .place))
+made-of-requires : tie.Need-made-of-requires
+made-of-requires c κs = let k = state-there _ _ _ ((c .before .before .before .before .before .before) .state .ensures) ((c .before .before .before .before) .p .given .1) in ((c .before .before .before .before .before .before .before .before .before) .pre, omega (arith, k .place))
 
 returns-2 : tie.Need-returns-2
 unfolding Turned
-returns-2 c = stated _ _ state state-bytewise (state-there _ _ _ ((c .before .before .before .before .before .before .before) .state .ensures) ((c .before .before .before .before .before) .p .given .1)) (c .state-made .ensures)
+returns-2 c = let a = (c .before .before .before .before .before .before .before .before .before .before) .args in stated _ _ (withState (a .stamped) (a .time)) (with-bytewise _ _) (state-there _ _ _ ((c .before .before .before .before .before .before .before) .state .ensures) ((c .before .before .before .before .before) .p .given .1)) (c .made-of .ensures)
 
 pub state-call-spec : {M : Type 1} → statement M
 state-call-spec =
@@ -42,5 +40,5 @@ state-call-spec =
     enum-told
     part-number-requires
     returns
-    state-made-requires
+    made-of-requires
     returns-2)

@@ -24,20 +24,20 @@ shared-slice-read-parts-2 c = search needs
 parts-requires-2 : tie.Need-parts-requires-2
 parts-requires-2 c κs = search needs
 
-add-kind : tie.Need-add-kind
-add-kind c = search needs
+add-value : tie.Need-add-value
+add-value c = search needs
 
-shared-slice-read-kind : tie.Need-shared-slice-read-kind
-shared-slice-read-kind c = search needs
+shared-slice-read-value : tie.Need-shared-slice-read-value
+shared-slice-read-value c = search needs
 
-kind-requires : tie.Need-kind-requires
-kind-requires c κs = search needs
+value-requires : tie.Need-value-requires
+value-requires c κs = search needs
 
 returns : tie.Need-returns
 returns c =
     let short = c .before .before .before in
     let first = short .before .before .before in
-    next-is-short _ _ _ (omega arith) (sym (first .before .parts .ensures) ∙ first .if3 .taken) (sym (short .before .parts2 .ensures) ∙ short .if4 .taken) (c .before .kind .ensures) (c .if5 .taken)
+    next-is-short _ _ _ (omega arith) (sym (first .before .parts .ensures) ∙ first .if3 .taken) (sym (short .before .parts2 .ensures) ∙ short .if4 .taken) (c .before .value .ensures (c .if5 .taken)) (c .if5 .taken)
 
 next-word-requires : tie.Need-next-word-requires
 next-word-requires c κs = search needs
@@ -55,9 +55,9 @@ next-short-spec =
     parts-requires
     shared-slice-read-parts-2
     parts-requires-2
-    add-kind
-    shared-slice-read-kind
-    kind-requires
+    add-value
+    shared-slice-read-value
+    value-requires
     returns
     next-word-requires
     returns-2)

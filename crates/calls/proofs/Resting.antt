@@ -1,0 +1,60 @@
+-- A monitor that rests: every call leaves one, and a call that says what stands there already changes nothing. Assumes nothing.
+use Prim.Native.Nat.{ℕ, _*_, _≤_, _<_}
+use mathlib.Core.Path.{_≡_, ap, subst, _∙_}
+use mathlib.Core.Logic.{⊎-elim}
+use mathlib.Core.Bool.{true, false, not}
+use mathlib.Core.List.{List, []}
+use native.Mathlib.Omega.{arith}
+use lib.ListN.{length, getD}
+use lib.Dec.{ltb}
+use borrow.Author.Tests.{lt-ltb}
+use Rattle.numbers.specs.Limits.{MOST-RUNS}
+use Rattle.numbers.specs.Refusals.{ACCEPTED}
+use Rattle.lists.proofs.Tests.{lt-or-ge}
+use Rattle.lists.proofs.Listed.{listed-length}
+use Rattle.numset.specs.Runs.{Runs, runs, fits}
+use Rattle.numset.proofs.Words.{length-runs}
+use Rattle.pmtl.specs.Book.{Rows}
+use Rattle.pmtl.specs.Monitor.{setAt}
+use Rattle.pmtl.specs.Calls.{Call, refusal, crowded, call}
+use Rattle.pmtl.specs.Again.{SaysAgain, unchanged, Rests}
+use Rattle.pmtl.proofs.Doubled.{Left, call-left, says-again}
+use Rattle.memory.specs.Layout.{SET}
+use Rattle.memory.specs.Memory.{rowCount, kindAt, slotAt, slotWords, rowsOf, stateOf, setOf}
+use Rattle.memory.specs.Kept.{Kept}
+use Rattle.memory.proofs.Rows.{kept-ordered}
+use Rattle.memory.proofs.Sets.{owner-set, no-set, set-canonical}
+use Rattle.calls.proofs.Plans.{some-none, crowds}
+use Rattle.calls.proofs.Commits.{set-long}
+
+module _ {m : List ℕ} (kept : Kept m) where
+  -- no set of a kept memory is crowded
+  room : crowded (stateOf m) ≡ false
+  unfolding crowded stateOf
+  room =
+      some-none (λ (s : Runs). ltb MOST-RUNS (length s)) [] (stateOf m .sets) λ r lt.
+      let h : r < rowCount m = omega (arith, listed-length (setOf m) (rowCount m)) in
+      ⊎-elim (λ (k : kindAt m r < 7). ap (λ (s : Runs). ltb MOST-RUNS (length s)) (no-set m (kept .sound) r (λ _. k)))
+      (λ (k : 7 ≤ kindAt m r).
+      let row = kept .sound .book .rows r h in
+      let slot = slotAt m r in
+      let few = kept .sound .book .temporal-few in
+      let inside = row .slot k in
+      let good = kept .sound .sets slot (omega arith) in
+      let long = set-long m slot (kept .sound .book .long) (omega arith) in
+      crowds (setAt (stateOf m) r)
+      ∙ ap not (subst (λ o. fits SET (setAt (stateOf m) o) ≡ true) (row .owner k)
+      (rw (owner-set m (kept .sound) slot inside) (lt-ltb (2 * length (runs (slotWords m slot))) SET (rw (length-runs (slotWords m slot) (getD (slotWords m slot) 0 0)) (omega (arith, good .room, long)))))))
+      (lt-or-ge (kindAt m r) 7)
+
+  pub left : Left (rowsOf m) (stateOf m)
+  unfolding stateOf
+  left = record { canonical = set-canonical m (kept .sound); in-time = kept .sound .clock; room = room; rests = kept .rests }
+
+  -- what any call leaves rests
+  pub rests-after : (m′ : List ℕ) (k : Call) → rowsOf m′ ≡ rowsOf m → stateOf m′ ≡ call (rowsOf m) (stateOf m) k .state → Rests (rowsOf m′) (stateOf m′)
+  rests-after m′ k eb es = rw (eb, es) (call-left (rowsOf m) (kept-ordered (kept .sound .book)) (stateOf m) left k .rests)
+
+  -- a call that says again what stands there
+  pub unmoved-by : stateOf m .begun ≡ true → (k : Call) → refusal (rowsOf m) (stateOf m .now) k ≡ ACCEPTED → SaysAgain (stateOf m .now) k → call (rowsOf m) (stateOf m) k ≡ unchanged (stateOf m)
+  unmoved-by = says-again (rowsOf m) (stateOf m) left
