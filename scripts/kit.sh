@@ -18,12 +18,13 @@ need_open() { # NUMBER NAME
     { : 4>&"$1"; } 2>&- || end "$NO_REPORT" "No whole report was printed: $2 is closed."
 }
 
-# The kit must be there; another kit than the pinned one is only said.
+# The kit must be there; another kit than the pinned one is only said, and once: the commands that this one calls do not say it again.
 need_kit() {
     command -v rt >/dev/null 2>&1 || end "$MISSING" "The Rattle kit is missing: install it, so that the command rt is found."
     pinned=$(cat KIT) at_hand=$(rt version)
-    if [ "$at_hand" != "$pinned" ]; then
+    if [ "$at_hand" != "$pinned" ] && [ "$at_hand" != "${BINEFDAR_KIT_SAID-}" ]; then
         echo "Note: this repository is held to the kit '$pinned'; the kit at hand is '$at_hand'." >&2
+        export BINEFDAR_KIT_SAID=$at_hand
     fi
 }
 
