@@ -16,14 +16,14 @@ use Rattle.numset.specs.Runs.{runs, held}
 use Rattle.pmtl.specs.declared.Answer.{Answer}
 use Rattle.pmtl.specs.declared.Answer.the-variants.{Open}
 use Rattle.pmtl.specs.Answer.{bitOf, digitOf}
-use Rattle.pmtl.specs.Book.{Row, Rows, rowAt, mapRow, Below, moveRule, moves}
+use Rattle.pmtl.specs.Book.{Row, Rows, rowAt, mapRow, Below, moveRule, moves, lowestRule, lowest}
 use Rattle.pmtl.proofs.Table.{mapRow-local, answer-in}
 use Rattle.pmtl.specs.Monitor.{State, fullest, value}
 use Rattle.pmtl.specs.Early.{early}
 use Rattle.pmtl.specs.Settled.{settled}
-use Rattle.memory.specs.Layout.{VALUES, TOLD, EARLY, SETTLED, MOVES, FULLEST, UNTIL, PROPERTIES}
-use Rattle.memory.specs.Memory.{rowCount, clockOf, temporals, slotWords, propertyRow, valueAt, toldAt, earlyAt, settledAt, movesAt, fullestWord, rowOf, rowsOf, stateOf, isOne}
-use Rattle.memory.specs.Tables.{standing, valueOf, earlyOf, settledOf, propertyCount, Valued, Told, Answered, Moving, Counts, Unused, Tables}
+use Rattle.memory.specs.Layout.{VALUES, TOLD, EARLY, SETTLED, MOVES, LOWEST, FULLEST, UNTIL, PROPERTIES}
+use Rattle.memory.specs.Memory.{rowCount, clockOf, temporals, slotWords, propertyRow, valueAt, toldAt, earlyAt, settledAt, movesAt, lowestAt, fullestWord, rowOf, rowsOf, stateOf, isOne}
+use Rattle.memory.specs.Tables.{standing, valueOf, earlyOf, settledOf, propertyCount, Valued, Told, Answered, Moving, Founded, Counts, Unused, Tables}
 use Rattle.memory.specs.Kept.{Sound}
 use Rattle.memory.specs.Alike.{Alike, SameLedger}
 use Rattle.memory.proofs.Bits.{bit-back}
@@ -32,7 +32,7 @@ use Rattle.memory.proofs.Ledger.{ledger-on, ledger-filled}
 use Rattle.memory.proofs.Alike.{alike-on, alike-filled, alike-sound, alike-rows, alike-state, alike-set}
 use Rattle.row_answers.specs.Told.{earlyTold}
 use Rattle.row_answers.proofs.Told.{told-early, told-settled, early-same, settled-same, alike-told}
-use Rattle.tables.specs.Puts.{bitIn, movesPut, valuesPut, standingAt, toldPut, countPut, toldAgain, earlyDigit, earlyPut, settledNow, settledDigit, settledPut}
+use Rattle.tables.specs.Puts.{bitIn, movesPut, wordIn, lowestPut, valuesPut, standingAt, toldPut, countPut, toldAgain, earlyDigit, earlyPut, settledNow, settledDigit, settledPut}
 use Rattle.tables.proofs.Fullest.{mostTo, most-none, most-more, most-is-fullest}
 
 abbrev pub move-word : List ℕ → ℕ → ℕ
@@ -86,6 +86,11 @@ module _ {m m′ : List ℕ} (sound : Sound m) (alike : Alike m m′) where
       let few = few-rows sound in
       record { right = rw (same-rows, alike-rows sound alike) (λ r h. same r (omega arith) ∙ v .right r h) }
 
+  pub founded-same : ((r : ℕ) → r < 128 → lowestAt m′ r ≡ lowestAt m r) → Founded m → Founded m′
+  founded-same same v =
+      let few = few-rows sound in
+      record { right = rw (same-rows, alike-rows sound alike) (λ r h. same r (omega arith) ∙ v .right r h) }
+
   pub counts-same : fullestWord m′ ≡ fullestWord m → Counts m → Counts m′
   counts-same same c = record { right = same ∙ c .right ∙ sym (ap fullest (alike-state sound alike)) }
 
@@ -108,14 +113,16 @@ module _ {m m′ : List ℕ} (sound : Sound m) (alike : Alike m m′) where
       → ((i : ℕ) → propertyCount m ≤ i → i < 32 → earlyAt m′ i ≡ earlyAt m i)
       → ((i : ℕ) → propertyCount m ≤ i → i < 32 → settledAt m′ i ≡ settledAt m i)
       → ((r : ℕ) → rowCount m ≤ r → r < 128 → movesAt m′ r ≡ movesAt m r)
+      → ((r : ℕ) → rowCount m ≤ r → r < 128 → lowestAt m′ r ≡ lowestAt m r)
       → Unused m → Unused m′
-  unused-same values told early settled moved u =
+  unused-same values told early settled moved low u =
       record {
         values = rw same-rows (λ r p q. values r p q ∙ u .values r p q);
         told = rw same-sets (λ j p q. told j p q ∙ u .told j p q);
         early = rw same-properties (λ i p q. early i p q ∙ u .early i p q);
         settled = rw same-properties (λ i p q. settled i p q ∙ u .settled i p q);
         moves = rw same-rows (λ r p q. moved r p q ∙ u .moves r p q);
+        lowest = rw same-rows (λ r p q. low r p q ∙ u .lowest r p q);
       }
 
   -- so are all tables, where the memories differ in what stands behind them alone
@@ -125,11 +132,12 @@ module _ {m m′ : List ℕ} (sound : Sound m) (alike : Alike m m′) where
     told = told-same (λ j h. same (TOLD + j) (omega arith)) (t .told);
     answered = answered-same (λ i h. same (EARLY + i) (omega arith)) (λ i h. same (SETTLED + i) (omega arith)) (t .answered);
     moving = moving-same (λ r h. same (MOVES + r) (omega arith)) (t .moving);
+    founded = founded-same (λ r h. same (LOWEST + r) (omega arith)) (t .founded);
     counts = counts-same (same FULLEST (omega arith)) (t .counts);
     unused =
         unused-same
         (λ r p q. same (VALUES + r) (omega arith)) (λ j p q. same (TOLD + j) (omega arith))
-        (λ i p q. same (EARLY + i) (omega arith)) (λ i p q. same (SETTLED + i) (omega arith)) (λ r p q. same (MOVES + r) (omega arith))
+        (λ i p q. same (EARLY + i) (omega arith)) (λ i p q. same (SETTLED + i) (omega arith)) (λ r p q. same (MOVES + r) (omega arith)) (λ r p q. same (LOWEST + r) (omega arith))
         (t .unused);
   }
 
@@ -177,6 +185,55 @@ module _ {m : List ℕ} (sound : Sound m) where
       (λ r p q. moves-before (VALUES + r) (omega arith)) (λ j p q. moves-before (TOLD + j) (omega arith))
       (λ i p q. moves-before (EARLY + i) (omega arith)) (λ i p q. moves-before (SETTLED + i) (omega arith))
       (λ r p q. filledFrom-after MOVES (move-word m) m 0 (rowCount m) (MOVES + r) (omega arith))
+      (λ r p q. filledFrom-after MOVES (move-word m) m 0 (rowCount m) (LOWEST + r) (let few = few-rows sound in omega arith))
+
+-- ---- the lowest row below each
+module _ {m : List ℕ} (sound : Sound m) where
+  -- as a loop finds it
+  module _ (n : ℕ) {m′ : List ℕ} (e : m′ ≡ filledFrom LOWEST (lowest (rowsOf m)) m n) where
+    lowest-alike : Alike m m′
+    lowest-alike = rw e (alike-filled m LOWEST (lowest (rowsOf m)) n (omega arith))
+
+    pub lowest-sound : Sound m′
+    lowest-sound = alike-sound sound lowest-alike
+
+    pub lowest-count : rowCount m′ ≡ rowCount m
+    lowest-count = lowest-alike .below 0 (omega arith)
+
+    pub lowest-more : n < rowCount m → {w : ℕ} → w ≡ lowestRule n (mapRow (wordIn m′ LOWEST) (rowOf m′ n)) → set m′ (LOWEST + n) w ≡ filledFrom LOWEST (lowest (rowsOf m)) m (n + 1)
+    lowest-more h ew =
+        let few = few-rows sound in
+        let long = sound .book .long in
+        let h′ : n < rowCount m′ = rw lowest-count h in
+        let row : rowOf m′ n ≡ rowOf m n = sym (row-at m′ n h′) ∙ ap (λ (b : Rows). rowAt b n) (alike-rows sound lowest-alike) ∙ row-at m n h in
+        let low : Below n (rowOf m n) = rw (row-at m n h) at (kept-ordered (sound .book) n) in
+        let words : (o : ℕ) → o < n → wordIn m′ LOWEST o ≡ lowest (rowsOf m) o =
+        λ o l. ap (λ (x : List ℕ). wordIn x LOWEST o) e ∙ filledFrom-at LOWEST (lowest (rowsOf m)) m 0 n o l (omega arith) in
+        filledFrom-more LOWEST (lowest (rowsOf m)) m e
+        (ew ∙ ap (λ (x : Row ℕ). lowestRule n (mapRow (wordIn m′ LOWEST) x)) row ∙ ap (lowestRule n) (mapRow-local n (wordIn m′ LOWEST) (lowest (rowsOf m)) words (rowOf m n) low)
+        ∙ sym (answer-in (rowsOf m) 0 lowestRule (kept-ordered (sound .book)) n (rw rows-length h) ∙ ap (λ (x : Row ℕ). lowestRule n (mapRow (lowest (rowsOf m)) x)) (row-at m n h)))
+
+  pub lowest-put-alike : Alike m (lowestPut m)
+  lowest-put-alike = lowest-alike (rowCount m) refl
+
+  pub lowest-founded : Founded (lowestPut m)
+  lowest-founded =
+      let few = few-rows sound in
+      let long = sound .book .long in
+      record { right = rw (lowest-count (rowCount m) refl, alike-rows sound lowest-put-alike) (λ r h. filledFrom-at LOWEST (lowest (rowsOf m)) m 0 (rowCount m) r h (omega arith)) }
+
+  lowest-before : (k : ℕ) → k < LOWEST → getD (lowestPut m) k 0 ≡ getD m k 0
+  lowest-before k h = filledFrom-before LOWEST (lowest (rowsOf m)) m 0 (rowCount m) k h
+
+  pub lowest-moving : Moving m → Moving (lowestPut m)
+  lowest-moving = moving-same sound lowest-put-alike (λ r h. lowest-before (MOVES + r) (omega arith))
+
+  pub lowest-unused : Unused m → Unused (lowestPut m)
+  lowest-unused =
+      unused-same sound lowest-put-alike
+      (λ r p q. lowest-before (VALUES + r) (omega arith)) (λ j p q. lowest-before (TOLD + j) (omega arith))
+      (λ i p q. lowest-before (EARLY + i) (omega arith)) (λ i p q. lowest-before (SETTLED + i) (omega arith)) (λ r p q. lowest-before (MOVES + r) (omega arith))
+      (λ r p q. filledFrom-after LOWEST (lowest (rowsOf m)) m 0 (rowCount m) (LOWEST + r) (omega arith))
 
 -- ---- the values
 module _ {m : List ℕ} (sound : Sound m) where
@@ -217,10 +274,13 @@ module _ {m : List ℕ} (sound : Sound m) where
       let few = few-rows sound in
       unused-same sound values-alike
       (λ r p q. values-after (VALUES + r) (omega arith)) (λ j p q. values-after (TOLD + j) (omega arith))
-      (λ i p q. values-after (EARLY + i) (omega arith)) (λ i p q. values-after (SETTLED + i) (omega arith)) (λ r p q. values-after (MOVES + r) (omega arith))
+      (λ i p q. values-after (EARLY + i) (omega arith)) (λ i p q. values-after (SETTLED + i) (omega arith)) (λ r p q. values-after (MOVES + r) (omega arith)) (λ r p q. values-after (LOWEST + r) (omega arith))
 
   pub values-moving : Moving m → Moving (valuesPut m)
   values-moving = let few = few-rows sound in moving-same sound values-alike (λ r h. values-after (MOVES + r) (omega arith))
+
+  pub values-founded : Founded m → Founded (valuesPut m)
+  values-founded = let few = few-rows sound in founded-same sound values-alike (λ r h. values-after (LOWEST + r) (omega arith))
 
 -- ---- what the rows are told
 -- how far a loop has told them, whether that is all as before, and the greatest count so far
@@ -293,10 +353,13 @@ module _ {m : List ℕ} (sound : Sound m) where
       let few = few-sets sound in
       unused-same sound told-alike
       (λ r p q. filledFrom-before TOLD (standingAt m) m 0 (temporals m) (VALUES + r) (omega arith)) (λ j p q. told-after (TOLD + j) (omega arith))
-      (λ i p q. told-after (EARLY + i) (omega arith)) (λ i p q. told-after (SETTLED + i) (omega arith)) (λ r p q. told-after (MOVES + r) (omega arith))
+      (λ i p q. told-after (EARLY + i) (omega arith)) (λ i p q. told-after (SETTLED + i) (omega arith)) (λ r p q. told-after (MOVES + r) (omega arith)) (λ r p q. told-after (LOWEST + r) (omega arith))
 
   pub told-moving : Moving m → Moving (toldPut m)
   told-moving = let few = few-sets sound in moving-same sound told-alike (λ r h. told-after (MOVES + r) (omega arith))
+
+  pub told-founded : Founded m → Founded (toldPut m)
+  told-founded = let few = few-sets sound in founded-same sound told-alike (λ r h. told-after (LOWEST + r) (omega arith))
 
 -- ---- the count
 module _ {m : List ℕ} (sound : Sound m) where
@@ -326,6 +389,9 @@ module _ {m : List ℕ} (sound : Sound m) where
   pub count-moving : Moving m → Moving (countPut m)
   count-moving = moving-same sound count-alike (λ r h. count-other (MOVES + r) (omega arith))
 
+  pub count-founded : Founded m → Founded (countPut m)
+  count-founded = founded-same sound count-alike (λ r h. count-other (LOWEST + r) (omega arith))
+
   pub count-answered : Answered m → Answered (countPut m)
   count-answered = answered-same sound count-alike (λ i h. count-other (EARLY + i) (omega arith)) (λ i h. count-other (SETTLED + i) (omega arith))
 
@@ -333,7 +399,7 @@ module _ {m : List ℕ} (sound : Sound m) where
   count-unused =
       unused-same sound count-alike
       (λ r p q. count-other (VALUES + r) (omega arith)) (λ j p q. count-other (TOLD + j) (omega arith))
-      (λ i p q. count-other (EARLY + i) (omega arith)) (λ i p q. count-other (SETTLED + i) (omega arith)) (λ r p q. count-other (MOVES + r) (omega arith))
+      (λ i p q. count-other (EARLY + i) (omega arith)) (λ i p q. count-other (SETTLED + i) (omega arith)) (λ r p q. count-other (MOVES + r) (omega arith)) (λ r p q. count-other (LOWEST + r) (omega arith))
 
 -- ---- the digits, which are put by what was told
 module _ {m : List ℕ} (sound : Sound m) (a : ℕ) (f : ℕ → ℕ) (n : ℕ) (far : EARLY ≤ a) where
@@ -389,7 +455,7 @@ pub early-sound : {m : List ℕ} → Sound m → Sound (earlyPut m)
 early-sound {m} sound = alike-sound sound (digits-alike sound EARLY (earlyDigit m) (propertyCount m) (omega arith))
 
 -- ---- the tables are right once the digits are put where values and what was told are
-module _ {m : List ℕ} (sound : Sound m) (valued : Valued m) (told : Told m) (moving : Moving m) (counts : Counts m) (unused : Unused m) where
+module _ {m : List ℕ} (sound : Sound m) (valued : Valued m) (told : Told m) (moving : Moving m) (founded : Founded m) (counts : Counts m) (unused : Unused m) where
   abbrev early-put : List ℕ
   early-put = earlyPut m
 
@@ -452,6 +518,7 @@ module _ {m : List ℕ} (sound : Sound m) (valued : Valued m) (told : Told m) (m
       (λ i p q. before₂ (EARLY + i) (omega arith) ∙ after₁ (EARLY + i) (omega arith))
       (λ i p q. filledFrom-after SETTLED (settledDigit early-put) early-put 0 (propertyCount early-put) (SETTLED + i) (omega (arith, count₁)) ∙ after₁ (SETTLED + i) (omega arith))
       (λ r p q. filledFrom-after SETTLED (settledDigit early-put) early-put 0 (propertyCount early-put) (MOVES + r) (omega (arith, count₁)) ∙ after₁ (MOVES + r) (omega arith))
+      (λ r p q. filledFrom-after SETTLED (settledDigit early-put) early-put 0 (propertyCount early-put) (LOWEST + r) (omega (arith, count₁)) ∙ after₁ (LOWEST + r) (omega arith))
       unused
 
   moving₂ : Moving (settledPut early-put)
@@ -460,6 +527,13 @@ module _ {m : List ℕ} (sound : Sound m) (valued : Valued m) (told : Told m) (m
       moving-same sound asked-alike (λ r h.
       filledFrom-after SETTLED (settledDigit early-put) early-put 0 (propertyCount early-put) (MOVES + r) (omega (arith, count₁))
       ∙ filledFrom-after EARLY (earlyDigit m) m 0 (propertyCount m) (MOVES + r) (omega arith)) moving
+
+  founded₂ : Founded (settledPut early-put)
+  founded₂ =
+      let few = few-properties sound in
+      founded-same sound asked-alike (λ r h.
+      filledFrom-after SETTLED (settledDigit early-put) early-put 0 (propertyCount early-put) (LOWEST + r) (omega (arith, count₁))
+      ∙ filledFrom-after EARLY (earlyDigit m) m 0 (propertyCount m) (LOWEST + r) (omega arith)) founded
 
   counts₂ : Counts (settledPut early-put)
   counts₂ =
@@ -476,6 +550,7 @@ module _ {m : List ℕ} (sound : Sound m) (valued : Valued m) (told : Told m) (m
         told = told₂;
         answered = record { early = rw count early-word; settled = rw count settled-word };
         moving = moving₂;
+        founded = founded₂;
         counts = counts₂;
         unused = unused₂;
       }
@@ -490,31 +565,40 @@ values-put-sound {m} sound = values-sound sound (rowCount m) refl
 pub moves-put-sound : {m : List ℕ} → Sound m → Sound (movesPut m)
 moves-put-sound {m} sound = alike-sound sound (moves-put-alike sound)
 
+pub lowest-put-sound : {m : List ℕ} → Sound m → Sound (lowestPut m)
+lowest-put-sound {m} sound = alike-sound sound (lowest-put-alike sound)
+
 -- what is told and counted, and the digits, put where the rest is right
-pub told-and-asked : {m : List ℕ} → Sound m → Valued m → Moving m → Unused m → {m′ : List ℕ} → m′ ≡ settledPut (earlyPut (countPut (toldPut m))) → Alike m m′ × Tables m′ × SameLedger m m′
-told-and-asked {m} sound valued moving unused e =
+pub told-and-asked : {m : List ℕ} → Sound m → Valued m → Moving m → Founded m → Unused m → {m′ : List ℕ} → m′ ≡ settledPut (earlyPut (countPut (toldPut m))) → Alike m m′ × Tables m′ × SameLedger m m′
+told-and-asked {m} sound valued moving founded unused e =
     let sound₁ = alike-sound sound (told-alike sound) in
     let sound₂ = count-sound sound₁ in
     let valued₂ = count-valued sound₁ (told-valued sound valued) in
     let told₂ = count-told sound₁ (told-told sound) in
     let moving₂ = count-moving sound₁ (told-moving sound moving) in
+    let founded₂ = count-founded sound₁ (told-founded sound founded) in
     let counts₂ = count-counts sound₁ in
     let unused₂ = count-unused sound₁ (told-unused sound unused) in
     let few = few-sets sound in
     rw e (
-      alike-on (told-alike sound) (alike-on (count-alike sound₁) (asked-alike sound₂ valued₂ told₂ moving₂ counts₂ unused₂)),
-      asked-tables sound₂ valued₂ told₂ moving₂ counts₂ unused₂,
-      ledger-on (ledger-filled m TOLD (standingAt m) (temporals m) (omega arith)) (ledger-on (count-ledger sound₁) (asked-ledger sound₂ valued₂ told₂ moving₂ counts₂ unused₂)),
+      alike-on (told-alike sound) (alike-on (count-alike sound₁) (asked-alike sound₂ valued₂ told₂ moving₂ founded₂ counts₂ unused₂)),
+      asked-tables sound₂ valued₂ told₂ moving₂ founded₂ counts₂ unused₂,
+      ledger-on (ledger-filled m TOLD (standingAt m) (temporals m) (omega arith)) (ledger-on (count-ledger sound₁) (asked-ledger sound₂ valued₂ told₂ moving₂ founded₂ counts₂ unused₂)),
     )
 
 pub worked-out : {m : List ℕ} → Sound m → Unused m
-    → let m′ = settledPut (earlyPut (countPut (toldPut (valuesPut (movesPut m))))) in Alike m m′ × Tables m′ × SameLedger m m′
+    → let m′ = settledPut (earlyPut (countPut (toldPut (valuesPut (lowestPut (movesPut m)))))) in Alike m m′ × Tables m′ × SameLedger m m′
 worked-out {m} sound unused =
     let sound₀ = moves-put-sound sound in
-    let to₁ = alike-on (moves-put-alike sound) (values-alike sound₀) in
-    let t = told-and-asked (values-put-sound sound₀) (values-valued sound₀) (values-moving sound₀ (moves-moving sound)) (values-unused sound₀ (moves-unused sound unused)) refl in
+    let sound₁ = lowest-put-sound sound₀ in
+    let to₁ = alike-on (moves-put-alike sound) (alike-on (lowest-put-alike sound₀) (values-alike sound₁)) in
+    let t =
+    told-and-asked (values-put-sound sound₁) (values-valued sound₁) (values-moving sound₁ (lowest-moving sound₀ (moves-moving sound))) (values-founded sound₁ (lowest-founded sound₀))
+    (values-unused sound₁ (lowest-unused sound₀ (moves-unused sound unused))) refl in
     let few = few-rows sound in
     let few₀ = few-rows sound₀ in
+    let few₁ = few-rows sound₁ in
     let same₀ = ledger-filled m MOVES (move-word m) (rowCount m) (omega arith) in
-    let same₁ = ledger-filled (movesPut m) VALUES (value-word sound₀) (rowCount (movesPut m)) (omega arith) in
-    (alike-on to₁ (t .0), t .1, ledger-on same₀ (ledger-on same₁ (t .2)))
+    let same₁ = ledger-filled (movesPut m) LOWEST (lowest (rowsOf (movesPut m))) (rowCount (movesPut m)) (omega arith) in
+    let same₂ = ledger-filled (lowestPut (movesPut m)) VALUES (value-word sound₁) (rowCount (lowestPut (movesPut m))) (omega arith) in
+    (alike-on to₁ (t .0), t .1, ledger-on same₀ (ledger-on same₁ (ledger-on same₂ (t .2))))

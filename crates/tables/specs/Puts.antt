@@ -9,10 +9,10 @@ use Rattle.numset.specs.Runs.{Runs, runs}
 use Rattle.pmtl.specs.declared.Answer.{Answer}
 use Rattle.pmtl.specs.declared.Answer.the-variants.{Open}
 use Rattle.pmtl.specs.Answer.{bitOf, digitOf}
-use Rattle.memory.specs.Layout.{VALUES, TOLD, EARLY, SETTLED, MOVES, FULLEST, UNTIL}
+use Rattle.memory.specs.Layout.{VALUES, TOLD, EARLY, SETTLED, MOVES, LOWEST, FULLEST, UNTIL}
 use Rattle.memory.specs.Memory.{rowCount, begunWord, clockOf, temporals, rangeAt, ownerAt, slotWords, propertyRow, toldAt, isOne, rowsOf, stateOf}
 use Rattle.pmtl.specs.Monitor.{fullest}
-use Rattle.pmtl.specs.Book.{moves}
+use Rattle.pmtl.specs.Book.{moves, lowest}
 use Rattle.pmtl.specs.Quiet.{untilSet, quietUntil}
 use Rattle.memory.specs.Tables.{standing, valueOf, propertyCount}
 use Rattle.row_answers.specs.Told.{earlyTold, settledTold}
@@ -24,6 +24,14 @@ bitIn m table o = isOne (getD m (table + o) 0)
 -- of each row whether it moves with the clock
 abbrev pub movesPut : List ℕ → List ℕ
 movesPut m = filledFrom MOVES (λ r. bitOf (moves (rowsOf m) r)) m (rowCount m)
+
+-- what a table of numbers has of row o
+abbrev pub wordIn : List ℕ → ℕ → ℕ → ℕ
+wordIn m table o = getD m (table + o) 0
+
+-- the lowest row at or below each row
+abbrev pub lowestPut : List ℕ → List ℕ
+lowestPut m = filledFrom LOWEST (lowest (rowsOf m)) m (rowCount m)
 
 -- each row's value
 abbrev pub valuesPut : List ℕ → List ℕ

@@ -7,21 +7,22 @@ ghost use lib.Dec.{eqb};
 ghost use Rattle.numset.specs.Runs.{Good, runs, held};
 ghost use Rattle.pmtl.specs.Sets.{gone};
 ghost use Rattle.numbers.specs.Limits.{MAX as Limits·MAX, LAST-TIME, MOST-ROWS};
-ghost use Rattle.pmtl.specs.Book.{mapRow, moveRule};
+ghost use Rattle.pmtl.specs.Book.{mapRow, moveRule, leastOf, lowestRule};
 ghost use Rattle.pmtl.specs.Quiet.{quietUntil};
-ghost use Rattle.memory.specs.Layout.{MOVES, SIZE};
+ghost use Rattle.memory.specs.Layout.{MOVES, LOWEST, SIZE};
 ghost use Rattle.memory.specs.Memory.{rowCount, begunWord, temporals, operandsFrom, rowOf, rowsOf, stateOf, isOne};
 ghost use Rattle.memory.specs.Tables.{standing, Unused, Tables};
 ghost use Rattle.memory.specs.Kept.{BookKept, Span, Sound, Awaited};
 ghost use Rattle.memory.specs.Alike.{Alike, SameLedger};
 ghost use Rattle.row_answers.specs.Told.{settledTold};
 ghost use Rattle.row_answers.specs.Private.{joined};
-ghost use Rattle.tables.specs.Puts.{bitIn, movesPut, valuesPut, toldPut, countPut, earlyPut, settledPut, toldAgain, untilOf, untilAt, untilPut};
+ghost use Rattle.tables.specs.Puts.{bitIn, wordIn, movesPut, lowestPut, valuesPut, toldPut, countPut, earlyPut, settledPut, toldAgain, untilOf, untilAt, untilPut};
 use book::HISTORICALLY;
 use memory::COVERS;
 use memory::EARLY;
 use memory::FULLEST;
 use memory::GONE;
+use memory::LOWEST;
 use memory::MOVES;
 use memory::NEITHER;
 use memory::SETTLED;
@@ -74,6 +75,56 @@ fn fill_moves(monitor: &mut [u64; SIZE])
     while row < count {
         let moves = moves_here(monitor, row);
         monitor[MOVES + row] = lists::wide(pmtl::bit(moves));
+        row += 1;
+    }
+}
+
+fn lesser(a: u64, b: u64) -> u64
+    ensures { λ r. ⌜ r ≡ min a b ⌝ }
+{
+    if a < b { a } else { b }
+}
+
+// The least of a number and of the lowest rows below `left` operands from `place` on.
+fn least_of(monitor: &[u64; SIZE], place: usize, left: usize, from: u64) -> u64
+    requires { ⌜ BookKept (now monitor) × Span (now monitor) (rowCount (now monitor)) place left ⌝ }
+    ensures { λ r. ⌜ r ≡ leastOf from (map (wordIn (now (monitor .entry)) LOWEST) (operandsFrom (now (monitor .entry)) place left)) ⌝ }
+{
+    let mut least = from;
+    let mut at = place;
+    let mut rest = left;
+    while rest != 0 {
+        least = lesser(
+            least,
+            memory::word(monitor, LOWEST + memory::operand_at(monitor, at)),
+        );
+        at += 1;
+        rest -= 1;
+    }
+    least
+}
+
+// The lowest row at or below a row, where it is known of its operands.
+fn lowest_here(monitor: &[u64; SIZE], row: usize) -> u64
+    requires { ⌜ Sound (now monitor) ⌝ }
+    requires { ⌜ row < rowCount (now monitor) ⌝ }
+    ensures { λ r. ⌜ r ≡ lowestRule row (mapRow (wordIn (now (monitor .entry)) LOWEST) (rowOf (now (monitor .entry)) row)) ⌝ }
+{
+    let words = memory::row_at(monitor, row);
+    let count = book::check::taken_by(words.kind, words.arg as u64);
+    least_of(monitor, words.start, count, row as u64)
+}
+
+// Of each row, from row 0 upward, the lowest row at or below it.
+fn fill_lowest(monitor: &mut [u64; SIZE])
+    requires { ⌜ Sound (now monitor) ⌝ }
+    ensures { λ _. ⌜ now (monitor .exit) ≡ lowestPut (now (monitor .entry)) ⌝ }
+{
+    let count = memory::row_count(monitor);
+    let mut row = 0;
+    while row < count {
+        let lowest = lowest_here(monitor, row);
+        monitor[LOWEST + row] = lowest;
         row += 1;
     }
 }
@@ -238,12 +289,6 @@ fn until_at(monitor: &[u64; SIZE], slot: usize) -> u64
     until_of(memory::set_at(monitor, slot), clock, lower, upper)
 }
 
-fn sooner(a: u64, b: u64) -> u64
-    ensures { λ r. ⌜ r ≡ min a b ⌝ }
-{
-    if a < b { a } else { b }
-}
-
 // Up to when a time call moves the clock alone: what changes first decides. No set changes before the clock, so the first that may
 // change after it ends the look.
 fn least_until(monitor: &[u64; SIZE]) -> u64
@@ -255,7 +300,7 @@ fn least_until(monitor: &[u64; SIZE]) -> u64
     let mut least = MAX;
     let mut slot = 0;
     while slot < count {
-        least = sooner(least, until_at(monitor, slot));
+        least = lesser(least, until_at(monitor, slot));
         if least <= clock {
             return clock;
         }
@@ -279,6 +324,7 @@ pub fn work_out(monitor: &mut [u64; SIZE])
     ensures { λ _. ⌜ Alike (now (monitor .entry)) (now (monitor .exit)) × Tables (now (monitor .exit)) × SameLedger (now (monitor .entry)) (now (monitor .exit)) × Awaited (now (monitor .exit)) ⌝ }
 {
     fill_moves(monitor);
+    fill_lowest(monitor);
     fill_values(monitor);
     retell(monitor);
     ask(monitor);
