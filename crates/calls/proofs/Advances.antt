@@ -25,9 +25,9 @@ use Rattle.pmtl.specs.Sets.{Renew, Way}
 use Rattle.pmtl.specs.Monitor.{Snap, State, setAt, stepBy, value}
 use Rattle.pmtl.specs.Calls.{crowded, Outcome, play}
 use Rattle.pmtl.proofs.Answers.{step-sets-by, step-now-by, step-begun-by, step-way-by}
-use Rattle.memory.specs.Layout.{ROWS, ROW, ATOMS, OWNERS, SET, VALUES, TOLD, EARLY, SETTLED, MOVES}
+use Rattle.memory.specs.Layout.{ROWS, ROW, ATOMS, OWNERS, SET, VALUES, TOLD, EARLY, SETTLED, MOVES, LOWEST}
 use Rattle.memory.specs.Memory.{begunWord, clockOf, widthWord, temporals, rowCount, kindAt, slotAt, ownerAt, setStart, slotWords, propertyRow, valueAt, toldAt, rowsOf, wayOf, setOf, stateOf, isOne, rangeAt}
-use Rattle.memory.specs.Tables.{valueOf, propertyCount, Valued, Told, Answered, Moving, Unused, Tables}
+use Rattle.memory.specs.Tables.{valueOf, propertyCount, Valued, Told, Answered, Moving, Founded, Unused, Tables}
 use Rattle.memory.specs.Kept.{Sound, Kept}
 use Rattle.memory.specs.Alike.{Alike, SameLedger}
 use Rattle.memory.proofs.Rows.{rows-length}
@@ -37,7 +37,7 @@ use Rattle.memory.proofs.Stepped.{Stepped, kept-step, step-book, rows-of-same, 
 use Rattle.row_answers.specs.Told.{earlyTold}
 use Rattle.row_answers.proofs.Told.{told-early, told-settled, early-same, settled-same}
 use Rattle.tables.specs.Puts.{valuesPut, toldPut, countPut, toldAgain, earlyPut, settledNow, settledPut}
-use Rattle.tables.proofs.Puts.{few-properties, answer-same, told-told, told-still, told-and-asked, count-alike, count-ledger, count-counts, count-valued, count-told, count-moving, count-answered, count-unused}
+use Rattle.tables.proofs.Puts.{few-properties, answer-same, told-told, told-still, told-and-asked, count-alike, count-ledger, count-counts, count-valued, count-told, count-moving, count-founded, count-answered, count-unused}
 use Rattle.set_change.specs.Change.{changed, countedFrom}
 use Rattle.set_change.proofs.Changes.{changed-under}
 use Rattle.calls.specs.Private.{Bytes, snapOf, stepOf, ownRenew, renewOver, countsFrom, timeStep, ahead, setAfter, valueAfter, clocked, Planned, Written, Atoms, Moved, Tried, TriedBoth, Fitting, Asked, Due, Advanced}
@@ -332,6 +332,7 @@ module _
           early = rw count-now (λ i p q. beyond-now (EARLY + i) (omega arith) ∙ u .early i p q);
           settled = rw count-now (λ i p q. beyond-now (SETTLED + i) (omega arith) ∙ u .settled i p q);
           moves = rw rows-now (λ r p q. beyond-now (MOVES + r) (omega arith) ∙ u .moves r p q);
+          lowest = rw rows-now (λ r p q. beyond-now (LOWEST + r) (omega arith) ∙ u .lowest r p q);
         }
 
     told-now : (o : ℕ) → o < rowCount m → 7 ≤ kindAt m o → toldAt m₂ (slotAt m₂ o) ≡ toldAt m (slotAt m o)
@@ -364,8 +365,13 @@ module _
         let rows = kept .sound .book .few in
         record { right = rw (rows-now, rows-of-same m m₂ (kept .sound) stepped) (λ r h. beyond-now (MOVES + r) (omega arith) ∙ kept .tables .moving .right r h) }
 
+    founded-now : Founded m₂
+    founded-now =
+        let rows = kept .sound .book .few in
+        record { right = rw (rows-now, rows-of-same m m₂ (kept .sound) stepped) (λ r h. beyond-now (LOWEST + r) (omega arith) ∙ kept .tables .founded .right r h) }
+
     pub due : {first : Bool} → first ≡ eqb (begunWord m) 0 → Due m₂ first
-    due ef = record { sound = sound-now; valued = valued-now; moving = moving-now; unused = unused-now; asked = asked-now ef }
+    due ef = record { sound = sound-now; valued = valued-now; moving = moving-now; founded = founded-now; unused = unused-now; asked = asked-now ef }
 
 unmoved : {m : List ℕ} (st : State) (c : ℕ) (atoms : List ℕ) {ns : List Snap} → Leads m ns st c atoms → crowded (stepOf m (ownRenew st) st c atoms) ≡ true → Advanced m ns m 11
 unmoved {m} st c atoms leads e =
@@ -399,7 +405,7 @@ module _ {m : List ℕ} {st : State} {c : ℕ} {atoms m₁ : List ℕ} {r : ℕ}
 module _ {m : List ℕ} {first : Bool} (due : Due m first) where
   -- something new was told, or it is the first accepted call
   pub renewed-asked : {m₁ m₂ : List ℕ} → m₁ ≡ countPut (toldPut m) → m₂ ≡ settledPut (earlyPut m₁) → Alike m m₂ × Tables m₂ × SameLedger m m₂
-  renewed-asked e₁ e₂ = told-and-asked (due .sound) (due .valued) (due .moving) (due .unused) (e₂ ∙ ap (λ (x : List ℕ). settledPut (earlyPut x)) e₁)
+  renewed-asked e₁ e₂ = told-and-asked (due .sound) (due .valued) (due .moving) (due .founded) (due .unused) (e₂ ∙ ap (λ (x : List ℕ). settledPut (earlyPut x)) e₁)
 
   -- nothing new but the count: the digits are those that stand there
   pub renewed-still : {m₁ : List ℕ} → m₁ ≡ countPut (toldPut m) → toldAgain m (temporals m) ≡ true → first ≡ false → Alike m m₁ × Tables m₁ × SameLedger m m₁
@@ -418,6 +424,7 @@ module _ {m : List ℕ} {first : Bool} (due : Due m first) where
           told = count-told sound told;
           answered = count-answered sound answered;
           moving = count-moving sound (due .moving);
+          founded = count-founded sound (due .founded);
           counts = count-counts sound;
           unused = count-unused sound (due .unused);
         },

@@ -16,7 +16,7 @@ use Rattle.pmtl.specs.Calls.{Call, crowded, play, call}
 use Rattle.book.specs.Rows.{temporal, ATOM, HISTORICALLY}
 use Rattle.memory.specs.Layout.{ATOMS, SETS, SET, VALUES, SIZE, BEGUN, CLOCK}
 use Rattle.memory.specs.Memory.{rowCount, rangeAt, begunWord, clockOf, temporals, kindAt, argAt, lowerAt, upperAt, slotAt, ownerAt, slotWords, wayWord, atomsOf, valueAt, earlyAt, settledAt, untilWord, rowOf, rowsOf, bookOf, stateOf, isOne}
-use Rattle.memory.specs.Tables.{propertyCount, Valued, Moving, Unused}
+use Rattle.memory.specs.Tables.{propertyCount, Valued, Moving, Founded, Unused}
 use Rattle.memory.specs.Kept.{Sound, Kept}
 use Rattle.memory.specs.Alike.{SameLedger}
 use Rattle.tables.specs.Puts.{earlyDigit, settledDigit}
@@ -243,6 +243,7 @@ pub record Due (m : List ℕ) (first : Bool) : Type 0 where
   pub sound : Sound m
   pub valued : Valued m
   pub moving : Moving m
+  pub founded : Founded m
   pub unused : Unused m
   pub asked : Asked m first
 

@@ -15,7 +15,7 @@ use Rattle.numset.proofs.Packs.{good-zeros}
 use Rattle.pmtl.specs.Book.{widthOf}
 use Rattle.pmtl.specs.Sets.{Way}
 use Rattle.pmtl.specs.Monitor.{initialIn}
-use Rattle.memory.specs.Layout.{ROWS, ROW, OPERANDS, PROPERTIES, ATOMS, OWNERS, SET, SIZE, VALUES, TOLD, EARLY, SETTLED, MOVES}
+use Rattle.memory.specs.Layout.{ROWS, ROW, OPERANDS, PROPERTIES, ATOMS, OWNERS, SET, SIZE, VALUES, TOLD, EARLY, SETTLED, MOVES, LOWEST}
 use Rattle.lists.specs.Lists.{part, listed, put}
 use Rattle.memory.specs.Memory.{assumeCount, guaranteeCount, kindAt, argAt, lowerAt, upperAt, startAt, slotAt, operandsOf, ownerAt, setStart, slotWords, rowOf, rowsOf, bookOf, isOne, setOf, stateOf}
 use Rattle.book.specs.Rows.{countOf}
@@ -275,6 +275,7 @@ module _ (way : Way) (s : Sections) (m : List ℕ) (ok : Accepted s) (st : Stand
           early = λ i p q. zero-from (EARLY + i) (omega arith);
           settled = λ i p q. zero-from (SETTLED + i) (omega arith);
           moves = λ r p q. zero-from (MOVES + r) (omega arith);
+          lowest = λ r p q. zero-from (LOWEST + r) (omega arith);
         };
         blank = λ i h. zero-from i (omega arith);
       }
