@@ -40,12 +40,14 @@ use Rattle.tables.specs.Puts.{valuesPut, toldPut, countPut, toldAgain, earlyPut
 use Rattle.tables.proofs.Puts.{few-properties, answer-same, told-told, told-still, told-and-asked, count-alike, count-ledger, count-counts, count-valued, count-told, count-moving, count-founded, count-answered, count-unused}
 use Rattle.set_change.specs.Change.{changed, countedFrom}
 use Rattle.set_change.proofs.Changes.{changed-under}
-use Rattle.calls.specs.Private.{Bytes, snapOf, stepOf, ownRenew, renewOver, countsFrom, timeStep, ahead, setAfter, valueAfter, clocked, Planned, Written, Atoms, Moved, Tried, TriedBoth, Fitting, Asked, Due, Advanced}
-use Rattle.calls.proofs.Rules.{set-of-slot, set-of-none}
-use Rattle.calls.proofs.Ahead.{ahead-one}
-use Rattle.calls.proofs.Plans.{set-none, fits-each}
+use Rattle.planning.specs.Plan.{snapOf, stepOf, ownRenew, renewOver, countsFrom, ahead, setAfter, valueAfter, Planned}
+use Rattle.calls.specs.Private.{Bytes, timeStep, clocked, Written, Atoms, Moved, Tried, TriedBoth, Fitting, Asked, Due, Advanced}
+use Rattle.planning.proofs.Rules.{set-of-slot, set-of-none}
+use Rattle.planning.proofs.Ahead.{ahead-one}
+use Rattle.planning.proofs.Plans.{set-none, fits-each}
 use Rattle.calls.proofs.Commits.{room-is}
-use Rattle.calls.proofs.Heads.{bits-listed, clocked-length, clocked-begun, clocked-clock, clocked-other, atoms-stand}
+use Rattle.planning.proofs.Atoms.{bits-listed}
+use Rattle.calls.proofs.Heads.{clocked-length, clocked-begun, clocked-clock, clocked-other, atoms-stand}
 
 -- the end of a range is a time or MAX
 stop-fits : (g : Range) (c : ℕ) → c ≤ LAST-TIME → ((g .upper ≡ MAX → ⊥) → g .upper ≤ LAST-TIME) → stop g c + 1 < 2 ^ 64 + 1

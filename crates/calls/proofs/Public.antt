@@ -27,12 +27,14 @@ use Rattle.memory.specs.Alike.{Alike, SameLedger}
 use Rattle.memory.proofs.Alike.{alike-sound, alike-book, alike-state}
 use Rattle.memory.proofs.Ledger.{ledger-self, ledger-on, ledger-same, ledger-kept}
 use Rattle.memory.proofs.Properties.{properties-length}
-use Rattle.calls.specs.Private.{AtomsStand, Bytes, snapOf, ownRenew, timeStep, Atoms, Moved, Tried, TriedBoth, Due, Done, Advanced}
+use Rattle.planning.specs.Plan.{snapOf, ownRenew}
+use Rattle.calls.specs.Private.{AtomsStand, Bytes, timeStep, Atoms, Moved, Tried, TriedBoth, Due, Done, Advanced}
 use Rattle.notes.specs.Noting.{numbered, CallNoted}
 use Rattle.calls.specs.Called.{Called}
 use Rattle.calls.proofs.Resting.{rests-after, unmoved-by}
-use Rattle.calls.proofs.Plans.{some-hit}
-use Rattle.calls.proofs.Heads.{bits-listed, old-same, old-bytes, old-atoms}
+use Rattle.planning.proofs.Plans.{some-hit}
+use Rattle.planning.proofs.Atoms.{bits-listed, old-same, old-atoms}
+use Rattle.calls.proofs.Heads.{old-bytes}
 use Rattle.calls.proofs.Advances.{Leads, played, due, has-room, tried-moved, tried-refused, tried-stands}
 
 -- ---- a call that is refused for itself, and one that is not

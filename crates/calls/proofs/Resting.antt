@@ -24,8 +24,8 @@ use Rattle.memory.specs.Memory.{rowCount, kindAt, slotAt, slotWords, rowsOf, st
 use Rattle.memory.specs.Kept.{Kept}
 use Rattle.memory.proofs.Rows.{kept-ordered}
 use Rattle.memory.proofs.Sets.{owner-set, no-set, set-canonical}
-use Rattle.calls.proofs.Plans.{some-none, crowds}
-use Rattle.calls.proofs.Commits.{set-long}
+use Rattle.planning.proofs.Plans.{some-none, crowds}
+use Rattle.planning.proofs.Plans.{set-long}
 
 module _ {m : List ℕ} (kept : Kept m) where
   -- no set of a kept memory is crowded

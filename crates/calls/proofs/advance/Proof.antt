@@ -1,7 +1,7 @@
 -- `calls::advance` meets its contract: the sets have room and are changed, or all is as it was. Assumes nothing.
-use Rattle.calls.specs.Private.{atomsFor}
+use Rattle.planning.specs.Plan.{atomsFor}
 use Rattle.calls.proofs.Advances.{planned-as, planned-from, planned-sound, fitting, tried-room, tried-full}
-use Rattle.calls.proofs.Ahead.{ahead-none, unplanned}
+use Rattle.planning.proofs.Ahead.{ahead-none, unplanned}
 use Rattle.numbers.specs.Limits.{MOST-TEMPORALS}
 use borrow.Author.Needs.{needs}
 use Rattle.calls.proofs.advance.Statement.{statement}

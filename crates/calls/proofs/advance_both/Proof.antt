@@ -3,7 +3,7 @@ use mathlib.Core.Path.{sym}
 use mathlib.Core.Bool.{false, true≢false}
 use Rattle.memory.specs.Memory.{atomsOf}
 use Rattle.calls.proofs.Advances.{planned-as, planned-from, planned-sound, fitting, first-sound, first-width, second-from, both-room, both-full, first-full}
-use Rattle.calls.proofs.Ahead.{ahead-none, unplanned}
+use Rattle.planning.proofs.Ahead.{ahead-none, unplanned}
 use Rattle.numbers.specs.Limits.{MOST-TEMPORALS}
 use borrow.Author.Needs.{needs}
 use Rattle.calls.proofs.advance_both.Statement.{statement}

@@ -1,5 +1,5 @@
 -- `calls::has_other` meets its contract. The invariant: the bytes passed are 0 or 1. Assumes nothing.
-use Rattle.calls.proofs.Plans.{some-none, some-hit}
+use Rattle.planning.proofs.Plans.{some-none, some-hit}
 use borrow.Author.Tests.{lt-ltb, le-ltb}
 use borrow.Author.Count.{below-more}
 use lib.Dec.{ltb}
