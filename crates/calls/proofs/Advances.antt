@@ -139,7 +139,7 @@ module _ {m : List ℕ} {renew : Renew} {st : State} {c : ℕ} {atoms m₁ modes
       ap₂ (λ (g : Range) (ws : List ℕ). changed mode (start g (countsFrom m₁ c mode)) (stop g c) c (runs ws)) (ap (rangeAt m₁) o ∙ range) (alike-set sound alike j (omega arith))
       ∙ ap (λ (before : ℕ). changed mode (start (rangeAt m (ownerAt m j)) (countedFrom (min (before + 1) c) c mode)) (stop (rangeAt m (ownerAt m j)) c) c (runs (slotWords m j))) (alike .below 2 (omega arith))
 
-  set-planned : (j : ℕ) → j < temporals m → setAfter m₁ c (getD modes j 0) j ≡ setAt (stepOf m renew st c atoms) (ownerAt m j)
+  pub set-planned : (j : ℕ) → j < temporals m → setAfter m₁ c (getD modes j 0) j ≡ setAt (stepOf m renew st c atoms) (ownerAt m j)
   set-planned j h = after-same (getD modes j 0) j h ∙ planned .sets refl j h
 
   pub fitting : Fitting m₁ c modes
@@ -451,10 +451,10 @@ module _ {m m₁ : List ℕ} (sound : Sound m) (alike : Alike m m₁) where
   rows-as : rowCount m₁ ≡ rowCount m
   rows-as = alike .below 0 (omega arith)
 
-  slots-as : temporals m₁ ≡ temporals m
+  pub slots-as : temporals m₁ ≡ temporals m
   slots-as = alike .below 4 (omega arith)
 
-  owner-as : (j : ℕ) → j < temporals m → ownerAt m₁ j ≡ ownerAt m j
+  pub owner-as : (j : ℕ) → j < temporals m → ownerAt m₁ j ≡ ownerAt m j
   owner-as j h = let few = sound .book .temporal-few in alike .below (OWNERS + j) (omega arith)
 
   same-step : (renew : Renew) (st : State) (c : ℕ) (atoms : List ℕ) → stepOf m₁ renew st c atoms ≡ stepOf m renew st c atoms
@@ -480,7 +480,7 @@ module _ {m : List ℕ} {c : ℕ} {old m₁ modes₁ : List ℕ} (kept : Kept m)
   abbrev f₁ : ℕ → ℕ
   f₁ = valueAfter m (ownRenew (stateOf m)) (stateOf m) c old
 
-  first-alike : Alike m m₁
+  pub first-alike : Alike m m₁
   first-alike = rw (first .values) (alike-filled m VALUES f₁ (first .tried) (omega arith))
 
   pub first-sound : Sound m₁
@@ -489,7 +489,7 @@ module _ {m : List ℕ} {c : ℕ} {old m₁ modes₁ : List ℕ} (kept : Kept m)
   pub first-width : (bytes : List ℕ) → widthWord m ≤ length bytes → widthWord m₁ ≤ length bytes
   first-width bytes h = let e = first-alike .below 3 (omega arith) in omega arith
 
-  first-beyond : (i : ℕ) → VALUES + rowCount m ≤ i → getD m₁ i 0 ≡ getD m i 0
+  pub first-beyond : (i : ℕ) → VALUES + rowCount m ≤ i → getD m₁ i 0 ≡ getD m i 0
   first-beyond i h = let few = first .few in ap (λ (x : List ℕ). getD x i 0) (first .values) ∙ filledFrom-after VALUES f₁ m 0 (first .tried) i (omega arith)
 
   abbrev own-renew : Renew

@@ -2,5 +2,6 @@ pub mod Commits
 pub mod Heads
 pub mod Advances
 pub mod Resting
+pub mod Stood
 pub mod Quiet
 pub mod Public

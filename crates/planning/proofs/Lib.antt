@@ -6,3 +6,4 @@ pub mod Plans
 pub mod Joins
 pub mod Tries
 pub mod Looks
+pub mod Spared

@@ -1,9 +1,9 @@
--- Which rows a call looks at: those that it passes over keep their values, and those of a time call are no atoms. Assumes nothing.
+-- Which rows a step looks at: those that a time step passes over keep their values, and those at which it looks are no atoms. Assumes nothing.
 use Prim.Native.Nat.{ℕ, zero, suc, _+_, _*_, _≤_, _<_}
 use native.Mathlib.Omega.{arith}
 use mathlib.Core.Path.{_≡_, refl, sym, ap, _∙_}
 use mathlib.Core.Logic.{⊎-elim}
-use mathlib.Core.Bool.{Bool, true, false, _||_, true≢false}
+use mathlib.Core.Bool.{Bool, true, false, true≢false}
 use mathlib.Core.List.{List, map}
 use lib.ListN.{length, getD, set}
 use lib.Seq.{set-getD}
@@ -22,7 +22,7 @@ use Rattle.memory.specs.Kept.{Sound, Kept}
 use Rattle.memory.proofs.Rows.{rows-length, row-at, kept-ordered}
 use Rattle.book.specs.Rows.{rowFrom}
 use Rattle.memory.proofs.Bits.{bit-back}
-use Rattle.planning.specs.Plan.{atomsFor, snapOf, stepOf, renewOver, ahead, heldIn, setNext, valueNext, Named, valueAfter}
+use Rattle.planning.specs.Plan.{atomsFor, snapOf, stepOf, renewOver, ahead, heldIn, setNext, valueNext, Named, visited, valueAfter}
 use Rattle.planning.proofs.Plans.{Going}
 use Rattle.planning.proofs.Atoms.{old-atoms}
 
@@ -42,7 +42,7 @@ not-atom-from x y here f (suc (suc (suc (suc (suc (suc (suc (suc zero)))))))) ar
 not-atom-from x y here f (suc (suc (suc (suc (suc (suc (suc (suc (suc zero))))))))) arg lower upper os n = refl
 not-atom-from x y here f (suc (suc (suc (suc (suc (suc (suc (suc (suc (suc k)))))))))) arg lower upper os n = refl
 
-not-atom : (x y : List Bool) (here : Bool) (f : ℕ → Bool) (m : List ℕ) (r : ℕ) → (kindAt m r ≡ 2 → ⊥) → valueRule x here (mapRow f (rowOf m r)) ≡ valueRule y here (mapRow f (rowOf m r))
+pub not-atom : (x y : List Bool) (here : Bool) (f : ℕ → Bool) (m : List ℕ) (r : ℕ) → (kindAt m r ≡ 2 → ⊥) → valueRule x here (mapRow f (rowOf m r)) ≡ valueRule y here (mapRow f (rowOf m r))
 unfolding rowOf
 not-atom x y here f m r n = not-atom-from x y here f (kindAt m r) _ _ _ _ n
 
@@ -99,21 +99,27 @@ module _ {m : List ℕ} (sound : Sound m) where
     moving-kind : Kept m → isOne (movesAt m′ n) ≡ true → kindAt m′ n ≡ 2 → ⊥
     moving-kind kept e k = true≢false (sym (sym (moves-now kept) ∙ e) ∙ own-rule n h ∙ atom-still of-rows m n (sym kind-now ∙ k))
 
-    pub visited-named : (fresh : Bool) (bytes : List ℕ) → (fresh ≡ false → Kept m) → (fresh ≡ true → widthWord m ≤ length bytes) → (fresh || isOne (movesAt m′ n)) ≡ true → Named m′ bytes n
-    visited-named true bytes kept wide e =
+    -- a state has a byte for every atom
+    pub fresh-named : (bytes : List ℕ) → widthWord m ≤ length bytes → Named m′ bytes n
+    fresh-named bytes wide =
         let s = small in
         record {
           inside = λ k.
               let arg : argAt m′ n ≡ argAt m n = word-now (ROWS + ROW * n + 1) (omega arith) in
               let below = sound .book .rows n h .atoms (sym kind-now ∙ k) in
-              let l = wide refl in
               omega arith;
         }
-    visited-named false bytes kept wide e = record { inside = λ k. absurd (moving-kind (kept refl) e k) }
 
-    pub visited-same : (fresh : Bool) (bytes : List ℕ) → (fresh ≡ false → Kept m) → atoms ≡ atomsFor m fresh bytes → (fresh || isOne (movesAt m′ n)) ≡ true → valueNext m′ spans c modes bytes n ≡ valueNext m′ spans c modes atoms n
-    visited-same true bytes kept ea e = ap (λ (x : List ℕ). valueNext m′ spans c modes x n) (sym ea)
-    visited-same false bytes kept ea e = not-atom (map isOne bytes) (map isOne atoms) (has (setNext m′ spans c modes n) c) (heldIn m′) m′ n (moving-kind (kept refl) e)
+    module _ (changed : ℕ) where
+      pub visited-named : (fresh : Bool) (bytes : List ℕ) → (fresh ≡ false → Kept m) → (fresh ≡ true → widthWord m ≤ length bytes) → visited m′ bytes n fresh changed ≡ true → Named m′ bytes n
+      unfolding visited
+      visited-named true bytes kept wide e = fresh-named bytes (wide refl)
+      visited-named false bytes kept wide e = record { inside = λ k. absurd (moving-kind (kept refl) e k) }
+
+      pub visited-same : (fresh : Bool) (bytes : List ℕ) → (fresh ≡ false → Kept m) → atoms ≡ atomsFor m fresh bytes → visited m′ bytes n fresh changed ≡ true → valueNext m′ spans c modes bytes n ≡ valueNext m′ spans c modes atoms n
+      unfolding visited
+      visited-same true bytes kept ea e = ap (λ (x : List ℕ). valueNext m′ spans c modes x n) (sym ea)
+      visited-same false bytes kept ea e = not-atom (map isOne bytes) (map isOne atoms) (has (setNext m′ spans c modes n) c) (heldIn m′) m′ n (moving-kind (kept refl) e)
 
     -- one that is passed over keeps its value, and has no set
     module _ (kept : Kept m) (ea : atoms ≡ atomsOf m) (e : isOne (movesAt m′ n) ≡ false) where
@@ -144,7 +150,7 @@ module _ {m : List ℕ} (sound : Sound m) where
           absurd (omega arith))
           (lt-or-ge (ownerAt m j) n)
 
-      going-past : Going m spans modes₀ c atoms m′ modes (n + 1)
+      pub going-past : Going m spans modes₀ c atoms m′ modes (n + 1)
       going-past =
           record {
             few = omega arith;
@@ -154,14 +160,3 @@ module _ {m : List ℕ} (sound : Sound m) where
             room = λ j l p. g .room j l (not-owner j l p);
             rest = λ j l p. g .rest j l (omega arith);
           }
-
-    pub going-skip : (fresh : Bool) (bytes : List ℕ) → (fresh ≡ false → Kept m) → atoms ≡ atomsFor m fresh bytes → (fresh || isOne (movesAt m′ n)) ≡ false → Going m spans modes₀ c atoms m′ modes (n + 1)
-    going-skip true bytes kept ea e = absurd (true≢false e)
-    going-skip false bytes kept ea e = going-past (kept refl) ea e
-
--- ---- as the code decides it
-pub looks-all : {fresh : Bool} (moved : Bool) → fresh ≡ true → true ≡ (fresh || moved)
-looks-all moved e = sym (rw e)
-
-pub looks-moving : {fresh v moved : Bool} → fresh ≡ false → v ≡ moved → v ≡ (fresh || moved)
-looks-moving e ev = rw e ev

@@ -59,7 +59,7 @@ module _ (m : List ℕ) (kept : BookKept m) (renew : Renew) (st : State) (c : �
   sets-length = step-sets-by renew (rowsOf m) st (snapOf c atoms) ∙ rows-length m
 
   -- a row's new set, by its old one and its operands' new values
-  set-now : (r : ℕ) → r < rowCount m → setAt (stepOf m renew st c atoms) r ≡ setRuleBy renew c (setAt st r) (mapRow (value (rowsOf m) (stepOf m renew st c atoms)) (rowOf m r))
+  pub set-now : (r : ℕ) → r < rowCount m → setAt (stepOf m renew st c atoms) r ≡ setRuleBy renew c (setAt st r) (mapRow (value (rowsOf m) (stepOf m renew st c atoms)) (rowOf m r))
   set-now r h =
       set-fix-by (rowsOf m) (kept-ordered kept) renew st (snapOf c atoms) r
       ∙ ap (λ (row : Row ℕ). setRuleBy renew c (setAt st r) (mapRow (value (rowsOf m) (stepOf m renew st c atoms)) row)) (row-at m r h)
@@ -97,7 +97,7 @@ module _ (m : List ℕ) (kept : BookKept m) (renew : Renew) (st : State) (c : �
       fits-or false f = absurd (true≢false (sym (f refl) ∙ e))
 
   -- a row's new value, by its new set and its operands' new values
-  value-now : (r : ℕ) → r < rowCount m → value (rowsOf m) (stepOf m renew st c atoms) r ≡ valueRule (map isOne atoms) (has (setAt (stepOf m renew st c atoms) r) c) (mapRow (value (rowsOf m) (stepOf m renew st c atoms)) (rowOf m r))
+  pub value-now : (r : ℕ) → r < rowCount m → value (rowsOf m) (stepOf m renew st c atoms) r ≡ valueRule (map isOne atoms) (has (setAt (stepOf m renew st c atoms) r) c) (mapRow (value (rowsOf m) (stepOf m renew st c atoms)) (rowOf m r))
   value-now r h =
       value-fix (rowsOf m) (kept-ordered kept) (stepOf m renew st c atoms) r
       ∙ ap₂ (λ (s : Snap) (row : Row ℕ). valueRule (s .atoms) (has (setAt (stepOf m renew st c atoms) r) (s .clock)) (mapRow (value (rowsOf m) (stepOf m renew st c atoms)) row))
@@ -207,7 +207,7 @@ module _ {m : List ℕ} {spans : Bool} {modes₀ : List ℕ} {c : ℕ} {atoms : 
           ∙ ap (setRuleBy (renewOver m spans) c (setAt (ahead m c modes₀) n)) operands-right ∙ sym (set-now m (sound .book) (renewOver m spans) (ahead m c modes₀) c atoms n h))
           (lt-or-ge (kindAt m n) 7)
 
-      value-right : valueNext m′ spans c modes atoms n ≡ value (rowsOf m) (stepOf m (renewOver m spans) (ahead m c modes₀) c atoms) n
+      pub value-right : valueNext m′ spans c modes atoms n ≡ value (rowsOf m) (stepOf m (renewOver m spans) (ahead m c modes₀) c atoms) n
       value-right =
           ap₂ (λ (s : Runs) (row : Row ℕ). valueRule (map isOne atoms) (has s c) (mapRow (heldIn m′) row)) set-right row-now
           ∙ ap (valueRule (map isOne atoms) (has (setAt (stepOf m (renewOver m spans) (ahead m c modes₀) c atoms) n) c)) operands-right
@@ -223,7 +223,7 @@ module _ {m : List ℕ} {spans : Bool} {modes₀ : List ℕ} {c : ℕ} {atoms : 
           ∙ ap₂ (λ (s : Runs) (row : Row Bool). setRuleBy (renewOver m spans) c s row) (sym (ahead-at m c modes₀ n h)) operands-right
           ∙ sym (set-now m (sound .book) (renewOver m spans) (ahead m c modes₀) c atoms n h)
 
-      module _ {bytes m″ modes′ : List ℕ} {room : Bool} (same : valueNext m′ spans c modes bytes n ≡ valueNext m′ spans c modes atoms n) (t : RowTried m′ spans c bytes modes n m″ modes′ room) where
+      module _ {bytes m″ modes′ : List ℕ} {room turned : Bool} (same : valueNext m′ spans c modes bytes n ≡ valueNext m′ spans c modes atoms n) (t : RowTried m′ spans c bytes modes n m″ modes′ room turned) where
         fits-right : fits SET (setAt (stepOf m (renewOver m spans) (ahead m c modes₀) c atoms) n) ≡ room
         fits-right = sym (ap (fits SET) set-right) ∙ sym (t .room-is)
 

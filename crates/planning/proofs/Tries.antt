@@ -15,7 +15,7 @@ use Rattle.memory.specs.Layout.{SET, VALUES}
 use Rattle.memory.specs.Memory.{rowCount, kindAt, slotAt, rowOf, isOne}
 use Rattle.set_change.specs.Change.{spannedIf, bothOf}
 use Rattle.planning.specs.declared.RowPlan.{RowPlan}
-use Rattle.planning.specs.Plan.{renewOver, setAhead, Leading, heldIn, setNext, modeAt, modeNext, setAfter, rowPlan, modePut, RowTried, Timely, Slot}
+use Rattle.planning.specs.Plan.{renewOver, setAhead, Leading, heldIn, setNext, modeAt, modeNext, setAfter, rowPlan, modePut, turnedTo, RowTried, Timely, Slot}
 use Rattle.planning.proofs.Rules.{no-set, temporal-held}
 use Rattle.planning.proofs.Ahead.{rule-both}
 
@@ -28,13 +28,15 @@ module _ {m : List ℕ} {spans : Bool} {c : ℕ} (timely : Timely m c) (atoms : 
     no-next : setNext m spans c modes r ≡ []
     no-next = no-set (renewOver m spans) c (setAhead m c modes r) (heldIn m) m r low
 
-    pub tried-plain : {v : Bool} → v ≡ valueRule (map isOne atoms) false (mapRow (heldIn m) (rowOf m r)) → {m′ : List ℕ} → m′ ≡ set m (VALUES + r) (bitOf v) → RowTried m spans c atoms modes r m′ modes true
+    pub tried-plain : {v : Bool} → v ≡ valueRule (map isOne atoms) false (mapRow (heldIn m) (rowOf m r)) → {m′ : List ℕ} {turned : Bool} → (m′ ≡ set m (VALUES + r) (bitOf v)) × (turned ≡ turnedTo (heldIn m r) v) → RowTried m spans c atoms modes r m′ modes true turned
     unfolding has modePut
-    tried-plain ev em =
+    tried-plain ev put =
+        let is = ev ∙ sym (ap (λ (s : Runs). valueRule (map isOne atoms) (has s c) (mapRow (heldIn m) (rowOf m r))) no-next) in
         record {
           room-is = sym (ap (fits SET) no-next);
-          value-put = λ z. em ∙ ap (λ (b : Bool). set m (VALUES + r) (bitOf b)) (ev ∙ sym (ap (λ (s : Runs). valueRule (map isOne atoms) (has s c) (mapRow (heldIn m) (rowOf m r))) no-next));
+          value-put = λ z. put .0 ∙ ap (λ (b : Bool). set m (VALUES + r) (bitOf b)) is;
           mode-put = λ z. sym (rw (lt-leb 7 (kindAt m r) low));
+          turned-is = λ z. put .1 ∙ ap (turnedTo (heldIn m r)) is;
           none = λ z. absurd (true≢false z);
         }
 
@@ -64,19 +66,20 @@ module _ {m : List ℕ} {spans : Bool} {c : ℕ} (timely : Timely m c) (atoms : 
       here-right : plan .here ≡ has (setNext m spans c modes r) c
       here-right = ap (λ (p : RowPlan). p .here) ep ∙ sym (ap (λ (s : Runs). has s c) next-set)
 
-      pub tried-temporal : plan .room ≡ true → {v : Bool} → v ≡ cond (eqb kind 7) (not (plan .here)) (plan .here) → {m′ : List ℕ} → m′ ≡ set m (VALUES + r) (bitOf v) → RowTried m spans c atoms modes r m′ (set modes slot (plan .mode)) true
+      pub tried-temporal : plan .room ≡ true → {v : Bool} → v ≡ cond (eqb kind 7) (not (plan .here)) (plan .here) → {m′ : List ℕ} {turned : Bool} → (m′ ≡ set m (VALUES + r) (bitOf v)) × (turned ≡ turnedTo (heldIn m r) v) → RowTried m spans c atoms modes r m′ (set modes slot (plan .mode)) true turned
       unfolding modePut
-      tried-temporal e ev em =
+      tried-temporal e ev put =
           let row = timely .sound .book .rows r inside in
+          let is =
+          ev ∙ ap₂ (λ (k : ℕ) (b : Bool). cond (eqb k 7) (not b) b) ek here-right
+          ∙ sym (temporal-held (map isOne atoms) (has (setNext m spans c modes r) c) (heldIn m) m r high (row .kind)) in
           record {
             room-is = sym e ∙ room-right;
-            value-put = λ z.
-                em ∙ ap (λ (b : Bool). set m (VALUES + r) (bitOf b))
-                (ev ∙ ap₂ (λ (k : ℕ) (b : Bool). cond (eqb k 7) (not b) b) ek here-right
-                ∙ sym (temporal-held (map isOne atoms) (has (setNext m spans c modes r) c) (heldIn m) m r high (row .kind)));
+            value-put = λ z. put .0 ∙ ap (λ (b : Bool). set m (VALUES + r) (bitOf b)) is;
+            turned-is = λ z. put .1 ∙ ap (turnedTo (heldIn m r)) is;
             mode-put = λ z. ap₂ (λ (j k : ℕ). set modes j k) es (ap (λ (p : RowPlan). p .mode) ep) ∙ sym (rw (le-leb 7 (kindAt m r) high));
             none = λ z. absurd (true≢false z);
           }
 
-      pub tried-none : plan .room ≡ false → RowTried m spans c atoms modes r m modes false
-      tried-none e = record { room-is = sym e ∙ room-right; value-put = λ z. absurd (true≢false (sym z)); mode-put = λ z. absurd (true≢false (sym z)); none = λ z. refl }
+      pub tried-none : plan .room ≡ false → RowTried m spans c atoms modes r m modes false false
+      tried-none e = record { room-is = sym e ∙ room-right; value-put = λ z. absurd (true≢false (sym z)); mode-put = λ z. absurd (true≢false (sym z)); turned-is = λ z. absurd (true≢false (sym z)); none = λ z. refl }

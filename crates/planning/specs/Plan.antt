@@ -1,20 +1,21 @@
 -- Private steps of the calls: what a step plans, from the sets as the steps before it leave them. No public call cites these. Definitions only.
 use Prim.Native.Nat.{ℕ, _+_, _≤_, _<_, min}
 use mathlib.Core.Path.{_≡_}
-use mathlib.Core.Bool.{Bool, true, false, cond, not}
+use mathlib.Core.Bool.{Bool, true, false, cond, not, Bool·beq}
 use mathlib.Core.List.{List, [], map}
 use lib.ListN.{length, getD, set}
+use lib.Dec.{ltb, eqb}
 use Rattle.numbers.specs.Limits.{MAX, LAST-TIME, MOST-ROWS}
 use Rattle.lists.specs.Lists.{listed, filledFrom}
 use Rattle.numset.specs.Runs.{Runs, runs, has, fits}
 use Rattle.pmtl.specs.Answer.{bitOf}
 use Rattle.pmtl.specs.Book.{start, stop, mapRow}
 use Rattle.pmtl.specs.Sets.{Renew, ordinary, lasting, renewedIn, setRuleBy}
-use Rattle.pmtl.specs.Monitor.{Snap, State, setAt, valueRule, value, stepBy}
+use Rattle.pmtl.specs.Monitor.{Snap, State, setAt, valueRule, value, stepBy, stepIn}
 use Rattle.pmtl.specs.Calls.{crowded}
 use Rattle.book.specs.Rows.{temporal, ATOM, HISTORICALLY}
 use Rattle.memory.specs.Layout.{SET, VALUES, SIZE}
-use Rattle.memory.specs.Memory.{rowCount, rangeAt, clockOf, temporals, kindAt, argAt, lowerAt, upperAt, slotAt, ownerAt, slotWords, wayWord, atomsOf, valueAt, rowOf, rowsOf, stateOf, isOne}
+use Rattle.memory.specs.Memory.{rowCount, rangeAt, begunWord, clockOf, temporals, kindAt, argAt, lowerAt, upperAt, slotAt, ownerAt, slotWords, wayWord, atomsOf, valueAt, movesAt, lowestAt, rowOf, rowsOf, stateOf, isOne}
 use Rattle.memory.specs.Kept.{Sound}
 use Rattle.set_change.specs.Change.{changed, spannedIf, countedFrom, bothOf, modeIn}
 use Rattle.planning.specs.declared.RowPlan.{RowPlan}
@@ -101,12 +102,42 @@ pub record Unplanned (m modes : List ℕ) : Type 0 where
 pub record Leading (m modes : List ℕ) (spans : Bool) (r : ℕ) : Type 0 where
   pub none : spans ≡ true → HISTORICALLY ≤ kindAt m r → getD modes (slotAt m r) 0 ≡ 0
 
--- row r was tried: its set has room, and its value and mode are noted; or it lacks room, and nothing is
-pub record RowTried (m : List ℕ) (spans : Bool) (c : ℕ) (atoms modes : List ℕ) (r : ℕ) (m′ modes′ : List ℕ) (room : Bool) : Type 0 where
+-- a value that was turned into the other
+abbrev pub turnedTo : Bool → Bool → Bool
+turnedTo old new = not (Bool·beq old new)
+
+-- row r was tried: its set has room, its value and mode are noted, and it is known whether its value was turned; or it lacks room, and nothing is
+pub record RowTried (m : List ℕ) (spans : Bool) (c : ℕ) (atoms modes : List ℕ) (r : ℕ) (m′ modes′ : List ℕ) (room turned : Bool) : Type 0 where
   pub room-is : room ≡ fits SET (setNext m spans c modes r)
   pub value-put : room ≡ true → m′ ≡ set m (VALUES + r) (bitOf (valueNext m spans c modes atoms r))
   pub mode-put : room ≡ true → modes′ ≡ modePut m spans modes r
+  pub turned-is : room ≡ true → turned ≡ turnedTo (heldIn m r) (valueNext m spans c modes atoms r)
   pub none : room ≡ false → m′ ≡ m
+
+-- something is new to row r where the rows that were changed are below `changed`: to an atom its byte, to another row that one from the lowest below it on is
+unfoldable pub newTo : List ℕ → List ℕ → ℕ → ℕ → Bool
+newTo m bytes r changed = cond (eqb (kindAt m r) ATOM) (turnedTo (heldIn m r) (isOne (getD bytes (argAt m r) 0))) (ltb (lowestAt m r) changed)
+
+-- a step looks at row r
+unfoldable pub visited : List ℕ → List ℕ → ℕ → (fresh : Bool) → ℕ → Bool
+visited m bytes r fresh changed = cond fresh (newTo m bytes r changed) (isOne (movesAt m r))
+
+-- before the first accepted call all rows count as changed
+abbrev pub unmadeIn : List ℕ → ℕ
+unmadeIn m = cond (isOne (begunWord m)) 0 MOST-ROWS
+
+-- the words of the table of values are bits
+pub record Bits (m : List ℕ) : Type 0 where
+  pub right : (r : ℕ) → r < rowCount m → valueAt m r ≡ bitOf (heldIn m r)
+
+-- a step at clock c has gone before: the state that it left rests, its values stand in the table, and its sets are those that the modes leave
+pub record Stands (m : List ℕ) (c : ℕ) (modes : List ℕ) : Type 0 where
+  pub state : State
+  pub clock : state .now .clock ≡ c
+  pub values : (r : ℕ) → r < rowCount m → valueAt m r ≡ bitOf (value (rowsOf m) state r)
+  pub sets : (j : ℕ) → j < temporals m → setAfter m c (getD modes j 0) j ≡ setAt state (ownerAt m j)
+  pub room : (j : ℕ) → j < temporals m → fits SET (setAt state (ownerAt m j)) ≡ true
+  pub rests : stepIn (rowsOf m) state (state .now) ≡ state
 
 -- the value of each row after the step, as a word
 abbrev pub valueAfter : List ℕ → Renew → State → ℕ → List ℕ → ℕ → ℕ

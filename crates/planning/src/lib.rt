@@ -1,7 +1,7 @@
 // The plan of a step of a call: the rows from 0 upward get their new values in place, and how each set is to change is noted beside the
 // monitor. No set changes yet.
 ghost use mathlib.Core.Path.{_≡_};
-ghost use mathlib.Core.Bool.{true, false, cond, not, _||_};
+ghost use mathlib.Core.Bool.{true, false, cond, not};
 ghost use mathlib.Core.List.{map};
 ghost use Prim.Native.Nat.{_+_, _≤_, _<_};
 ghost use lib.ListN.{length, getD, set};
@@ -10,10 +10,11 @@ ghost use Rattle.pmtl.specs.Answer.{bitOf};
 ghost use Rattle.pmtl.specs.Book.{start, stop, mapRow};
 ghost use Rattle.pmtl.specs.Monitor.{valueRule};
 ghost use Rattle.memory.specs.Layout.{VALUES, SIZE};
-ghost use Rattle.memory.specs.Memory.{rowCount, widthWord, kindAt, movesAt, rangeAt, rowOf, isOne};
+ghost use Rattle.memory.specs.Memory.{rowCount, begunWord, widthWord, kindAt, rangeAt, rowOf, isOne};
+ghost use Rattle.memory.specs.Tables.{Founded};
 ghost use Rattle.memory.specs.Kept.{BookKept, Sound, Kept};
 ghost use Rattle.set_change.specs.Change.{spannedIf, bothOf};
-ghost use Rattle.planning.specs.Plan.{ahead, atomsFor, spansIn, renewOver, countsFrom, heldIn, Named, modeAt, rowPlan, Unplanned, Leading, RowTried, Bounded, Slot, Planned, Timely};
+ghost use Rattle.planning.specs.Plan.{ahead, atomsFor, spansIn, renewOver, countsFrom, heldIn, Named, modeAt, rowPlan, Unplanned, Leading, turnedTo, RowTried, newTo, visited, unmadeIn, Bits, Stands, Bounded, Slot, Planned, Timely};
 ghost use Rattle.book.specs.Rows.{HISTORICALLY};
 ghost use Rattle.numbers.specs.Limits.{LAST-TIME, MOST-ROWS, MOST-TEMPORALS};
 use book::AND;
@@ -30,6 +31,7 @@ use memory::holds;
 use memory::operand_at;
 use memory::set_at;
 use numbers::MAX;
+use numbers::MOST_ROWS;
 use tables::joined_at;
 
 // What is planned for a temporal row: the change of its set, whether the set will contain the clock, and whether there is room.
@@ -163,12 +165,20 @@ fn temporal_value(kind: u64, here: bool) -> bool
     if kind == HISTORICALLY { !here } else { here }
 }
 
-// Notes a row's new value.
-fn put_value(monitor: &mut [u64; SIZE], row: usize, value: bool)
+// Notes a row's new value. Whether it is another than before.
+fn put_value(monitor: &mut [u64; SIZE], row: usize, value: bool) -> bool
     requires { ⌜ (row < MOST-ROWS) × (length (now monitor) ≡ SIZE) ⌝ }
-    ensures { λ _. ⌜ now (monitor .exit) ≡ set (now (monitor .entry)) (VALUES + row) (bitOf value) ⌝ }
+    ensures { λ r. ⌜ (now (monitor .exit) ≡ set (now (monitor .entry)) (VALUES + row) (bitOf value)) × (r ≡ turnedTo (heldIn (now (monitor .entry)) row) value) ⌝ }
 {
+    let old = holds(monitor, row);
     monitor[VALUES + row] = lists::wide(pmtl::bit(value));
+    old != value
+}
+
+// What came of trying a row: whether its set has room, and whether its value is another than before.
+pub struct Trial {
+    pub room: bool,
+    pub turned: bool,
 }
 
 // Tries a row, where the values of the rows below it are new in the table: its own is noted, and if it is temporal its mode; but nothing
@@ -180,38 +190,63 @@ fn try_row(
     row: usize,
     modes: &mut [u8],
     spans: bool,
-) -> bool
+) -> Trial
     requires { ⌜ Timely (now monitor) clock ⌝ }
     requires { ⌜ (row < rowCount (now monitor)) × (length (now modes) ≡ MOST-TEMPORALS) × Named (now monitor) (now atoms) row × Leading (now monitor) (now modes) spans row ⌝ }
-    ensures { λ r. ⌜ RowTried (now (monitor .entry)) spans clock (now (atoms .entry)) (now (modes .entry)) row (now (monitor .exit)) (now (modes .exit)) r ⌝ }
+    ensures { λ r. ⌜ RowTried (now (monitor .entry)) spans clock (now (atoms .entry)) (now (modes .entry)) row (now (monitor .exit)) (now (modes .exit)) (r .room) (r .turned) ⌝ }
 {
     let kind = memory::kind_at(monitor, row);
     if kind < HISTORICALLY {
         let value = plain_value(monitor, atoms, row);
-        put_value(monitor, row, value);
-        return true;
+        let turned = put_value(monitor, row, value);
+        return Trial { room: true, turned };
     }
     let slot = memory::slot_at(monitor, row);
     let plan = plan_row(monitor, clock, slot, row, modes[slot], spans);
     let room = plan.room;
     if room {
         modes[slot] = plan.mode;
-        put_value(monitor, row, temporal_value(kind, plan.here));
-        return true;
+        let turned = put_value(monitor, row, temporal_value(kind, plan.here));
+        return Trial { room: true, turned };
     }
-    false
+    Trial {
+        room: false,
+        turned: false,
+    }
 }
 
-// Whether a call looks at a row. A state call looks at all, a time call at those that move with the clock: the others keep their values.
-fn visits(monitor: &[u64; SIZE], row: usize, fresh: bool) -> bool
-    requires { ⌜ row < MOST-ROWS ⌝ }
-    ensures { λ r. ⌜ r ≡ (fresh || isOne (movesAt (now (monitor .entry)) row)) ⌝ }
+// Whether a state says something new to a row: to an atom its byte, to another row that one of those below it was changed. The rows that
+// were changed are below `changed`, and those below a row are not below the lowest of them.
+fn is_new(monitor: &[u64; SIZE], atoms: &[u8], row: usize, changed: usize) -> bool
+    requires { ⌜ (row < MOST-ROWS) × Named (now monitor) (now atoms) row ⌝ }
+    ensures { λ r. ⌜ r ≡ newTo (now (monitor .entry)) (now (atoms .entry)) row changed ⌝ }
+{
+    if memory::kind_at(monitor, row) == ATOM {
+        return holds(monitor, row) != atom_at(atoms, memory::arg_at(monitor, row));
+    }
+    memory::lowest_at(monitor, row) < changed
+}
+
+// Whether a step looks at a row: one with fresh atoms at those to which it says something new, a time step at those that move with the
+// clock. The others keep their values.
+fn visits(monitor: &[u64; SIZE], atoms: &[u8], row: usize, fresh: bool, changed: usize) -> bool
+    requires { ⌜ (row < MOST-ROWS) × (fresh ≡ true → Named (now monitor) (now atoms) row) ⌝ }
+    ensures { λ r. ⌜ r ≡ visited (now (monitor .entry)) (now (atoms .entry)) row fresh changed ⌝ }
 {
     if fresh {
-        true
-    } else {
-        memory::moves_at(monitor, row)
+        return is_new(monitor, atoms, row, changed);
     }
+    memory::moves_at(monitor, row)
+}
+
+// How many rows count as changed from the start: all, where no call was accepted yet, since no step has brought the sets up to this clock.
+fn unmade(monitor: &[u64; SIZE]) -> usize
+    ensures { λ r. ⌜ r ≡ unmadeIn (now (monitor .entry)) ⌝ }
+{
+    if memory::begun(monitor) == 1 {
+        return 0;
+    }
+    MOST_ROWS
 }
 
 // Whether a step counts the whole stretch since the clock before: if a state lasts. A step with fresh atoms is made at a clock at which
@@ -237,15 +272,26 @@ pub fn plan_call(
 ) -> bool
     requires { ⌜ Sound (now monitor) × (clock ≤ LAST-TIME) × (fresh ≡ false → Kept (now monitor) × Unplanned (now monitor) (now modes)) ⌝ }
     requires { ⌜ (length (now modes) ≡ MOST-TEMPORALS) × (fresh ≡ true → widthWord (now monitor) ≤ length (now atoms)) ⌝ }
+    requires { ⌜ (fresh ≡ true → Founded (now monitor) × Bits (now monitor) × (begunWord (now monitor) ≡ 1 → Stands (now monitor) clock (now modes))) ⌝ }
     ensures { λ r. ⌜ Planned (now (monitor .entry)) (renewOver (now (monitor .entry)) (spansIn (now (monitor .entry)) fresh)) (ahead (now (monitor .entry)) clock (now (modes .entry))) clock (atomsFor (now (monitor .entry)) fresh (now (atoms .entry))) (now (monitor .exit)) r (now (modes .exit)) ⌝ }
 {
     let spans = counts_stretch(monitor, fresh);
     let count = memory::row_count(monitor);
+    let all = unmade(monitor);
+    let mut changed = all;
     let mut row = 0;
     while row < count {
-        if visits(monitor, row, fresh) {
-            if try_row(monitor, clock, atoms, row, modes, spans) {
-                row += 1;
+        if visits(monitor, atoms, row, fresh, changed) {
+            let tried = try_row(monitor, clock, atoms, row, modes, spans);
+            let room = tried.room;
+            if room {
+                let turned = tried.turned;
+                if turned {
+                    changed = row + 1 + all;
+                    row += 1;
+                } else {
+                    row += 1;
+                }
             } else {
                 return false;
             }

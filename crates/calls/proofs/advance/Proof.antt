@@ -1,6 +1,7 @@
 -- `calls::advance` meets its contract: the sets have room and are changed, or all is as it was. Assumes nothing.
 use Rattle.planning.specs.Plan.{atomsFor}
 use Rattle.calls.proofs.Advances.{planned-as, planned-from, planned-sound, fitting, tried-room, tried-full}
+use Rattle.calls.proofs.Stood.{bits-now, stands-now}
 use Rattle.planning.proofs.Ahead.{ahead-none, unplanned}
 use Rattle.numbers.specs.Limits.{MOST-TEMPORALS}
 use borrow.Author.Needs.{needs}
@@ -11,7 +12,7 @@ slice-aggregate-plan-call : tie.Need-slice-aggregate-plan-call
 slice-aggregate-plan-call c = search needs
 
 plan-call-requires : tie.Need-plan-call-requires
-plan-call-requires c κs = let s = (c .before .before .before) in ((s .pre .0 .0 .sound, s .pre .0 .1, λ z. (s .pre .0 .0, unplanned (s .args .monitor .now) MOST-TEMPORALS)), (search needs, λ z. s .pre .1 z .0))
+plan-call-requires c κs = let s = (c .before .before .before) in ((s .pre .0 .0 .sound, s .pre .0 .1, λ z. (s .pre .0 .0, unplanned (s .args .monitor .now) MOST-TEMPORALS)), ((search needs, λ z. s .pre .1 z .0), λ z. (s .pre .0 .0 .tables .founded, bits-now (s .pre .0 .0), stands-now (s .pre .0 .0) (s .pre .1 z .1) _ (unplanned (s .args .monitor .now) MOST-TEMPORALS))))
 
 commit-requires : tie.Need-commit-requires
 commit-requires c κs = let s = (c .before .before .before .before .before .before .before .before) in fitting (s .pre .0 .0 .sound) (s .pre .0 .1) (planned-as ((c .before .before) .if1 .taken) ((c .before .before .before .before) .plan-call .ensures))
