@@ -36,8 +36,9 @@ use Rattle.memory.proofs.Alike.{alike-on, alike-filled, alike-sound, alike-set,
 use Rattle.memory.proofs.Stepped.{Stepped, kept-step, step-book, rows-of-same, kind-same, slot-same, width-same, way-same, temporals-same, assumes-same, guarantees-same, property-same}
 use Rattle.row_answers.specs.Told.{earlyTold}
 use Rattle.row_answers.proofs.Told.{told-early, told-settled, early-same, settled-same}
-use Rattle.tables.specs.Puts.{valuesPut, toldPut, countPut, toldAgain, earlyPut, settledNow, settledPut}
+use Rattle.tables.specs.Puts.{valuesPut, toldPut, countPut, newsFrom, newsEnd, earlyPut, settledNow, settledPut, earlyRenewed, settledRenewed}
 use Rattle.tables.proofs.Puts.{few-properties, answer-same, told-told, told-still, told-and-asked, count-alike, count-ledger, count-counts, count-valued, count-told, count-moving, count-founded, count-answered, count-unused}
+use Rattle.tables.proofs.Reach.{news-asked}
 use Rattle.set_change.specs.Change.{changed, countedFrom}
 use Rattle.set_change.proofs.Changes.{changed-under}
 use Rattle.planning.specs.Plan.{snapOf, stepOf, ownRenew, renewOver, countsFrom, ahead, setAfter, valueAfter, Planned}
@@ -405,14 +406,22 @@ module _ {m : List ℕ} {st : State} {c : ℕ} {atoms m₁ : List ℕ} {r : ℕ}
 
 -- ---- what is due, once it was told and asked
 module _ {m : List ℕ} {first : Bool} (due : Due m first) where
-  -- something new was told, or it is the first accepted call
+  -- at the first accepted call, after which every property is asked
   pub renewed-asked : {m₁ m₂ : List ℕ} → m₁ ≡ countPut (toldPut m) → m₂ ≡ settledPut (earlyPut m₁) → Alike m m₂ × Tables m₂ × SameLedger m m₂
   renewed-asked e₁ e₂ = told-and-asked (due .sound) (due .valued) (due .moving) (due .founded) (due .unused) (e₂ ∙ ap (λ (x : List ℕ). settledPut (earlyPut x)) e₁)
 
+  -- something new was told: the digits of the properties above it are asked for, and the others stand there
+  pub renewed-above : first ≡ false → {m₁ m₂ : List ℕ} {from up-to : ℕ} → m₁ ≡ countPut (toldPut m) → from ≡ newsFrom m (temporals m) → up-to ≡ newsEnd m (temporals m)
+      → m₂ ≡ settledRenewed (earlyRenewed m₁ from up-to) from up-to → Alike m m₂ × Tables m₂ × SameLedger m m₂
+  renewed-above not-first {m₁} {m₂} {from} {up-to} e₁ ef eu e₂ =
+      let asked = news-asked (due .sound) (due .founded) (due .asked .early) (due .asked .settled not-first) in
+      let all : m₂ ≡ settledPut (earlyPut (countPut (toldPut m))) = rw (e₂, e₁, ef, eu) asked in
+      told-and-asked (due .sound) (due .valued) (due .moving) (due .founded) (due .unused) all
+
   -- nothing new but the count: the digits are those that stand there
-  pub renewed-still : {m₁ : List ℕ} → m₁ ≡ countPut (toldPut m) → toldAgain m (temporals m) ≡ true → first ≡ false → Alike m m₁ × Tables m₁ × SameLedger m m₁
-  renewed-still e₁ again not-first =
-      let still = told-still m (temporals m) again in
+  pub renewed-still : {m₁ : List ℕ} → m₁ ≡ countPut (toldPut m) → newsEnd m (temporals m) ≡ 0 → first ≡ false → Alike m m₁ × Tables m₁ × SameLedger m m₁
+  renewed-still e₁ none not-first =
+      let still = told-still m (temporals m) none in
       let sound = due .sound in
       let told : Told m = subst Told still (told-told sound) in
       let answered : Answered m = record {

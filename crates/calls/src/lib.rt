@@ -144,21 +144,21 @@ fn advance_both(monitor: &mut [u64; SIZE], clock: u64, state: &[u8]) -> u64
     NO_ROOM
 }
 
-// After an accepted call the rows are told anew what is so of their sets. Only if that is something new, or at the first such call, are
-// the properties asked again.
+// After an accepted call the rows are told anew what is so of their sets. Only the properties above a row that was told something new
+// are asked again; at the first such call all are.
 fn ask_anew(monitor: &mut [u64; SIZE], first: bool)
     requires { ⌜ Due (now monitor) first ⌝ }
     ensures { λ _. ⌜ Alike (now (monitor .entry)) (now (monitor .exit)) × Tables (now (monitor .exit)) × SameLedger (now (monitor .entry)) (now (monitor .exit)) ⌝ }
 {
+    let news = tables::retell(monitor);
     if first {
-        tables::retell(monitor);
-        tables::ask(monitor);
+        tables::ask_all(monitor);
         return;
     }
-    if tables::retell(monitor) {
+    if news.end == 0 {
         return;
     }
-    tables::ask(monitor);
+    tables::ask(monitor, news.first, news.end);
 }
 
 // After an accepted call: the answers, and up to when a time call moves the clock alone.
