@@ -41,6 +41,9 @@ const LINE_FEED: u8 = b'\n';
 // A bit's word and the byte before it.
 const BIT_BYTES: usize = 2;
 
+// So many words the compiler takes at a time. Of a state that has fewer, one word after the other is read sooner.
+const NARROW: usize = 8;
+
 // What was read: the words stand in the memory up to a place, and the next word is looked for from another in the text; or
 // the number that ends the reading.
 pub enum Part {
@@ -192,11 +195,14 @@ fn bits_into(input: &[u8], cursor: usize, count: usize, bytes: &mut [u8]) -> usi
     0
 }
 
-// The same from any place on: none where the text may be too short for all, or no byte parts words there.
+// The same from any place on: none if the state is narrow, the text may be too short for all, or no byte parts words there.
 fn bits(input: &[u8], cursor: usize, count: usize, bytes: &mut [u8]) -> usize
     requires { ⌜ count ≤ length (now bytes) ⌝ }
     ensures { λ r. ⌜ BitsTook (now (input .entry)) cursor count (now (bytes .exit)) r ⌝ }
 {
+    if count < NARROW {
+        return 0;
+    }
     if cursor < input.len() {
         if count < (input.len() - cursor) / BIT_BYTES {
             if text::parts(input[cursor]) {
