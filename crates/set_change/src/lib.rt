@@ -78,16 +78,27 @@ fn both(first: u8, second: u8) -> u8
     second
 }
 
-// The change that a step makes of a set which the steps before it in the same call are to change as `before` says. Where it counts a
-// stretch of instants it is the first of its call: no time passes after it.
+// The same change, where a step counts a stretch of instants or the clock alone.
+fn counted(mode: u8, spans: bool) -> u8
+    ensures { λ r. ⌜ r ≡ spannedIf spans mode ⌝ }
+{
+    if spans {
+        return spanning(mode);
+    }
+    mode
+}
+
+// The change that a step makes of a set which the steps before it in the same call are to change as `before` says. Mostly none came
+// before, which is seen first. Where it counts a stretch of instants it is the first of its call: no time passes after it.
 pub fn next(before: u8, mode: u8, spans: bool) -> u8
     ensures { λ r. ⌜ r ≡ spannedIf spans (bothOf before mode) ⌝ }
 {
-    let joined = both(before, mode);
-    if spans {
-        return spanning(joined);
+    if before == STAYS {
+        if mode < STAYS_AND_SPANS {
+            return counted(mode, spans);
+        }
     }
-    joined
+    counted(both(before, mode), spans)
 }
 
 fn inside(lower: u64, upper: u64, t: u64) -> bool

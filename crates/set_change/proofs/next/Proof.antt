@@ -1,20 +1,24 @@
 -- `set_change::next` meets its contract: as one, and with the stretch where one is counted. Assumes nothing.
-use Rattle.set_change.proofs.AsOne.{next-spans, next-counts}
+use Rattle.set_change.proofs.AsOne.{next-first, next-joined}
 use borrow.Author.Needs.{needs}
 use Rattle.set_change.proofs.next.Statement.{statement}
 use Rattle.set_change.proofs.next.Tie as tie
 
+counted-requires : tie.Need-counted-requires
+counted-requires c κs = search needs
+
+returns : tie.Need-returns
+returns c = let s = c .before .before .before in next-first (s .args .spans) _ _ (c .counted .ensures) (c .before .before .if1 .taken) (c .before .if2 .taken)
+
 both-requires : tie.Need-both-requires
 both-requires c κs = search needs
 
-spanning-requires : tie.Need-spanning-requires
-spanning-requires c κs = search needs
-
-returns : tie.Need-returns
-returns c = next-spans (c .before .before .both .ensures) (c .before .if1 .taken) (c .spanning .ensures)
+counted-requires-2 : tie.Need-counted-requires-2
+counted-requires-2 c κs = search needs
 
 returns-2 : tie.Need-returns-2
-returns-2 c = next-counts (c .before .both .ensures) (c .if1 .left)
+returns-2 c = let s = c .before .before .before in next-joined (s .args .spans) (c .counted2 .ensures) (c .before .both .ensures)
 
 pub next-spec : {M : Type 1} → statement M
-next-spec = tie.close (tie.spec both-requires spanning-requires returns returns-2)
+next-spec =
+    tie.close (tie.spec counted-requires returns both-requires counted-requires-2 returns-2)
