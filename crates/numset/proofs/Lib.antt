@@ -8,6 +8,7 @@ pub mod Looking
 pub mod Moves
 pub mod Kept
 pub mod Oldest
+pub mod Ahead
 pub mod Walk
 pub mod Place
 pub mod Newest

@@ -153,9 +153,12 @@ fn plan_row(
     }
     let start = start_of(monitor, clock, row, mode);
     let stop = stop_of(monitor, clock, row);
-    let room = set_change::room_for(set, mode, start, stop, clock);
-    let here = set_change::will_have(set, mode, start, stop, clock);
-    RowPlan { mode, here, room }
+    let ahead = set_change::look_ahead(set, mode, start, stop, clock);
+    RowPlan {
+        mode,
+        here: ahead.here,
+        room: ahead.room,
+    }
 }
 
 // A temporal row's value: Historically holds where nothing in the set says otherwise.

@@ -12,7 +12,7 @@ use Rattle.lists.proofs.Tests.{lt-or-ge}
 use Rattle.numset.proofs.Union.{union-has, union-under, union-none, union-some}
 use Rattle.numset.proofs.Words.{length-runs}
 use Rattle.numset.proofs.Packs.{length-pack, runs-pack}
-use Rattle.numset.proofs.Kept.{kept-under, kept-canonical, kept-has, kept-length}
+use Rattle.numset.proofs.Kept.{kept-under, kept-has, kept-length}
 use Rattle.numset.proofs.Changes.{added-words}
 use Rattle.pmtl.specs.Book.{Range, start, stop, Row}
 use Rattle.pmtl.specs.Book.Row.{historically, once, since}
@@ -116,6 +116,9 @@ room-else {m} (suc (suc zero)) l u c g h f = sym (lt-ltb 0 (length m) (omega ari
 room-else {m} (suc (suc (suc zero))) l u c g h f = sym (lt-ltb _ (length m) (omega (arith, one-run l u)))
 room-else {m} (suc (suc (suc (suc k)))) l u c g h f = absurd (true≢false f)
 
+pub room-grown : (m : List ℕ) (k l u c : ℕ) {b : Bool} → b ≡ fits (length m) (union l u (kept c (runs m))) → growing k ≡ true → b ≡ fits (length m) (changed k l u c (runs m))
+room-grown m k l u c e q = e ∙ sym (ap (λ (s : Runs). fits (length m) s) (changed-1 l u c (runs m) k q))
+
 -- a change keeps runs in order
 pub changed-under : (top k l u c : ℕ) (rs : Runs) → Under top rs → u + 1 < top → Under top (changed k l u c rs)
 unfolding changed Under
@@ -125,7 +128,7 @@ changed-under top (suc (suc zero)) l u c rs w f = tt
 changed-under top (suc (suc (suc zero))) l u c rs w f = union-under top l u [] tt f
 changed-under top (suc (suc (suc (suc k)))) l u c rs w f = union-under top l u (kept c rs) (kept-under c top rs w) f
 
--- ---- `will_have`, arm by arm
+-- ---- `look_ahead`, arm by arm
 none-has : (l u t : ℕ) → has (union l u []) t ≡ within l u t
 unfolding has Canonical
 none-has l u t = union-has l u [] t tt ∙ or-false (within l u t)
@@ -135,17 +138,11 @@ module _ (k l u c : ℕ) (rs : Runs) where
   here-same : has (kept c rs) c ≡ has rs c
   here-same = kept-has c c rs (omega arith)
 
-  added-has : Canonical rs → growing k ≡ true → has (changed k l u c rs) c ≡ within l u c || has rs c
-  added-has w q = ap (λ (s : Runs). has s c) (changed-1 l u c rs k q) ∙ union-has l u (kept c rs) c (kept-canonical c rs w) ∙ rw here-same
-
   pub will-0 : {b : Bool} → b ≡ has rs c → k ≡ 0 → b ≡ has (changed k l u c rs) c
   will-0 e q = e ∙ sym (ap (λ (s : Runs). has s c) (changed-0 l u c rs k q) ∙ here-same)
 
-  pub will-in : {b : Bool} → b ≡ within l u c → b ≡ true → Canonical rs → growing k ≡ true → true ≡ has (changed k l u c rs) c
-  will-in e y w q = sym (added-has w q ∙ rw (← e, y))
-
-  pub will-out : {b d : Bool} → b ≡ within l u c → b ≡ false → d ≡ has rs c → Canonical rs → growing k ≡ true → d ≡ has (changed k l u c rs) c
-  will-out e y f w q = f ∙ sym (added-has w q ∙ rw (← e, y))
+  pub will-1 : {b : Bool} → b ≡ has (union l u (kept c rs)) c → growing k ≡ true → b ≡ has (changed k l u c rs) c
+  will-1 e q = e ∙ sym (ap (λ (s : Runs). has s c) (changed-1 l u c rs k q))
 
   pub will-2 : k ≡ 2 → false ≡ has (changed k l u c rs) c
   unfolding has

@@ -1,12 +1,13 @@
-// What a call does to one set: which change, whether there is room for it, whether the set will then hold the clock, and the
-// change itself. Whoever plans asks the first three, reading only. Whatever the change, runs that end before the clock that
+// What a call does to one set: which change, whether the set will then hold the clock and whether there is room for it, and the
+// change itself. Whoever plans asks the first two, reading only. Whatever the change, runs that end before the clock that
 // the call leaves are dropped first.
 ghost use mathlib.Core.Path.{_≡_};
 ghost use mathlib.Core.Bool.{true};
 ghost use Prim.Native.Nat.{_<_};
 ghost use lib.ListN.{length};
-ghost use Rattle.numset.specs.Runs.{Good, runs, has, fits, pack, within};
+ghost use Rattle.numset.specs.Runs.{Good, runs, has, fits, pack};
 ghost use Rattle.set_change.specs.Change.{modeOf, changed, growing, spanned, spannedIf, adding, bothOf};
+use numset::Outlook;
 
 // The changes: the set stays, or is dropped; the range is added, or is not. To a set that stays the ranges of a stretch of instants
 // may be added, as one interval.
@@ -101,42 +102,27 @@ pub fn next(before: u8, mode: u8, spans: bool) -> u8
     counted(both(before, mode), spans)
 }
 
-fn inside(lower: u64, upper: u64, t: u64) -> bool
-    ensures { λ r. ⌜ r ≡ within lower upper t ⌝ }
-{
-    if lower <= t {
-        return t <= upper;
-    }
-    false
-}
-
-// Whether there is room for the change: only a set that stays can grow past its words.
-pub fn room_for(set: &[u64], mode: u8, lower: u64, upper: u64, clock: u64) -> bool
+// What will become of the set: whether it will contain the clock, and whether there is room for the change. No run that holds the clock
+// is dropped for its age; and only a set that stays can grow past its words.
+pub fn look_ahead(set: &[u64], mode: u8, lower: u64, upper: u64, clock: u64) -> Outlook
     requires { ⌜ Good (now set) ⌝ }
     requires { ⌜ 2 < length (now set) ⌝ }
-    ensures { λ r. ⌜ r ≡ fits (length (now (set .entry))) (changed mode lower upper clock (runs (now (set .entry)))) ⌝ }
-{
-    if grows(mode) {
-        return numset::will_have_room(set, clock, lower, upper);
-    }
-    true
-}
-
-// Whether the set will contain the clock. No run that holds it is dropped for its age, so the set is asked as it is.
-pub fn will_have(set: &[u64], mode: u8, lower: u64, upper: u64, clock: u64) -> bool
-    requires { ⌜ Good (now set) ⌝ }
-    ensures { λ r. ⌜ r ≡ has (changed mode lower upper clock (runs (now (set .entry)))) clock ⌝ }
+    ensures { λ r. ⌜ (r .here ≡ has (changed mode lower upper clock (runs (now (set .entry)))) clock) × (r .room ≡ fits (length (now (set .entry))) (changed mode lower upper clock (runs (now (set .entry))))) ⌝ }
 {
     match mode {
-        STAYS => numset::contains_from_oldest(set, clock),
-        DROPPED => false,
-        DROPPED_AND_ADDS => inside(lower, upper, clock),
-        _ => {
-            if inside(lower, upper, clock) {
-                return true;
-            }
-            numset::contains_from_oldest(set, clock)
+        STAYS => {
+            let here = numset::contains_from_oldest(set, clock);
+            Outlook { here, room: true }
         }
+        DROPPED => Outlook {
+            here: false,
+            room: true,
+        },
+        DROPPED_AND_ADDS => {
+            let here = numset::inside(lower, upper, clock);
+            Outlook { here, room: true }
+        }
+        _ => numset::look_ahead(set, clock, lower, upper),
     }
 }
 

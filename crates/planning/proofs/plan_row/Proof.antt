@@ -28,14 +28,11 @@ start-of-requires c κs = slot-bounded ((c .before .before .before .before) .pre
 stop-of-requires : tie.Need-stop-of-requires
 stop-of-requires c κs = slot-bounded ((c .before .before .before .before .before) .pre)
 
-room-for-requires : tie.Need-room-for-requires
-room-for-requires c κs = let p = (c .before .before .before .before .before .before) .pre in (slot-good p ((c .before .before .before) .set-at .ensures), slot-long p ((c .before .before .before) .set-at .ensures))
-
-will-have-requires : tie.Need-will-have-requires
-will-have-requires c κs = slot-good ((c .before .before .before .before .before .before .before) .pre) ((c .before .before .before .before) .set-at .ensures)
+look-ahead-requires : tie.Need-look-ahead-requires
+look-ahead-requires c κs = let p = (c .before .before .before .before .before .before) .pre in (slot-good p ((c .before .before .before) .set-at .ensures), slot-long p ((c .before .before .before) .set-at .ensures))
 
 returns-2 : tie.Need-returns-2
-returns-2 c = let s = (c .before .before .before .before .before .before .before .before) in plan-made (s .pre) ((c .before .before .before .before .before) .set-at .ensures) ((c .before .before .before) .start-of .ensures) ((c .before .before) .stop-of .ensures) ((c .before) .room-for .ensures) (c .will-have .ensures) ((c .before .before .before .before .before .before) .next .ensures ∙ ap (λ (k : ℕ). spannedIf (s .args .spans) (bothOf (s .args .before) k)) ((c .before .before .before .before .before .before .before) .mode-of .ensures))
+returns-2 c = let s = (c .before .before .before .before .before .before .before) in plan-made (s .pre) ((c .before .before .before .before) .set-at .ensures) ((c .before .before) .start-of .ensures) ((c .before) .stop-of .ensures) (c .look-ahead .ensures .1) (c .look-ahead .ensures .0) ((c .before .before .before .before .before) .next .ensures ∙ ap (λ (k : ℕ). spannedIf (s .args .spans) (bothOf (s .args .before) k)) ((c .before .before .before .before .before .before) .mode-of .ensures))
 
 pub plan-row-spec : {M : Type 1} → statement M
 plan-row-spec =
@@ -48,6 +45,5 @@ plan-row-spec =
     returns
     start-of-requires
     stop-of-requires
-    room-for-requires
-    will-have-requires
+    look-ahead-requires
     returns-2)

@@ -1,8 +1,9 @@
--- `change::inside` meets its contract. Assumes nothing.
+-- `numset::inside` meets its contract. Assumes nothing.
 use borrow.Author.Tests.{le-leb, lt-leb}
 use mathlib.Core.Path.{sym}
-use Rattle.set_change.proofs.inside.Statement.{statement}
-use Rattle.set_change.proofs.inside.Tie as tie
+use borrow.Author.Needs.{needs}
+use Rattle.numset.proofs.inside.Statement.{statement}
+use Rattle.numset.proofs.inside.Tie as tie
 
 returns : tie.Need-returns
 returns c = sym (rw (le-leb _ _ (c .if1 .taken)))
