@@ -236,7 +236,7 @@ module _ {m : List ℕ} {t k : ℕ} (w : Lapsed m t k) (g : Good m) where
     runs-left : runs m′ ≡ kept t (runs m)
     runs-left = ap (runsTo m′) (z .count) ∙ kept-moved w z (getD m 0 0 - k) (getD m 0 0) (omega (arith, w .few)) (omega arith)
 
-    good-left : Good m′
+    pub good-left : Good m′
     good-left =
         record {
           room = rw (z .count, e) (let r = g .room in omega arith);

@@ -12,6 +12,7 @@ pub mod Ahead
 pub mod Walk
 pub mod Place
 pub mod Newest
+pub mod Rolls
 pub mod Last
 pub mod Changes
 pub mod Resets

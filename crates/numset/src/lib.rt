@@ -9,9 +9,9 @@ ghost use mathlib.Core.List.{[]};
 ghost use mathlib.Core.Logic.{_↔_};
 ghost use Prim.Native.Nat.{_+_, _*_, _-_, _<_, _≤_, min, max};
 ghost use lib.ListN.{length, getD, replicate};
-ghost use Rattle.numset.specs.Runs.{Good, Covers, emptyNumber, runs, within, has, lo, hi, kept, union, fits, pack, addNumber, addWords, addCount, setToNumber, setToWords};
+ghost use Rattle.numset.specs.Runs.{Good, Covers, emptyNumber, runs, within, has, lo, hi, kept, union, fits, pack, keptWords, addNumber, addWords, addCount, setToNumber, setToWords};
 ghost use Rattle.numset.specs.Until.{restsUntil};
-ghost use Rattle.numset.specs.Private.{Shifted, Cleared, Replaced, Ended, Spanned, oldestLapsed, Lapsed, Dropped, takesIn, withRun};
+ghost use Rattle.numset.specs.Private.{Shifted, Cleared, Replaced, Ended, Spanned, oldestLapsed, oneLapsed, Lapsed, Dropped, takesIn, followsNewest, withRun};
 
 mod by_value; // by_value.rt: a set of 64 runs by value
 
@@ -480,6 +480,51 @@ pub fn drop_before(set: &mut [u64], t: u64)
     }
 }
 
+// Whether of two runs or more the oldest alone ends before `t`.
+fn one_lapsed(set: &[u64], t: u64) -> bool
+    requires { ⌜ Good (now set) ⌝ }
+    ensures { λ r. ⌜ r ≡ oneLapsed (now (set .entry)) t ⌝ }
+{
+    if set[0] <= 1 {
+        return false;
+    }
+    if t <= upper_at(set, 0) {
+        return false;
+    }
+    t <= upper_at(set, 1)
+}
+
+// Whether `lower ..= upper` is not empty, and begins past the newest run and what is next to it.
+fn follows_newest(set: &[u64], lower: u64, upper: u64) -> bool
+    requires { ⌜ Good (now set) ⌝ }
+    requires { ⌜ 0 < getD (now set) 0 0 ⌝ }
+    ensures { λ r. ⌜ r ≡ followsNewest (now (set .entry)) lower upper ⌝ }
+{
+    if upper < lower {
+        return false;
+    }
+    let n = set[0] as usize;
+    ADJACENT < gap(upper_at(set, n - 1), lower)
+}
+
+// Drops the runs that end before `t`, and then adds `lower ..= upper`, with the number of that. Where a clock moves on, it often ends one
+// run and adds one: then the others move over the one, and the other takes the place that they leave.
+pub fn drop_and_add(set: &mut [u64], t: u64, lower: u64, upper: u64) -> u64
+    requires { ⌜ Good (now set) ⌝ }
+    ensures { λ r. ⌜ (r ≡ addNumber (keptWords t (now (set .entry))) lower upper) × (now (set .exit) ≡ addWords (keptWords t (now (set .entry))) lower upper) ⌝ }
+{
+    if one_lapsed(set, t) {
+        if follows_newest(set, lower, upper) {
+            let n = set[0] as usize;
+            move_down(set, SECOND, 1, 2 * (n - 1));
+            store(set, n - 1, lower, upper, n);
+            return ACCEPTED;
+        }
+    }
+    drop_before(set, t);
+    join_in(set, lower, upper)
+}
+
 // Whether there is room to add `lower ..= upper` once the runs that end before `t` are dropped: one that is dropped makes it.
 pub fn will_have_room(set: &[u64], t: u64, lower: u64, upper: u64) -> bool
     requires { ⌜ Good (now set) ⌝ }
@@ -554,7 +599,7 @@ pub fn set_to(set: &mut [u64], lower: u64, upper: u64) -> u64
         return NO_ROOM;
     }
     clear(set);
-    join_in(set, lower, upper)
+    put(set, lower, upper)
 }
 
 // Makes any words the empty set. Where there is no word, not even for the number of runs, there is no set either.

@@ -171,9 +171,13 @@ module _ (first : ℕ) where
   both-2 (suc (suc (suc zero))) m e f = refl
   both-2 (suc (suc (suc (suc k)))) m e f = absurd (clash e f)
 
--- of which the first is mostly none
-pub next-first : (spans : Bool) (first second : ℕ) {k : ℕ} → k ≡ spannedIf spans second → first ≡ 0 → second < 4 → k ≡ spannedIf spans (bothOf first second)
-next-first spans first second e z h = e ∙ ap (λ (j : ℕ). spannedIf spans j) (sym (ap (λ (j : ℕ). bothOf j second) z ∙ stays-both second h))
+-- where no step came before, the second is both
+pub both-alone : (first second : ℕ) → first ≡ 0 → second < 4 → second ≡ bothOf first second
+both-alone first second z h = sym (ap (λ (j : ℕ). bothOf j second) z ∙ stays-both second h)
 
-pub next-joined : (spans : Bool) {k joined wanted : ℕ} → k ≡ spannedIf spans joined → joined ≡ wanted → k ≡ spannedIf spans wanted
-next-joined spans e h = e ∙ ap (λ (j : ℕ). spannedIf spans j) h
+module _ {spans : Bool} {joined wanted : ℕ} (e : joined ≡ wanted) where
+  pub next-spans : spans ≡ true → {k : ℕ} → k ≡ spanned joined → k ≡ spannedIf spans wanted
+  next-spans t ek = rw t (ek ∙ ap (λ (j : ℕ). spanned j) e)
+
+  pub next-counts : spans ≡ false → joined ≡ spannedIf spans wanted
+  next-counts f = rw f e

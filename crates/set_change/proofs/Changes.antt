@@ -2,7 +2,7 @@
 use Prim.Native.Nat.{ℕ, zero, suc, _+_, _*_, _≤_, _<_, min}
 use mathlib.Core.Path.{_≡_, refl, sym, ap, _∙_}
 use mathlib.Core.Logic.{⊎-elim}
-use mathlib.Core.Bool.{Bool, true, false, cond, not, _||_, or-false, true≢false}
+use mathlib.Core.Bool.{Bool, true, false, cond, not, or-false, true≢false}
 use mathlib.Core.List.{List, []}
 use native.Mathlib.Omega.{arith}
 use lib.ListN.{length, getD}
@@ -90,14 +90,6 @@ grows-rest (suc zero) x y z = refl
 grows-rest (suc (suc zero)) x y z = absurd (y refl)
 grows-rest (suc (suc (suc zero))) x y z = absurd (z refl)
 grows-rest (suc (suc (suc (suc k)))) x y z = refl
-
--- and one that is left when the set is not to stay, nor to be dropped
-pub drops-rest : (k : ℕ) → (k ≡ 0 → ⊥) → growing k ≡ false → (k ≡ 2 → ⊥) → k ≡ 3
-drops-rest zero x f y = absurd (x refl)
-drops-rest (suc zero) x f y = absurd (true≢false f)
-drops-rest (suc (suc zero)) x f y = absurd (y refl)
-drops-rest (suc (suc (suc zero))) x f y = refl
-drops-rest (suc (suc (suc (suc k)))) x f y = absurd (true≢false f)
 
 -- ---- room
 one-run : (l u : ℕ) → length (union l u []) ≤ 1

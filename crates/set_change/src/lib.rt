@@ -79,16 +79,6 @@ fn both(first: u8, second: u8) -> u8
     second
 }
 
-// The same change, where a step counts a stretch of instants or the clock alone.
-fn counted(mode: u8, spans: bool) -> u8
-    ensures { λ r. ⌜ r ≡ spannedIf spans mode ⌝ }
-{
-    if spans {
-        return spanning(mode);
-    }
-    mode
-}
-
 // The change that a step makes of a set which the steps before it in the same call are to change as `before` says. Mostly none came
 // before, which is seen first. Where it counts a stretch of instants it is the first of its call: no time passes after it.
 pub fn next(before: u8, mode: u8, spans: bool) -> u8
@@ -96,10 +86,17 @@ pub fn next(before: u8, mode: u8, spans: bool) -> u8
 {
     if before == STAYS {
         if mode < STAYS_AND_SPANS {
-            return counted(mode, spans);
+            if spans {
+                return spanning(mode);
+            }
+            return mode;
         }
     }
-    counted(both(before, mode), spans)
+    let joined = both(before, mode);
+    if spans {
+        return spanning(joined);
+    }
+    joined
 }
 
 // What will become of the set: whether it will contain the clock, and whether there is room for the change. No run that holds the clock
@@ -132,18 +129,14 @@ pub fn change(set: &mut [u64], mode: u8, lower: u64, upper: u64, clock: u64)
     requires { ⌜ fits (length (now set)) (changed mode lower upper clock (runs (now set))) ≡ true ⌝ }
     ensures { λ _. ⌜ now (set .exit) ≡ pack (length (now (set .entry))) (changed mode lower upper clock (runs (now (set .entry)))) ⌝ }
 {
-    if mode == STAYS {
-        numset::drop_before(set, clock);
-        return;
+    match mode {
+        STAYS => numset::drop_before(set, clock),
+        DROPPED => numset::clear(set),
+        DROPPED_AND_ADDS => {
+            numset::set_to(set, lower, upper);
+        }
+        _ => {
+            numset::drop_and_add(set, clock, lower, upper);
+        }
     }
-    if grows(mode) {
-        numset::drop_before(set, clock);
-        numset::add(set, lower, upper);
-        return;
-    }
-    if mode == DROPPED {
-        numset::clear(set);
-        return;
-    }
-    numset::set_to(set, lower, upper);
 }

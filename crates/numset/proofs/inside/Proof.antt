@@ -1,7 +1,6 @@
 -- `numset::inside` meets its contract. Assumes nothing.
 use borrow.Author.Tests.{le-leb, lt-leb}
 use mathlib.Core.Path.{sym}
-use borrow.Author.Needs.{needs}
 use Rattle.numset.proofs.inside.Statement.{statement}
 use Rattle.numset.proofs.inside.Tie as tie
 
