@@ -135,6 +135,9 @@ pub laid-from : (digits : List ℕ) {first k : ℕ} {m m₁ : List ℕ} {at at�
 laid-from digits e l = rw e l
 
 -- what follows the words of the properties
+pub end-at-once : (count : ℕ) → count < 10 → space ∷ (digit0 + count) ∷ lineFeed ∷ [] ≡ space ∷ decimal count ++ lineFeed ∷ []
+end-at-once count h = ap (λ (l : List ℕ). space ∷ l ++ lineFeed ∷ []) (one-place count h)
+
 pub end-laid : (count : ℕ) {m m₁ m₂ m₃ : List ℕ} {at at₁ at₂ at₃ : ℕ} → Laid m at (space ∷ []) m₁ at₁ → Laid m₁ at₁ (decimal count) m₂ at₂ → Laid m₂ at₂ (lineFeed ∷ []) m₃ at₃
     → Wrote m at (space ∷ decimal count ++ lineFeed ∷ []) m₃ at₃
 end-laid count part number end = and-then (part .wrote) (and-then (number .wrote) (end .wrote))

@@ -24,7 +24,9 @@ use numbers::WRONG_LENGTH;
 use text::MOST_DIGITS;
 use text::Read;
 
-// The byte of the digit 0.
+// The first number of two digits, and the byte of the digit 0.
+const TEN: u64 = 10;
+
 const ZERO: u8 = b'0';
 
 // A property's word, with the space before it.
@@ -238,11 +240,15 @@ fn lay_digits(out: &mut [u8], at: usize, digits: &[u8; MOST_DIGITS], first: usiz
     lay_some(out, at, digits, first)
 }
 
-// The count and the end of an accepted call's line, where there is room.
+// The count and the end of an accepted call's line, where there is room: at once if the count has one digit, as it most often has.
 fn lay_end(out: &mut [u8], at: usize, count: u64) -> usize
     requires { ⌜ at + 22 ≤ length (now out) ⌝ }
     ensures { λ r. ⌜ Wrote (now (out .entry)) at (space ∷ decimal count ++ Report·ended) (now (out .exit)) r ⌝ }
 {
+    if count < TEN {
+        let end = [b' ', ZERO + count as u8, b'\n'];
+        return buffer_writer::lay_bytes(out, at, &end);
+    }
     let a = buffer_writer::lay_bytes(out, at, b" ");
     let b = buffer_writer::lay_number(out, a, count);
     buffer_writer::lay_bytes(out, b, b"\n")
