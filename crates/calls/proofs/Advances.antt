@@ -12,7 +12,7 @@ use borrow.Author.Tests.{eqb-false}
 use Rattle.numbers.specs.Limits.{MAX, LAST-TIME}
 use Rattle.lists.specs.Lists.{listed, filledFrom}
 use Rattle.lists.proofs.Tests.{either, lt-or-ge, fails-by}
-use Rattle.lists.proofs.Listed.{listed-length, listed-at}
+use Rattle.lists.proofs.Listed.{listed-length, listed-at, listed-agree}
 use Rattle.lists.proofs.Parts.{word-at, part-same}
 use Rattle.lists.proofs.Filled.{filledFrom-length, filledFrom-at, filledFrom-before, filledFrom-after}
 use Rattle.numset.specs.Runs.{Runs, runs, Good, fits, pack}
@@ -22,13 +22,15 @@ use Rattle.pmtl.specs.declared.Answer.the-variants.{Open}
 use Rattle.pmtl.specs.Answer.{bitOf, digitOf}
 use Rattle.pmtl.specs.Book.{Range, Rows, start, stop}
 use Rattle.pmtl.specs.Sets.{Renew, Way}
-use Rattle.pmtl.specs.Monitor.{Snap, State, setAt, stepBy, value}
+use Rattle.pmtl.specs.Monitor.{Snap, State, setAt, mostRuns, stepBy, value}
 use Rattle.pmtl.specs.Calls.{crowded, Outcome, play}
+use Rattle.pmtl.specs.Quiet.{quietUntil}
+use Rattle.pmtl.proofs.Quiet.{quiet-same}
 use Rattle.pmtl.proofs.Answers.{step-sets-by, step-now-by, step-begun-by, step-way-by}
-use Rattle.memory.specs.Layout.{ROWS, ROW, ATOMS, OWNERS, SET, VALUES, TOLD, EARLY, SETTLED, MOVES, LOWEST}
+use Rattle.memory.specs.Layout.{ROWS, ROW, ATOMS, OWNERS, SET, VALUES, TOLD, EARLY, SETTLED, MOVES, LOWEST, FULLEST, UNTIL}
 use Rattle.memory.specs.Memory.{begunWord, clockOf, widthWord, temporals, rowCount, kindAt, slotAt, ownerAt, setStart, slotWords, propertyRow, valueAt, toldAt, rowsOf, wayOf, setOf, stateOf, isOne, rangeAt}
-use Rattle.memory.specs.Tables.{valueOf, propertyCount, Valued, Told, Answered, Moving, Founded, Unused, Tables}
-use Rattle.memory.specs.Kept.{Sound, Kept}
+use Rattle.memory.specs.Tables.{standing, valueOf, propertyCount, Valued, Told, Answered, Moving, Founded, Counts, Unused, Tables}
+use Rattle.memory.specs.Kept.{Sound, Awaited, Kept}
 use Rattle.memory.specs.Alike.{Alike, SameLedger}
 use Rattle.memory.proofs.Rows.{rows-length}
 use Rattle.memory.proofs.Ledger.{ledger-self}
@@ -42,7 +44,7 @@ use Rattle.tables.proofs.Reach.{news-asked}
 use Rattle.set_change.specs.Change.{changed, countedFrom}
 use Rattle.set_change.proofs.Changes.{changed-under}
 use Rattle.planning.specs.Plan.{snapOf, stepOf, ownRenew, renewOver, countsFrom, ahead, setAfter, valueAfter, Planned}
-use Rattle.calls.specs.Private.{Bytes, timeStep, clocked, Written, Atoms, Moved, Tried, TriedBoth, Fitting, Asked, Due, Advanced}
+use Rattle.calls.specs.Private.{OnlyValues, Bytes, timeStep, clocked, Written, Atoms, Moved, Tried, TriedBoth, Fitting, Asked, Due, Advanced}
 use Rattle.planning.proofs.Rules.{set-of-slot, set-of-none}
 use Rattle.planning.proofs.Ahead.{ahead-one}
 use Rattle.planning.proofs.Plans.{set-none, fits-each}
@@ -375,6 +377,77 @@ module _
 
     pub due : {first : Bool} → first ≡ eqb (begunWord m) 0 → Due m₂ first
     due ef = record { sound = sound-now; valued = valued-now; moving = moving-now; founded = founded-now; unused = unused-now; asked = asked-now ef }
+
+    -- ---- nothing but values of rows was changed by the plan: what is told, the digits, the count and the time up to which nothing moves are right
+    module _ (only : OnlyValues m m₁) where
+      clock-stays : clockOf m₂ ≡ clockOf m
+      clock-stays = a .below 2 (omega arith) ∙ only .alike .below 2 (omega arith)
+
+      set-stays : (j : ℕ) → j < 32 → slotWords m₂ j ≡ slotWords m j
+      set-stays j h = atoms-set j h ∙ alike-set (kept .sound) (only .alike) j h
+
+      set-same : (r : ℕ) → r < rowCount m → setOf m₂ r ≡ setOf m r
+      set-same r p =
+          let few = kept .sound .book .few in
+          let slots = kept .sound .book .temporal-few in
+          let ek = kind-same m m₂ (kept .sound) stepped r (omega arith) in
+          ⊎-elim
+          (λ (k : kindAt m r < 7). set-of-none m₂ r (rw ek k) ∙ sym (set-of-none m r k))
+          (λ (k : 7 ≤ kindAt m r).
+          let inside = kept .sound .book .rows r p .slot k in
+          set-of-slot m₂ r (rw ek k)
+          ∙ ap (λ (j : ℕ). runs (slotWords m₂ j)) (slot-same m m₂ (kept .sound) stepped r (omega arith))
+          ∙ ap runs (set-stays (slotAt m r) (omega arith)) ∙ sym (set-of-slot m r k))
+          (lt-or-ge (kindAt m r) 7)
+
+      sets-same : stateOf m₂ .sets ≡ stateOf m .sets
+      unfolding stateOf
+      sets-same = ap (listed (setOf m₂)) rows-now ∙ listed-agree (setOf m₂) (setOf m) (rowCount m) set-same
+
+      told₂ : Told m₂
+      told₂ =
+          let few = kept .sound .book .few in
+          let slots = kept .sound .book .temporal-few in
+          record {
+            right = rw (temporals-same m m₂ (kept .sound) stepped) (λ j h.
+                beyond-now (TOLD + j) (omega arith) ∙ kept .tables .told .right j h
+                ∙ sym (ap₂ (λ (x : ℕ) (ws : List ℕ). standing x (runs ws)) clock-stays (set-stays j (omega arith))));
+          }
+
+      counts₂ : Counts m₂
+      counts₂ =
+          let few = kept .sound .book .few in
+          record { right = beyond-now FULLEST (omega arith) ∙ kept .tables .counts .right ∙ sym (ap mostRuns sets-same) }
+
+      awaited₂ : Awaited m₂
+      unfolding stateOf
+      awaited₂ =
+          let few = kept .sound .book .few in
+          record {
+            right =
+                beyond-now UNTIL (omega arith) ∙ kept .awaited .right ∙ ap (λ (b : Rows). quietUntil b (stateOf m)) (sym (rows-of-same m m₂ (kept .sound) stepped))
+                ∙ quiet-same (rowsOf m₂) (stateOf m) (stateOf m₂) (sym clock-stays) (sym sets-same);
+          }
+
+      pub renewed-none : Alike m₂ m₂ × Tables m₂ × SameLedger m₂ m₂ × Awaited m₂
+      renewed-none =
+          let d = due {first = false} (sym (ap (λ (w : ℕ). eqb w 0) (only .begun))) in (
+            record { long = refl; below = λ i h. refl },
+            record {
+              valued = d .valued;
+              told = told₂;
+              answered = record {
+                early = λ i h. d .asked .early i h ∙ ap digitOf (told-early m₂ (d .sound) (told₂ .right) (propertyRow m₂ i));
+                settled = λ i h. d .asked .settled refl i h ∙ ap digitOf (told-settled m₂ (d .sound) (told₂ .right) (propertyRow m₂ i));
+              };
+              moving = d .moving;
+              founded = d .founded;
+              counts = counts₂;
+              unused = d .unused;
+            },
+            ledger-self m₂,
+            awaited₂,
+          )
 
 unmoved : {m : List ℕ} (st : State) (c : ℕ) (atoms : List ℕ) {ns : List Snap} → Leads m ns st c atoms → crowded (stepOf m (ownRenew st) st c atoms) ≡ true → Advanced m ns m 11
 unmoved {m} st c atoms leads e =

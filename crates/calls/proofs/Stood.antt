@@ -58,21 +58,30 @@ module _ {m : List ℕ} (held : Kept m) where
   pub bits-now : Bits m
   bits-now = record { right = λ r h. as-bit (valueOf m r) (held .tables .valued .right r h) }
 
+  abbrev RestsNow : Type 0
+  RestsNow = stepIn (rowsOf m) (stateOf m) (stateOf m .now) ≡ stateOf m
+
+  rests-now : begunWord m ≡ 1 → RestsNow
+  unfolding stateOf
+  rests-now begun = held .rests (eq-eqb (begunWord m) 1 begun)
+
+  -- no run is over
+  pub rests-here : {c : ℕ} → c ≡ clockOf m → begunWord m ≡ 1 → (r : ℕ) → kept c (setAt (stateOf m) r) ≡ setAt (stateOf m) r
+  unfolding stateOf
+  rests-here ec begun r = ap (λ (x : ℕ). kept x (setAt (stateOf m) r)) ec ∙ rests-kept (rowsOf m) (stateOf m) (let small = held .sound .clock in omega arith) (rests-now begun) r
+
   pub stands-now : {c : ℕ} → c ≡ clockOf m → (modes : List ℕ) → Unplanned m modes → begunWord m ≡ 1 → Stands m c modes
   unfolding stateOf changed
   stands-now {c} ec modes none begun =
-      let rests : stepIn (rowsOf m) (stateOf m) (stateOf m .now) ≡ stateOf m = held .rests (eq-eqb (begunWord m) 1 begun) in
-      let small = held .sound .clock in
       record {
         state = stateOf m;
         clock = sym ec;
         values = held .tables .valued .right;
         sets = λ j h.
             ap (λ (q : ℕ). setAfter m c q j) (none .none j h)
-            ∙ ap₂ (λ (x : ℕ) (s : Runs). kept x s) ec (sym (owner-set m (held .sound) j h))
-            ∙ rests-kept (rowsOf m) (stateOf m) (omega arith) rests (ownerAt m j);
+            ∙ ap (kept c) (sym (owner-set m (held .sound) j h)) ∙ rests-here ec begun (ownerAt m j);
         room = fits-now held;
-        rests = rests;
+        rests = rests-now begun;
       }
 
 -- ---- before the state step of a stamped call, whose time step is planned

@@ -14,7 +14,7 @@ use Rattle.memory.specs.Layout.{ATOMS, SETS, SET, VALUES, SIZE, BEGUN, CLOCK}
 use Rattle.memory.specs.Memory.{rowCount, begunWord, clockOf, temporals, ownerAt, slotWords, valueAt, earlyAt, settledAt, untilWord, rowsOf, bookOf, stateOf}
 use Rattle.memory.specs.Tables.{propertyCount, Valued, Moving, Founded, Unused}
 use Rattle.memory.specs.Kept.{Sound, Kept}
-use Rattle.memory.specs.Alike.{SameLedger}
+use Rattle.memory.specs.Alike.{Alike, SameLedger}
 use Rattle.tables.specs.Puts.{earlyDigit, settledDigit}
 use Rattle.set_change.specs.Change.{changed}
 use Rattle.planning.specs.Plan.{stepOf, ownRenew, setAfter, valueAfter, Bounded, Timely}
@@ -73,6 +73,21 @@ pub record Moved (m : List ℕ) (renew : Renew) (st : State) (c : ℕ) (atoms m�
 pub record Tried (m : List ℕ) (renew : Renew) (st : State) (c : ℕ) (atoms m′ : List ℕ) (r : ℕ) : Type 0 where
   pub room : crowded (stepOf m renew st c atoms) ≡ false → (r ≡ ACCEPTED) × Moved m renew st c atoms m′
   pub full : crowded (stepOf m renew st c atoms) ≡ true → (r ≡ NO-ROOM) × (m′ ≡ m)
+
+-- none of the first n changes is greater than r
+pub record NoneOver (modes : List ℕ) (r n : ℕ) : Type 0 where
+  pub below : (j : ℕ) → j < n → getD modes j 0 ≤ r
+
+-- a planned step leaves the sets as they are: it has fresh atoms, a call was accepted before it, and no change is planned
+pub record SetsStay (m : List ℕ) (fresh : Bool) (modes : List ℕ) : Type 0 where
+  pub anew : fresh ≡ true
+  pub begun : begunWord m ≡ 1
+  pub none : (j : ℕ) → j < MOST-TEMPORALS → getD modes j 0 ≡ 0
+
+-- m′ is m but for its tables, and a call was accepted before
+pub record OnlyValues (m m′ : List ℕ) : Type 0 where
+  pub alike : Alike m m′
+  pub begun : begunWord m ≡ 1
 
 -- the state after the time step of a stamped call at clock c, with the atoms before it
 abbrev pub timeStep : List ℕ → ℕ → List ℕ → State

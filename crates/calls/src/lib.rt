@@ -2,7 +2,7 @@
 // call.
 ghost use mathlib.Core.Path.{_≡_};
 ghost use mathlib.Core.Bool.{true};
-ghost use Prim.Native.Nat.{_≤_};
+ghost use Prim.Native.Nat.{_≤_, max};
 ghost use lib.ListN.{length, getD};
 ghost use lib.Dec.{ltb};
 ghost use borrow.Rule.Slice.PartMut.{putMid};
@@ -17,9 +17,9 @@ ghost use Rattle.memory.specs.Kept.{BookKept, Awaited, Kept};
 ghost use Rattle.memory.specs.Alike.{Alike, SameLedger};
 ghost use Rattle.set_change.specs.Change.{changed};
 ghost use Rattle.planning.specs.Plan.{atomsFor, ownRenew, setAfter};
-ghost use Rattle.calls.specs.Private.{QuietAt, ticked, AtomsStand, clocked, Held, Roomy, Fit, Fitting, Written, Atoms, Tried, TriedBoth, Due, Done};
+ghost use Rattle.calls.specs.Private.{QuietAt, ticked, AtomsStand, clocked, Held, Roomy, Fit, Fitting, Written, Atoms, Tried, NoneOver, SetsStay, OnlyValues, TriedBoth, Due, Done};
 ghost use Rattle.calls.specs.Called.{Called};
-ghost use Rattle.numbers.specs.Limits.{LAST-TIME, MOST-ATOMS};
+ghost use Rattle.numbers.specs.Limits.{LAST-TIME, MOST-ATOMS, MOST-TEMPORALS};
 ghost use Rattle.numbers.specs.Refusals.{ACCEPTED as Refusals·ACCEPTED};
 use memory::SIZE;
 use numbers::ACCEPTED;
@@ -107,21 +107,73 @@ fn put_atoms(monitor: &mut [u64; SIZE], atoms: &[u8])
     }
 }
 
+fn greater(a: u8, b: u8) -> u8
+    ensures { λ r. ⌜ r ≡ max a b ⌝ }
+{
+    if a < b { b } else { a }
+}
+
+// The greatest of the changes that are planned, STAYS where there is none. There is one way through the loop, so that the compiler takes
+// many slots at a time.
+fn most_planned(modes: &[u8; MOST_TEMPORALS]) -> u8
+    ensures { λ r. ⌜ NoneOver (now (modes .entry)) r MOST-TEMPORALS ⌝ }
+{
+    let mut most: u8 = 0;
+    let mut slot = 0;
+    while slot < MOST_TEMPORALS {
+        most = greater(most, modes[slot]);
+        slot += 1;
+    }
+    most
+}
+
+// Whether a planned step leaves the sets as they are: no change is planned, and a step at this clock has gone before, so that no run is
+// over.
+fn leaves_sets(monitor: &[u64; SIZE], fresh: bool, modes: &[u8; MOST_TEMPORALS]) -> bool
+    ensures { λ r. ⌜ (r ≡ true → SetsStay (now (monitor .entry)) fresh (now (modes .entry))) ⌝ }
+{
+    if memory::begun(monitor) != 1 {
+        return false;
+    }
+    if fresh {
+        return most_planned(modes) == set_change::STAYS;
+    }
+    false
+}
+
+// What came of a step: its number, and whether nothing but values of rows was changed.
+pub struct Step {
+    pub number: u64,
+    pub same: bool,
+}
+
 // A call at a clock and atoms: planned, and then carried out, all but the atoms, which a time call leaves as they are. Where a set
 // lacks room, the values are worked out anew from what did not change: these are the old ones.
-fn advance(monitor: &mut [u64; SIZE], clock: u64, atoms: &[u8], fresh: bool) -> u64
+fn advance(monitor: &mut [u64; SIZE], clock: u64, atoms: &[u8], fresh: bool) -> Step
     requires { ⌜ Kept (now monitor) × (clock ≤ LAST-TIME) ⌝ }
     requires { ⌜ (fresh ≡ true → (widthWord (now monitor) ≤ length (now atoms)) × (clock ≡ clockOf (now monitor))) ⌝ }
-    ensures { λ r. ⌜ Tried (now (monitor .entry)) (ownRenew (stateOf (now (monitor .entry)))) (stateOf (now (monitor .entry))) clock (atomsFor (now (monitor .entry)) fresh (now (atoms .entry))) (now (monitor .exit)) r ⌝ }
+    ensures { λ r. ⌜ Tried (now (monitor .entry)) (ownRenew (stateOf (now (monitor .entry)))) (stateOf (now (monitor .entry))) clock (atomsFor (now (monitor .entry)) fresh (now (atoms .entry))) (now (monitor .exit)) (r .number) × (r .same ≡ true → OnlyValues (now (monitor .entry)) (now (monitor .exit))) ⌝ }
 {
     let mut modes = [0u8; MOST_TEMPORALS];
     if plan_call(monitor, clock, atoms, fresh, &mut modes) {
+        if leaves_sets(monitor, fresh, &modes) {
+            return Step {
+                number: ACCEPTED,
+                same: true,
+            };
+        }
         commit(monitor, clock, &modes);
         put_clock(monitor, clock);
-        return ACCEPTED;
+        return Step {
+            number: ACCEPTED,
+            same: false,
+        };
     }
     tables::fill_values(monitor);
-    NO_ROOM
+    Step {
+        number: NO_ROOM,
+        same: false,
+    }
 }
 
 // A stamped call at a clock and the bytes of its state, planned and carried out, all but the atoms: the time step is planned with the
@@ -270,7 +322,8 @@ fn time_call(monitor: &mut [u64; SIZE], time: u64) -> u64
         return ACCEPTED;
     }
     let first = memory::begun(monitor) == 0;
-    let number = advance(monitor, time, b"", false);
+    let step = advance(monitor, time, b"", false);
+    let number = step.number;
     if number != ACCEPTED {
         return number;
     }
@@ -289,11 +342,16 @@ fn restate(monitor: &mut [u64; SIZE], state: &[u8]) -> u64
     }
     let first = memory::begun(monitor) == 0;
     let clock = memory::clock(monitor);
-    let number = advance(monitor, clock, state, true);
+    let step = advance(monitor, clock, state, true);
+    let number = step.number;
     if number != ACCEPTED {
         return number;
     }
     put_atoms(monitor, state);
+    let same = step.same;
+    if same {
+        return ACCEPTED;
+    }
     renew(monitor, first);
     ACCEPTED
 }
