@@ -1,7 +1,7 @@
 -- The laws of `changed`: it is what the definitions say of a set, and what the code asks and does, arm by arm. Assumes nothing.
 use Prim.Native.Nat.{ℕ, zero, suc, _+_, _*_, _≤_, _<_, min}
 use mathlib.Core.Path.{_≡_, refl, sym, ap, _∙_}
-use mathlib.Core.Logic.{⊎-elim}
+use mathlib.Core.Logic.{_⊎_, ⊎-elim}
 use mathlib.Core.Bool.{Bool, true, false, cond, not, or-false, true≢false}
 use mathlib.Core.List.{List, []}
 use native.Mathlib.Omega.{arith}
@@ -83,13 +83,13 @@ module _ (l u c : ℕ) (rs : Runs) where
   unfolding changed
   changed-3 k e = rw e
 
--- a change that is none of three
-pub grows-rest : (k : ℕ) → (k ≡ 0 → ⊥) → (k ≡ 2 → ⊥) → (k ≡ 3 → ⊥) → growing k ≡ true
-grows-rest zero x y z = absurd (x refl)
-grows-rest (suc zero) x y z = refl
-grows-rest (suc (suc zero)) x y z = absurd (y refl)
-grows-rest (suc (suc (suc zero))) x y z = absurd (z refl)
-grows-rest (suc (suc (suc (suc k)))) x y z = refl
+-- a change by which the set stays, and that is not the one which adds nothing
+pub grows-rest : (k : ℕ) → (k ≡ 0 → ⊥) → (k < 2) ⊎ (4 ≤ k) → growing k ≡ true
+grows-rest zero x w = absurd (x refl)
+grows-rest (suc zero) x w = refl
+grows-rest (suc (suc zero)) x w = absurd (⊎-elim (λ h. omega arith) (λ h. omega arith) w)
+grows-rest (suc (suc (suc zero))) x w = absurd (⊎-elim (λ h. omega arith) (λ h. omega arith) w)
+grows-rest (suc (suc (suc (suc k)))) x w = refl
 
 -- ---- room
 one-run : (l u : ℕ) → length (union l u []) ≤ 1

@@ -100,7 +100,8 @@ pub fn next(before: u8, mode: u8, spans: bool) -> u8
 }
 
 // What will become of the set: whether it will contain the clock, and whether there is room for the change. No run that holds the clock
-// is dropped for its age; and only a set that stays can grow past its words.
+// is dropped for its age; and only a set that stays can grow past its words. The two changes that drop the set stand together, here and
+// below: one look tells them from those by which it grows.
 pub fn look_ahead(set: &[u64], mode: u8, lower: u64, upper: u64, clock: u64) -> Outlook
     requires { ⌜ Good (now set) ⌝ }
     requires { ⌜ 2 < length (now set) ⌝ }
@@ -111,11 +112,13 @@ pub fn look_ahead(set: &[u64], mode: u8, lower: u64, upper: u64, clock: u64) -> 
             let here = numset::contains_from_oldest(set, clock);
             Outlook { here, room: true }
         }
-        DROPPED => Outlook {
-            here: false,
-            room: true,
-        },
-        DROPPED_AND_ADDS => {
+        DROPPED | DROPPED_AND_ADDS => {
+            if mode == DROPPED {
+                return Outlook {
+                    here: false,
+                    room: true,
+                };
+            }
             let here = numset::inside(lower, upper, clock);
             Outlook { here, room: true }
         }
@@ -131,8 +134,11 @@ pub fn change(set: &mut [u64], mode: u8, lower: u64, upper: u64, clock: u64)
 {
     match mode {
         STAYS => numset::drop_before(set, clock),
-        DROPPED => numset::clear(set),
-        DROPPED_AND_ADDS => {
+        DROPPED | DROPPED_AND_ADDS => {
+            if mode == DROPPED {
+                numset::clear(set);
+                return;
+            }
             numset::set_to(set, lower, upper);
         }
         _ => {
