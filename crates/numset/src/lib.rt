@@ -469,14 +469,22 @@ fn drop_oldest(set: &mut [u64], count: usize)
     set[0] = left as u64;
 }
 
+// Drops the runs that end before `t`, which are counted first.
+fn drop_lapsed(set: &mut [u64], t: u64)
+    requires { ⌜ Good (now set) ⌝ }
+    ensures { λ _. ⌜ now (set .exit) ≡ keptWords t (now (set .entry)) ⌝ }
+{
+    let count = lapsed(set, t);
+    drop_oldest(set, count);
+}
+
 // Drops the runs that end before `t`. Where there is none, only the oldest run is looked at.
 pub fn drop_before(set: &mut [u64], t: u64)
     requires { ⌜ Good (now set) ⌝ }
     ensures { λ _. ⌜ now (set .exit) ≡ pack (length (now (set .entry))) (kept t (runs (now (set .entry)))) ⌝ }
 {
     if oldest_lapsed(set, t) {
-        let count = lapsed(set, t);
-        drop_oldest(set, count);
+        drop_lapsed(set, t);
     }
 }
 
@@ -507,9 +515,9 @@ fn follows_newest(set: &[u64], lower: u64, upper: u64) -> bool
     ADJACENT < gap(upper_at(set, n - 1), lower)
 }
 
-// Drops the runs that end before `t`, and then adds `lower ..= upper`, with the number of that. Where a clock moves on, it often ends one
-// run and adds one: then the others move over the one, and the other takes the place that they leave.
-pub fn drop_and_add(set: &mut [u64], t: u64, lower: u64, upper: u64) -> u64
+// Drops the runs that end before `t`, of which there is mostly one, and then adds `lower ..= upper`. Where a clock ends one run it often
+// adds one that follows the newest: then the others move over the one, and the other takes the place that they leave.
+fn exchange(set: &mut [u64], t: u64, lower: u64, upper: u64) -> u64
     requires { ⌜ Good (now set) ⌝ }
     ensures { λ r. ⌜ (r ≡ addNumber (keptWords t (now (set .entry))) lower upper) × (now (set .exit) ≡ addWords (keptWords t (now (set .entry))) lower upper) ⌝ }
 {
@@ -521,7 +529,19 @@ pub fn drop_and_add(set: &mut [u64], t: u64, lower: u64, upper: u64) -> u64
             return ACCEPTED;
         }
     }
-    drop_before(set, t);
+    drop_lapsed(set, t);
+    join_in(set, lower, upper)
+}
+
+// Drops the runs that end before `t`, and then adds `lower ..= upper`, with the number of that. Where there is none to drop, only the
+// oldest run is looked at for it.
+pub fn drop_and_add(set: &mut [u64], t: u64, lower: u64, upper: u64) -> u64
+    requires { ⌜ Good (now set) ⌝ }
+    ensures { λ r. ⌜ (r ≡ addNumber (keptWords t (now (set .entry))) lower upper) × (now (set .exit) ≡ addWords (keptWords t (now (set .entry))) lower upper) ⌝ }
+{
+    if oldest_lapsed(set, t) {
+        return exchange(set, t, lower, upper);
+    }
     join_in(set, lower, upper)
 }
 
