@@ -4,5 +4,6 @@ pub mod Advances
 pub mod Resting
 pub mod Stood
 pub mod Stays
+pub mod Greatest
 pub mod Quiet
 pub mod Public

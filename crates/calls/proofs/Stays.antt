@@ -1,22 +1,20 @@
 -- A planned step that leaves the sets as they are: carrying it out, and telling and asking after it, would change nothing. Assumes nothing.
-use Prim.Native.Nat.{ℕ, zero, suc, _+_, max, min, _≤_, _<_}
+use Prim.Native.Nat.{ℕ, _≤_, _<_}
 use native.Mathlib.Omega.{arith}
-use mathlib.Core.Path.{_≡_, refl, sym, ap, ap₂, subst, _∙_}
-use mathlib.Core.Logic.{⊎-elim}
-use mathlib.Core.Bool.{Bool, true, false}
+use mathlib.Core.Path.{_≡_, refl, sym, ap, ap₂, _∙_}
+use mathlib.Core.Bool.{Bool, true}
 use mathlib.Core.List.{List}
-use lib.ListN.{length, getD, set}
+use lib.ListN.{getD, set}
 use lib.Seq.{set-getD}
 use lib.Dec.{eqb}
 use borrow.Author.Tests.{eqb-true}
 use Rattle.numbers.specs.Limits.{LAST-TIME, MOST-TEMPORALS}
-use Rattle.lists.proofs.Tests.{lt-or-ge}
-use Rattle.numset.specs.Runs.{Runs, runs, kept, pack}
+use Rattle.numset.specs.Runs.{runs, kept, pack}
 use Rattle.numset.proofs.Packs.{packed}
 use Rattle.pmtl.specs.Sets.{Renew}
 use Rattle.pmtl.specs.Monitor.{State, setAt}
 use Rattle.memory.specs.Layout.{SET, VALUES}
-use Rattle.memory.specs.Memory.{begunWord, clockOf, temporals, ownerAt, slotWords, rowsOf, stateOf}
+use Rattle.memory.specs.Memory.{begunWord, clockOf, temporals, ownerAt, slotWords, stateOf}
 use Rattle.memory.specs.Kept.{Sound, Kept}
 use Rattle.memory.specs.Alike.{Alike}
 use Rattle.memory.proofs.Sets.{owner-set}
@@ -27,18 +25,6 @@ use Rattle.planning.proofs.Plans.{set-long}
 use Rattle.calls.specs.Private.{clocked, NoneOver, SetsStay, OnlyValues, Written, Tried}
 use Rattle.calls.proofs.Advances.{planned-sound, tried-room}
 use Rattle.calls.proofs.Stood.{rests-here}
-
--- ---- the greatest of the changes
-pub none-over-start : (modes : List ℕ) (r : ℕ) → NoneOver modes r 0
-none-over-start modes r = record { below = λ j h. absurd (omega arith) }
-
-pub none-over-more : {modes : List ℕ} {r n : ℕ} → NoneOver modes r n → {w : ℕ} → w ≡ max r (getD modes n 0) → NoneOver modes w (n + 1)
-none-over-more {modes} {r} {n} o e =
-    record {
-      below = λ j h.
-          ⊎-elim (λ (p : j < n). let l = o .below j p in omega arith)
-          (λ (p : n ≤ j). let d : j ≡ n = omega arith in let q : getD modes j 0 ≡ getD modes n 0 = ap (λ (k : ℕ). getD modes k 0) d in omega arith) (lt-or-ge j n);
-    }
 
 -- as the code decides it
 pub sets-stay : {m : List ℕ} {fresh : Bool} {modes : List ℕ} {b : ℕ} (most : ℕ) → b ≡ begunWord m → b ≡ 1 → fresh ≡ true → NoneOver modes most MOST-TEMPORALS → eqb most 0 ≡ true → SetsStay m fresh modes

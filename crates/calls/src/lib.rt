@@ -119,10 +119,10 @@ fn most_planned(modes: &[u8; MOST_TEMPORALS]) -> u8
     ensures { λ r. ⌜ NoneOver (now (modes .entry)) r MOST-TEMPORALS ⌝ }
 {
     let mut most: u8 = 0;
-    let mut slot = 0;
-    while slot < MOST_TEMPORALS {
-        most = greater(most, modes[slot]);
-        slot += 1;
+    let mut i = 0;
+    while i < MOST_TEMPORALS {
+        most = greater(most, modes[i]);
+        i += 1;
     }
     most
 }
@@ -222,18 +222,17 @@ fn renew(monitor: &mut [u64; SIZE], first: bool)
     tables::fill_until(monitor);
 }
 
-// Whether a byte is neither 0 nor 1.
+// Whether a byte is neither 0 nor 1: the greatest of them tells, and the compiler takes many at a time.
 fn has_other(state: &[u8]) -> bool
     ensures { λ r. ⌜ r ≡ some (ltb 1) (now (state .entry)) ⌝ }
 {
+    let mut most: u8 = 0;
     let mut i = 0;
     while i < state.len() {
-        if 1 < state[i] {
-            return true;
-        }
+        most = greater(most, state[i]);
         i += 1;
     }
-    false
+    1 < most
 }
 
 // What is wrong with a time, or 0.

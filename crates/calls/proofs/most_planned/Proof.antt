@@ -4,16 +4,16 @@ use mathlib.Core.Path.{_≡_}
 use native.Mathlib.Omega.{arith}
 use Rattle.numbers.specs.Limits.{MOST-TEMPORALS}
 use Rattle.calls.specs.Private.{NoneOver}
-use Rattle.calls.proofs.Stays.{none-over-start, none-over-more}
+use Rattle.calls.proofs.Greatest.{none-over-start, none-over-more}
 use borrow.Author.Needs.{needs}
 use Rattle.calls.proofs.most_planned.Statement.{statement}
 use Rattle.calls.proofs.most_planned.Tie as tie
 
 abbrev Inv-loop : tie.InvT-loop
-Inv-loop modes most₀ slot₀ most slot = (slot ≤ MOST-TEMPORALS) × NoneOver modes most slot
+Inv-loop modes most₀ i₀ most i = (i ≤ MOST-TEMPORALS) × NoneOver modes most i
 
 abbrev μ-loop : tie.MeasureT-loop
-μ-loop modes most₀ slot₀ most slot = MOST-TEMPORALS - slot
+μ-loop modes most₀ i₀ most i = MOST-TEMPORALS - i
 
 loop-holds : tie.Need-loop-holds Inv-loop μ-loop
 loop-holds c = (omega arith, none-over-start _ _)
@@ -24,8 +24,8 @@ element-copy-out-greater c = search needs
 greater-requires : tie.Need-greater-requires Inv-loop μ-loop
 greater-requires c κs = search needs
 
-add-slot : tie.Need-add-slot Inv-loop μ-loop
-add-slot c = search needs
+add-i : tie.Need-add-i Inv-loop μ-loop
+add-i c = search needs
 
 loop-less : tie.Need-loop-less Inv-loop μ-loop
 loop-less c = search needs
@@ -34,7 +34,7 @@ loop-again : tie.Need-loop-again Inv-loop μ-loop
 loop-again c = let l = (c .before .before .before) .loop in (omega arith, none-over-more (l .inv .1) (c .greater .ensures))
 
 returns : tie.Need-returns Inv-loop μ-loop
-returns c = let l = (c .before) .loop in let e : l .slot ≡ MOST-TEMPORALS = omega arith in rw e at (l .inv .1)
+returns c = let l = (c .before) .loop in let e : l .i ≡ MOST-TEMPORALS = omega arith in rw e at (l .inv .1)
 
 pub most-planned-spec : {M : Type 1} → statement M
 most-planned-spec =
@@ -45,7 +45,7 @@ most-planned-spec =
     loop-holds
     element-copy-out-greater
     greater-requires
-    add-slot
+    add-i
     loop-less
     loop-again
     returns)
