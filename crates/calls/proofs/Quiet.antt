@@ -17,7 +17,7 @@ use Rattle.lists.proofs.Listed.{listed-agree}
 use Rattle.lists.proofs.Parts.{part-same}
 use Rattle.numset.specs.Runs.{runs}
 use Rattle.pmtl.specs.Answer.{bitOf, digitOf}
-use Rattle.pmtl.specs.Book.{Row, Rows, Book, rowAt}
+use Rattle.pmtl.specs.Book.{Rows, rowAt}
 use Rattle.pmtl.specs.Monitor.{State, fullest, value}
 use Rattle.pmtl.specs.Early.{early}
 use Rattle.pmtl.specs.Settled.{settled}

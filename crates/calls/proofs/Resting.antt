@@ -14,7 +14,6 @@ use Rattle.lists.proofs.Tests.{lt-or-ge}
 use Rattle.lists.proofs.Listed.{listed-length}
 use Rattle.numset.specs.Runs.{Runs, runs, fits}
 use Rattle.numset.proofs.Words.{length-runs}
-use Rattle.pmtl.specs.Book.{Rows}
 use Rattle.pmtl.specs.Monitor.{setAt}
 use Rattle.pmtl.specs.Calls.{Call, refusal, crowded, call}
 use Rattle.pmtl.specs.Again.{SaysAgain, unchanged, Rests}

@@ -18,7 +18,7 @@ use Rattle.memory.specs.Memory.{begunWord, clockOf, temporals, ownerAt, slotWor
 use Rattle.memory.specs.Kept.{Sound, Kept}
 use Rattle.memory.specs.Alike.{Alike}
 use Rattle.memory.proofs.Sets.{owner-set}
-use Rattle.memory.proofs.Alike.{alike-filled, alike-sound, alike-set}
+use Rattle.memory.proofs.Alike.{alike-filled, alike-set}
 use Rattle.set_change.specs.Change.{changed}
 use Rattle.planning.specs.Plan.{setAfter, valueAfter, Planned}
 use Rattle.planning.proofs.Plans.{set-long}

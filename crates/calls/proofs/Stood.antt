@@ -1,17 +1,16 @@
 -- A step at the clock has gone before a state call, and before the state step of a stamped one: what it left stands in the memory, and rests. Assumes nothing.
 use Prim.Native.Nat.{ℕ, _+_, _≤_, _<_}
 use native.Mathlib.Omega.{arith}
-use mathlib.Core.Path.{_≡_, refl, sym, ap, ap₂, subst, _∙_}
+use mathlib.Core.Path.{_≡_, refl, sym, ap, subst, _∙_}
 use mathlib.Core.Bool.{Bool, true}
 use mathlib.Core.List.{List}
-use lib.ListN.{getD}
 use borrow.Author.Tests.{eq-eqb}
 use Rattle.numbers.specs.Limits.{MAX, LAST-TIME}
 use Rattle.lists.specs.Lists.{filledFrom}
-use Rattle.lists.proofs.Filled.{filledFrom-at, filledFrom-after}
+use Rattle.lists.proofs.Filled.{filledFrom-at}
 use Rattle.numset.specs.Runs.{Runs, kept, fits}
 use Rattle.pmtl.specs.Answer.{bitOf}
-use Rattle.pmtl.specs.Book.{Range, Rows, lowest}
+use Rattle.pmtl.specs.Book.{Range, Rows}
 use Rattle.pmtl.specs.Kept.{AllRuns, NoneBefore}
 use Rattle.pmtl.specs.Sets.{Way, ordinary, lasting, renewedIn}
 use Rattle.pmtl.specs.Monitor.{Snap, State, setAt, value, stepBy, stepIn}
@@ -22,14 +21,14 @@ use Rattle.pmtl.proofs.Doubled.{step-again}
 use Rattle.memory.specs.Layout.{SET, VALUES, LOWEST}
 use Rattle.memory.specs.Memory.{rowCount, begunWord, clockOf, temporals, ownerAt, valueAt, rowsOf, isOne, stateOf}
 use Rattle.memory.specs.Tables.{valueOf, Founded}
-use Rattle.memory.specs.Kept.{Sound, Kept}
+use Rattle.memory.specs.Kept.{Kept}
 use Rattle.memory.specs.Alike.{Alike}
 use Rattle.memory.proofs.Bits.{bit-back}
 use Rattle.memory.proofs.Rows.{kept-ordered}
 use Rattle.memory.proofs.Sets.{owner-set, set-canonical}
-use Rattle.memory.proofs.Alike.{alike-filled, alike-rows}
+use Rattle.memory.proofs.Alike.{alike-rows}
 use Rattle.set_change.specs.Change.{changed}
-use Rattle.planning.specs.Plan.{snapOf, ownRenew, setAfter, Unplanned, heldIn, valueAfter, Planned, Bits, Stands}
+use Rattle.planning.specs.Plan.{snapOf, ownRenew, setAfter, Unplanned, valueAfter, Planned, Bits, Stands}
 use Rattle.planning.proofs.Plans.{fits-each}
 use Rattle.calls.specs.Private.{timeStep}
 use Rattle.calls.proofs.Resting.{fits-now}

@@ -1,5 +1,4 @@
 -- `calls::has_other` meets its contract. The invariant: the greatest of the bytes passed. Assumes nothing.
-use mathlib.Core.Path.{_≡_}
 use native.Mathlib.Omega.{arith}
 use lib.ListN.{length}
 use Prim.Native.Nat.{_≤_, _-_}
