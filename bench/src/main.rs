@@ -4,8 +4,8 @@
 //! bench jumps                   those of calls in the lasting way alone
 //! bench count PLACE PART SIDE   one measured run, for callgrind
 
-use bench::workloads::{jumps, with_calls_refused, workloads, Workload, MANY_RUNS, ONE_RUN};
-use bench::{plain, as_the_rust_knows};
+use bench::workloads::{growing, jumps, with_calls_refused, workloads, Workload, MANY_RUNS, ONE_RUN};
+use bench::{as_the_rust_knows, plain};
 use judge::report::{self, Gaps, Nobody, LONGEST_INPUT};
 use judge::summaries::calls_of;
 use std::hint::black_box;
@@ -191,14 +191,15 @@ fn counted(place: usize, part: usize, side: Side) -> Option<f64> {
     total.trim().parse().ok()
 }
 
-/// Of two measures, ours and the Rust program's: the whole job, and the calls alone for each call.
+/// Of two measures, ours and the Rust program's: the whole job, the same with its calls refused, and the calls alone for each call.
 struct Measures {
     whole: [f64; 2],
+    refused: [f64; 2],
     call: [f64; 2],
 }
 
 fn measures(of: [[f64; 2]; 2], calls: usize) -> Measures {
-    Measures { whole: of[0], call: [0, 1].map(|side| (of[0][side] - of[1][side]) / calls as f64) }
+    Measures { whole: of[0], refused: of[1], call: [0, 1].map(|side| (of[0][side] - of[1][side]) / calls as f64) }
 }
 
 fn row(name: &str, head: &str, times: [f64; 2], counts: Option<[f64; 2]>) {
@@ -241,8 +242,40 @@ fn measure_all() {
         let rows = workload.case.rows.len().to_string();
         row(workload.name, &rows, times.call, counts.as_ref().map(|c| c.call));
     }
+    print_bytes(&all, &measured);
     print_growth(&all, &measured);
+    print_rows();
     print_jumps();
+}
+
+/// What a byte costs that is read or written, and the same with the calls refused: then little but reading and writing is left.
+fn print_bytes(all: &[Workload], measured: &[(Measures, Option<Measures>)]) {
+    println!("\nInstructions for each byte that is read or written, and with the calls refused once they are read:\n");
+    println!("| workload | bytes in | bytes out | ours | Rust | ours, refused | Rust, refused |\n|---|---|---|---|---|---|---|");
+    for (workload, (_, counts)) in all.iter().zip(measured) {
+        let Some(counts) = counts else { continue };
+        let [made, refused] = texts(workload).map(|text| (text.len(), report::report(&text, &mut Nobody).expect("agreed before").len()));
+        let each = |(bytes_in, bytes_out): (usize, usize), [ours, plain]: [f64; 2]| {
+            let bytes = (bytes_in + bytes_out) as f64;
+            format!("{:.1} | {:.1}", ours / bytes, plain / bytes)
+        };
+        println!("| {} | {} | {} | {} | {} |", workload.name, made.0, made.1, each(made, counts.whole), each(refused, counts.refused));
+    }
+}
+
+/// What a call costs, by how many rows the book has.
+fn print_rows() {
+    println!("\nInstructions for one call, the calls alone, by how many rows the book has, and the ratio of the whole job:\n");
+    println!("| book | rows | ours | Rust | ratio | whole job |\n|---|---|---|---|---|---|");
+    let before = workloads().len();
+    for (place, workload) in growing().iter().enumerate() {
+        check(workload.name, &texts(workload));
+        let Some(counts) = counts(before + place) else { continue };
+        let measured = measures(counts, workload.case.calls.len());
+        let ([ours, plain], [ours_whole, plain_whole]) = (measured.call, measured.whole);
+        let (rows, ratio, whole) = (workload.case.rows.len(), ours / plain, ours_whole / plain_whole);
+        println!("| {} | {rows} | {ours:.0} | {plain:.0} | {ratio:.2} | {whole:.2} |", workload.name);
+    }
 }
 
 /// What a call costs in the lasting way, by how far the clock goes in it.
@@ -288,7 +321,10 @@ fn print_growth(all: &[Workload], measured: &[(Measures, Option<Measures>)]) {
 /// Runs one side once on one text.
 fn count_once(words: &[usize]) {
     let side = Side::ALL[words[2]];
-    let all = if matches!(side, Side::Lasting) { jumps().into_iter().map(|(_, workload)| workload).collect() } else { workloads() };
+    let all: Vec<Workload> = match side {
+        Side::Lasting => jumps().into_iter().map(|(_, workload)| workload).collect(),
+        Side::Ours | Side::Plain => workloads().into_iter().chain(growing()).collect(),
+    };
     run_once(side, &texts(&all[words[0]])[words[1]], &mut Buffers::new());
     // At once: on some machines callgrind does not see that the measured function is left, and would count what is dropped here.
     process::exit(0);

@@ -13,9 +13,9 @@ pub struct Workload {
 pub fn workloads() -> Vec<Workload> {
     vec![
         Workload { name: "whole case", case: whole_case() },
-        Workload { name: "desk of 16 kits", case: desk(|time, state| vec![Call::Stamped(time, state)]) },
-        Workload { name: "desk, separate calls", case: desk(|time, state| vec![Call::Time(time), Call::State(state)]) },
-        Workload { name: "nested temporal", case: nested() },
+        Workload { name: "desk of 16 kits", case: desk(KITS, stamped) },
+        Workload { name: "desk, separate calls", case: desk(KITS, separate) },
+        Workload { name: "nested temporal", case: nested(MOST_ROWS) },
         Workload { name: "wide and/or", case: wide() },
         Workload { name: ONE_RUN, case: runs(RUNS_IN_ONE, [0, HALF_THE_RUNS]) },
         Workload { name: MANY_RUNS, case: runs(RUNS_APART, [0, HALF_THE_RUNS]) },
@@ -23,6 +23,13 @@ pub fn workloads() -> Vec<Workload> {
         Workload { name: "clock behind all 64", case: runs(RUNS_APART, [FAR_AHEAD, FAR_AHEAD]) },
         Workload { name: "one of 64 lapses in every call", case: lapsing() },
     ]
+}
+
+/// Books that grow: rows one above the other, of which a call may change all, and desks, of which it changes what belongs to one kit.
+pub fn growing() -> Vec<Workload> {
+    let nested = [8, 16, 32, 64, MOST_ROWS].map(|rows| Workload { name: "nested temporal", case: nested(rows) });
+    let desks = [1, 2, 4, 8, KITS].map(|kits| Workload { name: "desk", case: desk(kits, stamped) });
+    nested.into_iter().chain(desks).collect()
 }
 
 /// The same calls in the lasting way, with the clock going so many instants in each: the first is one.
@@ -81,16 +88,18 @@ fn whole_case() -> Case {
     rows.case(vec![], vec![historically], calls)
 }
 
+const MOST_ROWS: usize = 128;
+
 const KITS: u64 = 16;
 const WINDOW: u64 = 72;
 const SCANS: u64 = 280;
 
 /// For each kit: after every call so far, a handout implies that within the window a promise was scanned with no return
 /// since. A scan is a time and a state with one bit on, stamped or as two calls, and then a state all clear.
-fn desk(scanned: fn(u64, Vec<u64>) -> Vec<Call>) -> Case {
+fn desk(kits: u64, scanned: fn(u64, Vec<u64>) -> Vec<Call>) -> Case {
     let mut rows = Rows::default();
     let mut guarantees = Vec::new();
-    for kit in 0..KITS {
+    for kit in 0..kits {
         let handout = rows.atom(3 * kit + 1);
         let returned = rows.atom(3 * kit + 2);
         let kept = rows.plain(NOT, vec![returned]);
@@ -99,11 +108,11 @@ fn desk(scanned: fn(u64, Vec<u64>) -> Vec<Call>) -> Case {
         let allowed = rows.plain(IMPLIES, vec![handout, promised]);
         guarantees.push(rows.temporal(HISTORICALLY, vec![allowed], 0, MAX));
     }
-    let clear = vec![0; 3 * KITS as usize];
+    let clear = vec![0; 3 * kits as usize];
     let mut calls = Vec::new();
     for scan in 0..SCANS {
         // Every kit in turn: promise, handout, return; every fifth kit's handout comes without a promise.
-        let (kit, round) = (scan % KITS, scan / KITS);
+        let (kit, round) = (scan % kits, scan / kits);
         let code = if kit % 5 == 0 { 1 + round % 2 } else { round % 3 };
         let mut state = clear.clone();
         state[(3 * kit + code) as usize] = 1;
@@ -113,11 +122,25 @@ fn desk(scanned: fn(u64, Vec<u64>) -> Vec<Call>) -> Case {
     rows.case(vec![], guarantees, calls)
 }
 
-/// 32 temporal rows, each above the last, with Not and And between them: 128 rows.
-fn nested() -> Case {
+fn stamped(time: u64, state: Vec<u64>) -> Vec<Call> {
+    vec![Call::Stamped(time, state)]
+}
+
+fn separate(time: u64, state: Vec<u64>) -> Vec<Call> {
+    vec![Call::Time(time), Call::State(state)]
+}
+
+/// What one step of the next takes at the most.
+const STEP_ROWS: usize = 4;
+
+/// Up to 32 temporal rows, each above the last, with Not and And between them, as far as there are rows; Not over Not for the rest.
+fn nested(count: usize) -> Case {
     let mut rows = Rows::default();
     let mut top = rows.atom(0);
     for step in 0..32u64 {
+        if rows.0.len() + STEP_ROWS > count {
+            break;
+        }
         let upper = if step % 4 == 3 { MAX } else { 20 + step };
         let lower = step % 3;
         top = match step % 3 {
@@ -131,7 +154,7 @@ fn nested() -> Case {
         let not = rows.plain(NOT, vec![top]);
         top = rows.plain(AND, vec![not]);
     }
-    while rows.0.len() < 128 {
+    while rows.0.len() < count {
         top = rows.plain(NOT, vec![top]);
     }
     // The atom turns every 50 rounds, so that no set comes to have many runs.

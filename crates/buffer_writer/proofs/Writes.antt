@@ -12,7 +12,7 @@ use borrow.Author.Tests.{le-leb, lt-leb, leb-true}
 use borrow.Author.Fill.{fill-none, fill-more}
 use Rattle.numbers.specs.Limits.{MAX}
 use Rattle.buffer_writer.specs.Buffer.{handed, inBuffer}
-use Rattle.buffer_writer.specs.Finish.{finish, Wrote}
+use Rattle.buffer_writer.specs.Finish.{finish, Wrote, Laid}
 
 -- ---- a run of stores that goes on
 pub record Storing (m₀ : List ℕ) (at : ℕ) (all : List ℕ) (m : List ℕ) (i : ℕ) (left : List ℕ) : Type 0 where
@@ -100,6 +100,13 @@ done-right m at h = let e : at + 0 ≡ at = omega arith in rw (e, le-leb at (len
 
 pub same-bytes : {m : List ℕ} {at : ℕ} {x y m₁ : List ℕ} {at₁ : ℕ} → Wrote m at x m₁ at₁ → x ≡ y → Wrote m at y m₁ at₁
 same-bytes p e = rw e at p
+
+-- ---- where there was room
+pub it-lies : (m : List ℕ) (at : ℕ) (bs m′ : List ℕ) → m′ ≡ sets m at bs → Laid m at bs m′ (at + length bs)
+it-lies m at bs m′ e = record { wrote = it-fits m at bs m′ (at + length bs) e refl; after = refl }
+
+pub laid-bytes : {m : List ℕ} {at : ℕ} {x y m₁ : List ℕ} {at₁ : ℕ} → Laid m at x m₁ at₁ → x ≡ y → Laid m at y m₁ at₁
+laid-bytes p e = rw e at p
 
 -- ---- the whole report is the rest from 0 on
 pub whole : (out report : List ℕ) → finish out 0 report ≡ inBuffer out report

@@ -17,3 +17,8 @@ finish out at rest = cond (leb (at + length rest) (length out)) (handed (at + le
 -- writing `bytes` at `at` led to the buffer out′ and the place at′: whatever is to follow, the end is the same
 pub record Wrote (out : List ℕ) (at : ℕ) (bytes : List ℕ) (out′ : List ℕ) (at′ : ℕ) : Type 0 where
   pub same : (rest : List ℕ) → finish out at (bytes ++ rest) ≡ finish out′ at′ rest
+
+-- the same where there was room: the place is the one after the bytes
+pub record Laid (out : List ℕ) (at : ℕ) (bytes : List ℕ) (out′ : List ℕ) (at′ : ℕ) : Type 0 where
+  pub wrote : Wrote out at bytes out′ at′
+  pub after : at′ ≡ at + length bytes

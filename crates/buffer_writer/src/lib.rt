@@ -7,7 +7,7 @@ ghost use lib.ListN.{length, replicate};
 ghost use lib.Seq.{sets};
 ghost use Rattle.text.specs.Decimals.{decimal as Decimals·decimal};
 ghost use Rattle.buffer_writer.specs.Buffer.{handed};
-ghost use Rattle.buffer_writer.specs.Finish.{finish, Wrote};
+ghost use Rattle.buffer_writer.specs.Finish.{finish, Wrote, Laid};
 use numbers::MAX;
 
 // The place of a report that does not fit. The number for it is MAX, too.
@@ -46,24 +46,45 @@ pub fn copy_to(out: &mut [u8], at: usize, bytes: &[u8])
     }
 }
 
+// The same, and answers with the place after them.
+pub fn lay_bytes(out: &mut [u8], at: usize, bytes: &[u8]) -> usize
+    requires { ⌜ at + length (now bytes) ≤ length (now out) ⌝ }
+    ensures { λ r. ⌜ Laid (now (out .entry)) at (now (bytes .entry)) (now (out .exit)) r ⌝ }
+{
+    copy_to(out, at, bytes);
+    at + bytes.len()
+}
+
+// Writes the digits of a number where there is room for the most that one has. A number of one digit needs no scratch.
+pub fn lay_number(out: &mut [u8], at: usize, n: u64) -> usize
+    requires { ⌜ at + 20 ≤ length (now out) ⌝ }
+    ensures { λ r. ⌜ Laid (now (out .entry)) at (Decimals·decimal n) (now (out .exit)) r × (r ≤ at + 20) ⌝ }
+{
+    if n < TEN {
+        let digit = [ZERO + n as u8];
+        return lay_bytes(out, at, &digit);
+    }
+    let mut scratch = [0u8; MOST_DIGITS];
+    let digits = text::decimal(n, &mut scratch);
+    lay_bytes(out, at, digits)
+}
+
 // Writes bytes at a place, and answers with the place after them.
 pub fn put_bytes(out: &mut [u8], at: usize, bytes: &[u8]) -> usize
     ensures { λ r. ⌜ Wrote (now (out .entry)) at (now (bytes .entry)) (now (out .exit)) r ⌝ }
 {
     if has_room(out, at, bytes.len()) {
-        copy_to(out, at, bytes);
-        return at + bytes.len();
+        return lay_bytes(out, at, bytes);
     }
     FULL
 }
 
-// Writes the digits of a number. A number of one digit needs no scratch.
+// Writes the digits of a number.
 pub fn put_number(out: &mut [u8], at: usize, n: u64) -> usize
     ensures { λ r. ⌜ Wrote (now (out .entry)) at (Decimals·decimal n) (now (out .exit)) r ⌝ }
 {
-    if n < TEN {
-        let digit = [ZERO + n as u8];
-        return put_bytes(out, at, &digit);
+    if has_room(out, at, MOST_DIGITS) {
+        return lay_number(out, at, n);
     }
     let mut scratch = [0u8; MOST_DIGITS];
     let digits = text::decimal(n, &mut scratch);

@@ -12,7 +12,7 @@ use borrow.Author.Tests.{eqb-false}
 use Rattle.numbers.specs.Limits.{MAX, LAST-TIME}
 use Rattle.lists.specs.Lists.{listed, filledFrom}
 use Rattle.lists.proofs.Tests.{either, lt-or-ge, fails-by}
-use Rattle.lists.proofs.Listed.{listed-length, listed-at}
+use Rattle.lists.proofs.Listed.{listed-length, listed-at, listed-agree}
 use Rattle.lists.proofs.Parts.{word-at, part-same}
 use Rattle.lists.proofs.Filled.{filledFrom-length, filledFrom-at, filledFrom-before, filledFrom-after}
 use Rattle.numset.specs.Runs.{Runs, runs, Good, fits, pack}
@@ -22,13 +22,15 @@ use Rattle.pmtl.specs.declared.Answer.the-variants.{Open}
 use Rattle.pmtl.specs.Answer.{bitOf, digitOf}
 use Rattle.pmtl.specs.Book.{Range, Rows, start, stop}
 use Rattle.pmtl.specs.Sets.{Renew, Way}
-use Rattle.pmtl.specs.Monitor.{Snap, State, setAt, stepBy, value}
+use Rattle.pmtl.specs.Monitor.{Snap, State, setAt, mostRuns, stepBy, value}
 use Rattle.pmtl.specs.Calls.{crowded, Outcome, play}
+use Rattle.pmtl.specs.Quiet.{quietUntil}
+use Rattle.pmtl.proofs.Quiet.{quiet-same}
 use Rattle.pmtl.proofs.Answers.{step-sets-by, step-now-by, step-begun-by, step-way-by}
-use Rattle.memory.specs.Layout.{ROWS, ROW, ATOMS, OWNERS, SET, VALUES, TOLD, EARLY, SETTLED, MOVES}
+use Rattle.memory.specs.Layout.{ROWS, ROW, ATOMS, OWNERS, SET, VALUES, TOLD, EARLY, SETTLED, MOVES, LOWEST, FULLEST, UNTIL}
 use Rattle.memory.specs.Memory.{begunWord, clockOf, widthWord, temporals, rowCount, kindAt, slotAt, ownerAt, setStart, slotWords, propertyRow, valueAt, toldAt, rowsOf, wayOf, setOf, stateOf, isOne, rangeAt}
-use Rattle.memory.specs.Tables.{valueOf, propertyCount, Valued, Told, Answered, Moving, Unused, Tables}
-use Rattle.memory.specs.Kept.{Sound, Kept}
+use Rattle.memory.specs.Tables.{standing, valueOf, propertyCount, Valued, Told, Answered, Moving, Founded, Counts, Unused, Tables}
+use Rattle.memory.specs.Kept.{Sound, Awaited, Kept}
 use Rattle.memory.specs.Alike.{Alike, SameLedger}
 use Rattle.memory.proofs.Rows.{rows-length}
 use Rattle.memory.proofs.Ledger.{ledger-self}
@@ -36,16 +38,19 @@ use Rattle.memory.proofs.Alike.{alike-on, alike-filled, alike-sound, alike-set,
 use Rattle.memory.proofs.Stepped.{Stepped, kept-step, step-book, rows-of-same, kind-same, slot-same, width-same, way-same, temporals-same, assumes-same, guarantees-same, property-same}
 use Rattle.row_answers.specs.Told.{earlyTold}
 use Rattle.row_answers.proofs.Told.{told-early, told-settled, early-same, settled-same}
-use Rattle.tables.specs.Puts.{valuesPut, toldPut, countPut, toldAgain, earlyPut, settledNow, settledPut}
-use Rattle.tables.proofs.Puts.{few-properties, answer-same, told-told, told-still, told-and-asked, count-alike, count-ledger, count-counts, count-valued, count-told, count-moving, count-answered, count-unused}
+use Rattle.tables.specs.Puts.{valuesPut, toldPut, countPut, newsFrom, newsEnd, earlyPut, settledNow, settledPut, earlyRenewed, settledRenewed}
+use Rattle.tables.proofs.Puts.{few-properties, answer-same, told-told, told-still, told-and-asked, count-alike, count-ledger, count-counts, count-valued, count-told, count-moving, count-founded, count-answered, count-unused}
+use Rattle.tables.proofs.Reach.{news-asked}
 use Rattle.set_change.specs.Change.{changed, countedFrom}
 use Rattle.set_change.proofs.Changes.{changed-under}
-use Rattle.calls.specs.Private.{Bytes, snapOf, stepOf, ownRenew, renewOver, countsFrom, timeStep, ahead, setAfter, valueAfter, clocked, Planned, Written, Atoms, Moved, Tried, TriedBoth, Fitting, Asked, Due, Advanced}
-use Rattle.calls.proofs.Rules.{set-of-slot, set-of-none}
-use Rattle.calls.proofs.Ahead.{ahead-one}
-use Rattle.calls.proofs.Plans.{set-none, fits-each}
+use Rattle.planning.specs.Plan.{snapOf, stepOf, ownRenew, renewOver, countsFrom, ahead, setAfter, valueAfter, Planned}
+use Rattle.calls.specs.Private.{OnlyValues, Bytes, timeStep, clocked, Written, Atoms, Moved, Tried, TriedBoth, Fitting, Asked, Due, Advanced}
+use Rattle.planning.proofs.Rules.{set-of-slot, set-of-none}
+use Rattle.planning.proofs.Ahead.{ahead-one}
+use Rattle.planning.proofs.Plans.{set-none, fits-each}
 use Rattle.calls.proofs.Commits.{room-is}
-use Rattle.calls.proofs.Heads.{bits-listed, clocked-length, clocked-begun, clocked-clock, clocked-other, atoms-stand}
+use Rattle.planning.proofs.Atoms.{bits-listed}
+use Rattle.calls.proofs.Heads.{clocked-length, clocked-begun, clocked-clock, clocked-other, atoms-stand}
 
 -- the end of a range is a time or MAX
 stop-fits : (g : Range) (c : ℕ) → c ≤ LAST-TIME → ((g .upper ≡ MAX → ⊥) → g .upper ≤ LAST-TIME) → stop g c + 1 < 2 ^ 64 + 1
@@ -137,7 +142,7 @@ module _ {m : List ℕ} {renew : Renew} {st : State} {c : ℕ} {atoms m₁ modes
       ap₂ (λ (g : Range) (ws : List ℕ). changed mode (start g (countsFrom m₁ c mode)) (stop g c) c (runs ws)) (ap (rangeAt m₁) o ∙ range) (alike-set sound alike j (omega arith))
       ∙ ap (λ (before : ℕ). changed mode (start (rangeAt m (ownerAt m j)) (countedFrom (min (before + 1) c) c mode)) (stop (rangeAt m (ownerAt m j)) c) c (runs (slotWords m j))) (alike .below 2 (omega arith))
 
-  set-planned : (j : ℕ) → j < temporals m → setAfter m₁ c (getD modes j 0) j ≡ setAt (stepOf m renew st c atoms) (ownerAt m j)
+  pub set-planned : (j : ℕ) → j < temporals m → setAfter m₁ c (getD modes j 0) j ≡ setAt (stepOf m renew st c atoms) (ownerAt m j)
   set-planned j h = after-same (getD modes j 0) j h ∙ planned .sets refl j h
 
   pub fitting : Fitting m₁ c modes
@@ -332,6 +337,7 @@ module _
           early = rw count-now (λ i p q. beyond-now (EARLY + i) (omega arith) ∙ u .early i p q);
           settled = rw count-now (λ i p q. beyond-now (SETTLED + i) (omega arith) ∙ u .settled i p q);
           moves = rw rows-now (λ r p q. beyond-now (MOVES + r) (omega arith) ∙ u .moves r p q);
+          lowest = rw rows-now (λ r p q. beyond-now (LOWEST + r) (omega arith) ∙ u .lowest r p q);
         }
 
     told-now : (o : ℕ) → o < rowCount m → 7 ≤ kindAt m o → toldAt m₂ (slotAt m₂ o) ≡ toldAt m (slotAt m o)
@@ -364,8 +370,84 @@ module _
         let rows = kept .sound .book .few in
         record { right = rw (rows-now, rows-of-same m m₂ (kept .sound) stepped) (λ r h. beyond-now (MOVES + r) (omega arith) ∙ kept .tables .moving .right r h) }
 
+    founded-now : Founded m₂
+    founded-now =
+        let rows = kept .sound .book .few in
+        record { right = rw (rows-now, rows-of-same m m₂ (kept .sound) stepped) (λ r h. beyond-now (LOWEST + r) (omega arith) ∙ kept .tables .founded .right r h) }
+
     pub due : {first : Bool} → first ≡ eqb (begunWord m) 0 → Due m₂ first
-    due ef = record { sound = sound-now; valued = valued-now; moving = moving-now; unused = unused-now; asked = asked-now ef }
+    due ef = record { sound = sound-now; valued = valued-now; moving = moving-now; founded = founded-now; unused = unused-now; asked = asked-now ef }
+
+    -- ---- nothing but values of rows was changed by the plan: what is told, the digits, the count and the time up to which nothing moves are right
+    module _ (only : OnlyValues m m₁) where
+      clock-stays : clockOf m₂ ≡ clockOf m
+      clock-stays = a .below 2 (omega arith) ∙ only .alike .below 2 (omega arith)
+
+      set-stays : (j : ℕ) → j < 32 → slotWords m₂ j ≡ slotWords m j
+      set-stays j h = atoms-set j h ∙ alike-set (kept .sound) (only .alike) j h
+
+      set-same : (r : ℕ) → r < rowCount m → setOf m₂ r ≡ setOf m r
+      set-same r p =
+          let few = kept .sound .book .few in
+          let slots = kept .sound .book .temporal-few in
+          let ek = kind-same m m₂ (kept .sound) stepped r (omega arith) in
+          ⊎-elim
+          (λ (k : kindAt m r < 7). set-of-none m₂ r (rw ek k) ∙ sym (set-of-none m r k))
+          (λ (k : 7 ≤ kindAt m r).
+          let inside = kept .sound .book .rows r p .slot k in
+          set-of-slot m₂ r (rw ek k)
+          ∙ ap (λ (j : ℕ). runs (slotWords m₂ j)) (slot-same m m₂ (kept .sound) stepped r (omega arith))
+          ∙ ap runs (set-stays (slotAt m r) (omega arith)) ∙ sym (set-of-slot m r k))
+          (lt-or-ge (kindAt m r) 7)
+
+      sets-same : stateOf m₂ .sets ≡ stateOf m .sets
+      unfolding stateOf
+      sets-same = ap (listed (setOf m₂)) rows-now ∙ listed-agree (setOf m₂) (setOf m) (rowCount m) set-same
+
+      told₂ : Told m₂
+      told₂ =
+          let few = kept .sound .book .few in
+          let slots = kept .sound .book .temporal-few in
+          record {
+            right = rw (temporals-same m m₂ (kept .sound) stepped) (λ j h.
+                beyond-now (TOLD + j) (omega arith) ∙ kept .tables .told .right j h
+                ∙ sym (ap₂ (λ (x : ℕ) (ws : List ℕ). standing x (runs ws)) clock-stays (set-stays j (omega arith))));
+          }
+
+      counts₂ : Counts m₂
+      counts₂ =
+          let few = kept .sound .book .few in
+          record { right = beyond-now FULLEST (omega arith) ∙ kept .tables .counts .right ∙ sym (ap mostRuns sets-same) }
+
+      awaited₂ : Awaited m₂
+      unfolding stateOf
+      awaited₂ =
+          let few = kept .sound .book .few in
+          record {
+            right =
+                beyond-now UNTIL (omega arith) ∙ kept .awaited .right ∙ ap (λ (b : Rows). quietUntil b (stateOf m)) (sym (rows-of-same m m₂ (kept .sound) stepped))
+                ∙ quiet-same (rowsOf m₂) (stateOf m) (stateOf m₂) (sym clock-stays) (sym sets-same);
+          }
+
+      pub renewed-none : Alike m₂ m₂ × Tables m₂ × SameLedger m₂ m₂ × Awaited m₂
+      renewed-none =
+          let d = due {first = false} (sym (ap (λ (w : ℕ). eqb w 0) (only .begun))) in (
+            record { long = refl; below = λ i h. refl },
+            record {
+              valued = d .valued;
+              told = told₂;
+              answered = record {
+                early = λ i h. d .asked .early i h ∙ ap digitOf (told-early m₂ (d .sound) (told₂ .right) (propertyRow m₂ i));
+                settled = λ i h. d .asked .settled refl i h ∙ ap digitOf (told-settled m₂ (d .sound) (told₂ .right) (propertyRow m₂ i));
+              };
+              moving = d .moving;
+              founded = d .founded;
+              counts = counts₂;
+              unused = d .unused;
+            },
+            ledger-self m₂,
+            awaited₂,
+          )
 
 unmoved : {m : List ℕ} (st : State) (c : ℕ) (atoms : List ℕ) {ns : List Snap} → Leads m ns st c atoms → crowded (stepOf m (ownRenew st) st c atoms) ≡ true → Advanced m ns m 11
 unmoved {m} st c atoms leads e =
@@ -397,14 +479,22 @@ module _ {m : List ℕ} {st : State} {c : ℕ} {atoms m₁ : List ℕ} {r : ℕ}
 
 -- ---- what is due, once it was told and asked
 module _ {m : List ℕ} {first : Bool} (due : Due m first) where
-  -- something new was told, or it is the first accepted call
+  -- at the first accepted call, after which every property is asked
   pub renewed-asked : {m₁ m₂ : List ℕ} → m₁ ≡ countPut (toldPut m) → m₂ ≡ settledPut (earlyPut m₁) → Alike m m₂ × Tables m₂ × SameLedger m m₂
-  renewed-asked e₁ e₂ = told-and-asked (due .sound) (due .valued) (due .moving) (due .unused) (e₂ ∙ ap (λ (x : List ℕ). settledPut (earlyPut x)) e₁)
+  renewed-asked e₁ e₂ = told-and-asked (due .sound) (due .valued) (due .moving) (due .founded) (due .unused) (e₂ ∙ ap (λ (x : List ℕ). settledPut (earlyPut x)) e₁)
+
+  -- something new was told: the digits of the properties above it are asked for, and the others stand there
+  pub renewed-above : first ≡ false → {m₁ m₂ : List ℕ} {from up-to : ℕ} → m₁ ≡ countPut (toldPut m) → from ≡ newsFrom m (temporals m) → up-to ≡ newsEnd m (temporals m)
+      → m₂ ≡ settledRenewed (earlyRenewed m₁ from up-to) from up-to → Alike m m₂ × Tables m₂ × SameLedger m m₂
+  renewed-above not-first {m₁} {m₂} {from} {up-to} e₁ ef eu e₂ =
+      let asked = news-asked (due .sound) (due .founded) (due .asked .early) (due .asked .settled not-first) in
+      let all : m₂ ≡ settledPut (earlyPut (countPut (toldPut m))) = rw (e₂, e₁, ef, eu) asked in
+      told-and-asked (due .sound) (due .valued) (due .moving) (due .founded) (due .unused) all
 
   -- nothing new but the count: the digits are those that stand there
-  pub renewed-still : {m₁ : List ℕ} → m₁ ≡ countPut (toldPut m) → toldAgain m (temporals m) ≡ true → first ≡ false → Alike m m₁ × Tables m₁ × SameLedger m m₁
-  renewed-still e₁ again not-first =
-      let still = told-still m (temporals m) again in
+  pub renewed-still : {m₁ : List ℕ} → m₁ ≡ countPut (toldPut m) → newsEnd m (temporals m) ≡ 0 → first ≡ false → Alike m m₁ × Tables m₁ × SameLedger m m₁
+  renewed-still e₁ none not-first =
+      let still = told-still m (temporals m) none in
       let sound = due .sound in
       let told : Told m = subst Told still (told-told sound) in
       let answered : Answered m = record {
@@ -418,6 +508,7 @@ module _ {m : List ℕ} {first : Bool} (due : Due m first) where
           told = count-told sound told;
           answered = count-answered sound answered;
           moving = count-moving sound (due .moving);
+          founded = count-founded sound (due .founded);
           counts = count-counts sound;
           unused = count-unused sound (due .unused);
         },
@@ -442,10 +533,10 @@ module _ {m m₁ : List ℕ} (sound : Sound m) (alike : Alike m m₁) where
   rows-as : rowCount m₁ ≡ rowCount m
   rows-as = alike .below 0 (omega arith)
 
-  slots-as : temporals m₁ ≡ temporals m
+  pub slots-as : temporals m₁ ≡ temporals m
   slots-as = alike .below 4 (omega arith)
 
-  owner-as : (j : ℕ) → j < temporals m → ownerAt m₁ j ≡ ownerAt m j
+  pub owner-as : (j : ℕ) → j < temporals m → ownerAt m₁ j ≡ ownerAt m j
   owner-as j h = let few = sound .book .temporal-few in alike .below (OWNERS + j) (omega arith)
 
   same-step : (renew : Renew) (st : State) (c : ℕ) (atoms : List ℕ) → stepOf m₁ renew st c atoms ≡ stepOf m renew st c atoms
@@ -471,7 +562,7 @@ module _ {m : List ℕ} {c : ℕ} {old m₁ modes₁ : List ℕ} (kept : Kept m)
   abbrev f₁ : ℕ → ℕ
   f₁ = valueAfter m (ownRenew (stateOf m)) (stateOf m) c old
 
-  first-alike : Alike m m₁
+  pub first-alike : Alike m m₁
   first-alike = rw (first .values) (alike-filled m VALUES f₁ (first .tried) (omega arith))
 
   pub first-sound : Sound m₁
@@ -480,7 +571,7 @@ module _ {m : List ℕ} {c : ℕ} {old m₁ modes₁ : List ℕ} (kept : Kept m)
   pub first-width : (bytes : List ℕ) → widthWord m ≤ length bytes → widthWord m₁ ≤ length bytes
   first-width bytes h = let e = first-alike .below 3 (omega arith) in omega arith
 
-  first-beyond : (i : ℕ) → VALUES + rowCount m ≤ i → getD m₁ i 0 ≡ getD m i 0
+  pub first-beyond : (i : ℕ) → VALUES + rowCount m ≤ i → getD m₁ i 0 ≡ getD m i 0
   first-beyond i h = let few = first .few in ap (λ (x : List ℕ). getD x i 0) (first .values) ∙ filledFrom-after VALUES f₁ m 0 (first .tried) i (omega arith)
 
   abbrev own-renew : Renew

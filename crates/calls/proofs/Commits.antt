@@ -19,7 +19,9 @@ use Rattle.memory.specs.Memory.{clockOf, temporals, lowerAt, upperAt, ownerAt, 
 use Rattle.lists.proofs.Parts.{word-at, part-length, part-same}
 use Rattle.set_change.specs.Change.{changed, countedFrom}
 use Rattle.set_change.proofs.Changes.{changed-0}
-use Rattle.calls.specs.Private.{countsFrom, setAfter, Held, Roomy, Fit, Fitting, Written}
+use Rattle.planning.proofs.Plans.{set-long}
+use Rattle.planning.specs.Plan.{countsFrom, setAfter}
+use Rattle.calls.specs.Private.{Held, Roomy, Fit, Fitting, Written}
 
 -- ---- a part of a memory put anew
 module _ (b k : ℕ) (xs ys : List ℕ) (hb : b + k ≤ length xs) (hk : length ys ≡ k) where
@@ -56,9 +58,6 @@ pub put-as : (a e : ℕ) (m : List ℕ) {ys zs : List ℕ} → e ≡ a + SET →
 put-as a e m h q = let d : e - a ≡ SET = omega arith in ap₂ (λ (k : ℕ) (x : List ℕ). putMid a k m x) d q
 
 -- ---- one set
-pub set-long : (m : List ℕ) (j : ℕ) → length m ≡ SIZE → j < 32 → length (slotWords m j) ≡ SET
-set-long m j e h = part-length (setStart j) SET m (omega arith)
-
 pub room-is : (s : Runs) → fits SET s ≡ true → 2 * length s < SET
 room-is s e = ltb-true (2 * length s) SET e
 

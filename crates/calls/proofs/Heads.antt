@@ -1,18 +1,17 @@
 -- Begun, the clock and the atoms set in place, and the atoms that stand there. Assumes nothing.
 use Prim.Native.Nat.{ℕ, _+_, _≤_, _<_}
-use mathlib.Core.Path.{_≡_, refl, sym, ap, _∙_}
+use mathlib.Core.Path.{_≡_, refl, sym, _∙_}
 use mathlib.Core.Logic.{⊎-elim}
-use mathlib.Core.Bool.{Bool, false}
-use mathlib.Core.List.{List, map}
+use mathlib.Core.List.{List}
 use native.Mathlib.Omega.{arith}
-use lib.ListN.{length, getD, set, length-set, length-map, List·getD-map}
-use lib.Seq.{ext-getD, getD-set-same, getD-set-other}
-use Rattle.lists.specs.Lists.{listed}
+use lib.ListN.{length, getD, set, length-set}
+use lib.Seq.{getD-set-same, getD-set-other}
 use Rattle.lists.proofs.Tests.{lt-or-ge}
-use Rattle.lists.proofs.Listed.{listed-length, listed-at}
+use Rattle.lists.proofs.Listed.{listed-length}
 use Rattle.memory.specs.Layout.{ATOMS, SIZE}
-use Rattle.memory.specs.Memory.{begunWord, clockOf, widthWord, atomAt, atomsOf, isOne}
+use Rattle.memory.specs.Memory.{begunWord, clockOf, widthWord, atomAt, atomsOf}
 use Rattle.memory.specs.Kept.{Sound}
+use Rattle.planning.proofs.Atoms.{old-same}
 use Rattle.calls.specs.Private.{Bytes, clocked, Atoms}
 
 -- atoms that stand there are written
@@ -48,26 +47,9 @@ module _ (m : List ℕ) (c : ℕ) where
   pub clocked-other : (i : ℕ) → (i ≡ 1 → ⊥) → (i ≡ 2 → ⊥) → getD (clocked m c) i 0 ≡ getD m i 0
   clocked-other i p q = getD-set-other (set m 1 1) 2 i c 0 q ∙ getD-set-other m 1 i 1 0 p
 
--- ---- bytes as atoms
--- those of a list, by its places
-pub bits-listed : (f : ℕ → ℕ) (bytes : List ℕ) (n : ℕ) → length bytes ≡ n → ((i : ℕ) → i < n → getD bytes i 0 ≡ f i) → map isOne bytes ≡ listed (λ i. isOne (f i)) n
-bits-listed f bytes n long same =
-    let g : ℕ → Bool = λ i. isOne (f i) in
-    ext-getD false (map isOne bytes) (listed g n) (length-map bytes isOne ∙ long ∙ sym (listed-length g n))
-    (λ i lt.
-    let h : i < n = omega (arith, length-map bytes isOne) in
-    List·getD-map isOne bytes i 0 ∙ ap isOne (same i h) ∙ sym (listed-at g false n i h))
-
--- those that stand there
-module _ {m : List ℕ} (sound : Sound m) where
-  pub old-same : (i : ℕ) → i < widthWord m → getD m (ATOMS + i) 0 ≡ getD (atomsOf m) i 0
-  old-same i h = sym (listed-at (atomAt m) 0 (widthWord m) i h)
-
-  pub old-bytes : Bytes (atomsOf m) (widthWord m)
-  old-bytes = record {
-    long = listed-length (atomAt m) (widthWord m);
-    bits = λ i h. rw (sym (old-same i h)) (sound .atoms i h);
-  }
-
-  pub old-atoms : map isOne (atomsOf m) ≡ listed (λ i. isOne (atomAt m i)) (widthWord m)
-  old-atoms = bits-listed (atomAt m) (atomsOf m) (widthWord m) (old-bytes .long) (λ i h. sym (old-same i h))
+-- ---- the atoms that stand there, as bytes
+pub old-bytes : {m : List ℕ} → Sound m → Bytes (atomsOf m) (widthWord m)
+old-bytes {m} sound = record {
+  long = listed-length (atomAt m) (widthWord m);
+  bits = λ i h. rw (sym (old-same sound i h)) (sound .atoms i h);
+}

@@ -1,13 +1,9 @@
-pub mod Rules
-pub mod Ahead
-pub mod Modes
 pub mod Commits
 pub mod Heads
-pub mod Plans
 pub mod Advances
 pub mod Resting
+pub mod Stood
+pub mod Stays
+pub mod Greatest
 pub mod Quiet
 pub mod Public
-pub mod Joins
-pub mod Tries
-pub mod Looks

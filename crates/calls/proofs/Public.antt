@@ -27,13 +27,15 @@ use Rattle.memory.specs.Alike.{Alike, SameLedger}
 use Rattle.memory.proofs.Alike.{alike-sound, alike-book, alike-state}
 use Rattle.memory.proofs.Ledger.{ledger-self, ledger-on, ledger-same, ledger-kept}
 use Rattle.memory.proofs.Properties.{properties-length}
-use Rattle.calls.specs.Private.{AtomsStand, Bytes, snapOf, ownRenew, timeStep, Atoms, Moved, Tried, TriedBoth, Due, Done, Advanced}
+use Rattle.planning.specs.Plan.{snapOf, ownRenew}
+use Rattle.calls.specs.Private.{AtomsStand, OnlyValues, Bytes, timeStep, Atoms, Moved, Tried, TriedBoth, Due, Done, Advanced}
 use Rattle.notes.specs.Noting.{numbered, CallNoted}
 use Rattle.calls.specs.Called.{Called}
 use Rattle.calls.proofs.Resting.{rests-after, unmoved-by}
-use Rattle.calls.proofs.Plans.{some-hit}
-use Rattle.calls.proofs.Heads.{bits-listed, old-same, old-bytes, old-atoms}
-use Rattle.calls.proofs.Advances.{Leads, played, due, has-room, tried-moved, tried-refused, tried-stands}
+use Rattle.planning.proofs.Plans.{some-hit}
+use Rattle.planning.proofs.Atoms.{bits-listed, old-same, old-atoms}
+use Rattle.calls.proofs.Heads.{old-bytes}
+use Rattle.calls.proofs.Advances.{Leads, played, due, renewed-none, has-room, tried-moved, tried-refused, tried-stands}
 
 -- ---- a call that is refused for itself, and one that is not
 called-refused : {m : List ℕ} {k : Call} {n : ℕ} → Kept m → refusal (rowsOf m) (stateOf m .now) k ≡ n → (n ≡ 0 → ⊥) → Done k m m n
@@ -226,6 +228,10 @@ module _ {m : List ℕ} (kept : Kept m) (s : List ℕ) {wrong : ℕ} (ew : wrong
               let p = played kept (state-timely .0 .1) new-bytes (has-room tried z) (tried-moved tried z) a refl refl in
               let q = advanced-renewed kept p (state-due refl .sound) renewed in
               state-played (q .0) (q .1)
+
+          -- nothing but values of rows was changed
+          pub state-same : OnlyValues m m₁ → Done (state s) m m₂ 0
+          state-same only = state-done (renewed-none kept (state-timely .0 .1) new-bytes (has-room tried z) (tried-moved tried z) a refl only)
 
 -- ---- a stamped call
 module _ {m : List ℕ} (kept : Kept m) (t : ℕ) (s : List ℕ) {late : ℕ} (el : late ≡ timeRefusal (stateOf m .now) t) where

@@ -17,7 +17,7 @@ use Rattle.lists.proofs.Listed.{listed-agree}
 use Rattle.lists.proofs.Parts.{part-same}
 use Rattle.numset.specs.Runs.{runs}
 use Rattle.pmtl.specs.Answer.{bitOf, digitOf}
-use Rattle.pmtl.specs.Book.{Row, Rows, Book, rowAt}
+use Rattle.pmtl.specs.Book.{Rows, rowAt}
 use Rattle.pmtl.specs.Monitor.{State, fullest, value}
 use Rattle.pmtl.specs.Early.{early}
 use Rattle.pmtl.specs.Settled.{settled}
@@ -27,7 +27,7 @@ use Rattle.pmtl.proofs.Table.{row-out}
 use Rattle.pmtl.proofs.Calls.{timely}
 use Rattle.pmtl.proofs.Quiet.{Quiet, quiet, moves-on, stamped-on}
 use Rattle.book.specs.Rows.{rowFrom}
-use Rattle.memory.specs.Layout.{ATOMS, SET, VALUES, TOLD, EARLY, SETTLED, MOVES, FULLEST, UNTIL, CLOCK, OWNERS, SIZE}
+use Rattle.memory.specs.Layout.{ATOMS, SET, VALUES, TOLD, EARLY, SETTLED, MOVES, LOWEST, FULLEST, UNTIL, CLOCK, OWNERS, SIZE}
 use Rattle.memory.specs.Memory.{rowCount, begunWord, clockOf, widthWord, temporals, kindAt, argAt, lowerAt, upperAt, slotAt, ownerAt, setStart, slotWords, atomAt, propertyRow, untilWord, rowOf, rowsOf, bookOf, wayOf, setOf, stateOf, isOne}
 use Rattle.memory.specs.Tables.{COVERS, GONE, NEITHER, standing, valueOf, earlyOf, settledOf, propertyCount, Tables}
 use Rattle.memory.specs.Kept.{BookKept, Kept}
@@ -187,9 +187,11 @@ module _ {m : List ℕ} (kept : Kept m) (t : ℕ) (fine : timeRefusal (stateOf m
               other (SETTLED + i) (omega arith) ∙ t .answered .settled i h ∙ ap digitOf (sym (settled-same (propertyRow m i)) ∙ ap (settledOf m′) (sym (property-row i h))));
         };
         moving = record { right = rw (count-same, ticked-rows) (λ r h. other (MOVES + r) (omega arith) ∙ t .moving .right r h) };
+        founded = record { right = rw (count-same, ticked-rows) (λ r h. other (LOWEST + r) (omega arith) ∙ t .founded .right r h) };
         counts = record { right = other FULLEST (omega arith) ∙ t .counts .right ∙ sym (ap fullest ticked-state) };
         unused = record {
           moves = rw count-same (λ r p q. other (MOVES + r) (omega arith) ∙ u .moves r p q);
+          lowest = rw count-same (λ r p q. other (LOWEST + r) (omega arith) ∙ u .lowest r p q);
           values = rw count-same (λ r p q. other (VALUES + r) (omega arith) ∙ u .values r p q);
           told = rw slots (λ j p q. other (TOLD + j) (omega arith) ∙ u .told j p q);
           early = rw property-count (λ i p q. other (EARLY + i) (omega arith) ∙ u .early i p q);

@@ -1,44 +1,29 @@
 // The calls of a monitor: planned, then carried out in place, and noted. A call that is refused changes nothing but the number of the
 // call.
 ghost use mathlib.Core.Path.{_≡_};
-ghost use mathlib.Core.Bool.{true, false, cond, not, _||_};
-ghost use mathlib.Core.List.{map};
-ghost use Prim.Native.Nat.{_+_, _≤_, _<_};
-ghost use lib.ListN.{length, getD, set};
-ghost use lib.Dec.{ltb, eqb};
+ghost use mathlib.Core.Bool.{true};
+ghost use Prim.Native.Nat.{_≤_, max};
+ghost use lib.ListN.{length, getD};
+ghost use lib.Dec.{ltb};
 ghost use borrow.Rule.Slice.PartMut.{putMid};
 ghost use Rattle.numset.specs.Runs.{kept, pack, runs};
-ghost use Rattle.pmtl.specs.Answer.{bitOf};
-ghost use Rattle.pmtl.specs.Book.{start, stop, some, mapRow};
-ghost use Rattle.pmtl.specs.Monitor.{fullest, valueRule};
+ghost use Rattle.pmtl.specs.Book.{some};
+ghost use Rattle.pmtl.specs.Monitor.{fullest};
 ghost use Rattle.pmtl.specs.Calls.{Call, timeRefusal, stateRefusal};
-ghost use Rattle.memory.specs.Layout.{SET, VALUES, SIZE};
-ghost use Rattle.memory.specs.Memory.{rowCount, clockOf, widthWord, temporals, kindAt, setStart, slotWords, movesAt, rangeAt, rowOf, rowsOf, stateOf, atomsOf, isOne};
+ghost use Rattle.memory.specs.Layout.{SET, SIZE};
+ghost use Rattle.memory.specs.Memory.{clockOf, widthWord, temporals, setStart, slotWords, rowsOf, stateOf, atomsOf};
 ghost use Rattle.memory.specs.Tables.{Tables};
-ghost use Rattle.memory.specs.Kept.{BookKept, Sound, Awaited, Kept};
+ghost use Rattle.memory.specs.Kept.{BookKept, Awaited, Kept};
 ghost use Rattle.memory.specs.Alike.{Alike, SameLedger};
-ghost use Rattle.set_change.specs.Change.{changed, spannedIf, bothOf};
-ghost use Rattle.calls.specs.Private.{ahead, atomsFor, QuietAt, ticked, AtomsStand, ownRenew, spansIn, renewOver, countsFrom, heldIn, Named, modeAt, setAfter, rowPlan, Unplanned, Leading, RowTried, clocked, Bounded, Slot, Planned, Timely, Held, Roomy, Fit, Fitting, Written, Atoms, Tried, TriedBoth, Due, Done};
+ghost use Rattle.set_change.specs.Change.{changed};
+ghost use Rattle.planning.specs.Plan.{atomsFor, ownRenew, setAfter};
+ghost use Rattle.calls.specs.Private.{QuietAt, ticked, AtomsStand, clocked, Held, Roomy, Fit, Fitting, Written, Atoms, Tried, NoneOver, SetsStay, OnlyValues, TriedBoth, Due, Done};
 ghost use Rattle.calls.specs.Called.{Called};
-ghost use Rattle.book.specs.Rows.{HISTORICALLY};
-ghost use Rattle.numbers.specs.Limits.{LAST-TIME, MOST-ATOMS, MOST-ROWS, MOST-TEMPORALS};
+ghost use Rattle.numbers.specs.Limits.{LAST-TIME, MOST-ATOMS, MOST-TEMPORALS};
 ghost use Rattle.numbers.specs.Refusals.{ACCEPTED as Refusals·ACCEPTED};
-use book::AND;
-use book::ATOM;
-use book::FALSE;
-use book::HISTORICALLY;
-use book::NOT;
-use book::ONCE;
-use book::OR;
-use book::TRUE;
 use memory::SIZE;
-use memory::VALUES;
-use memory::holds;
-use memory::operand_at;
-use memory::set_at;
 use numbers::ACCEPTED;
 use numbers::LAST_TIME;
-use numbers::MAX;
 use numbers::MOST_ATOMS;
 use numbers::MOST_TEMPORALS;
 use numbers::NO_ROOM;
@@ -49,231 +34,9 @@ use numbers::TOO_LATE;
 use numbers::TOO_NARROW;
 use numbers::TOO_WIDE;
 use numset::Tally;
-use tables::joined_at;
-
-// What is planned for a temporal row: the change of its set, whether the set will contain the clock, and whether there is room.
-pub struct RowPlan {
-    pub mode: u8,
-    pub here: bool,
-    pub room: bool,
-}
-
-// Whether an atom holds.
-fn atom_at(atoms: &[u8], atom: usize) -> bool
-    requires { ⌜ atom < length (now atoms) ⌝ }
-    ensures { λ r. ⌜ r ≡ isOne (getD (now (atoms .entry)) atom 0) ⌝ }
-{
-    atoms[atom] == 1
-}
-
-// The new value of a row that is not temporal, where those of its operands are new in the table.
-fn plain_value<'a>(monitor: &'a [u64; SIZE], atoms: &'a [u8], row: usize) -> bool
-    requires { ⌜ BookKept (now monitor) ⌝ }
-    requires { ⌜ (row < rowCount (now monitor)) × (kindAt (now monitor) row < HISTORICALLY) ⌝ }
-    requires { ⌜ Named (now monitor) (now atoms) row ⌝ }
-    ensures { λ r. ⌜ r ≡ valueRule (map isOne (now (atoms .entry))) false (mapRow (heldIn (now (monitor .entry))) (rowOf (now (monitor .entry)) row)) ⌝ }
-{
-    let words = memory::row_at(monitor, row);
-    let kind = words.kind;
-    match kind {
-        FALSE => false,
-        TRUE => true,
-        ATOM => atom_at(atoms, words.arg),
-        AND => joined_at(monitor, VALUES, words.start, words.arg, false),
-        OR => joined_at(monitor, VALUES, words.start, words.arg, true),
-        NOT => !holds(monitor, operand_at(monitor, words.start)),
-        _ => {
-            if holds(monitor, operand_at(monitor, words.start)) {
-                holds(monitor, operand_at(monitor, words.start + 1))
-            } else {
-                true
-            }
-        }
-    }
-}
-
-// How a temporal row's set changes, by the new values of its operands.
-fn mode_of(monitor: &[u64; SIZE], row: usize) -> u8
-    requires { ⌜ BookKept (now monitor) ⌝ }
-    requires { ⌜ (row < rowCount (now monitor)) × (HISTORICALLY ≤ kindAt (now monitor) row) ⌝ }
-    ensures { λ r. ⌜ r ≡ modeAt (now (monitor .entry)) row ⌝ }
-{
-    let kind = memory::kind_at(monitor, row);
-    let start = memory::start_at(monitor, row);
-    let first = holds(monitor, operand_at(monitor, start));
-    if kind == HISTORICALLY {
-        return set_change::mode(true, !first);
-    }
-    if kind == ONCE {
-        return set_change::mode(true, first);
-    }
-    let second = holds(monitor, operand_at(monitor, start + 1));
-    set_change::mode(first, second)
-}
-
-// The first instant that a change at a clock counts from: where it spans a stretch that after the clock before, which stands in the
-// memory until the call is carried out; else the clock itself.
-fn counts_from(monitor: &[u64; SIZE], clock: u64, mode: u8) -> u64
-    ensures { λ r. ⌜ r ≡ countsFrom (now (monitor .entry)) clock mode ⌝ }
-{
-    if mode < set_change::STAYS_AND_SPANS {
-        return clock;
-    }
-    let before = memory::clock(monitor);
-    if before < clock {
-        return before + 1;
-    }
-    clock
-}
-
-// Where a row's range begins, counted from there.
-fn start_of(monitor: &[u64; SIZE], clock: u64, row: usize, mode: u8) -> u64
-    requires { ⌜ Bounded (now monitor) clock row ⌝ }
-    ensures { λ r. ⌜ r ≡ start (rangeAt (now (monitor .entry)) row) (countsFrom (now (monitor .entry)) clock mode) ⌝ }
-{
-    counts_from(monitor, clock, mode) + memory::lower_at(monitor, row)
-}
-
-// And where it ends, counted from the clock.
-fn stop_of(monitor: &[u64; SIZE], clock: u64, row: usize) -> u64
-    requires { ⌜ Bounded (now monitor) clock row ⌝ }
-    ensures { λ r. ⌜ r ≡ stop (rangeAt (now (monitor .entry)) row) clock ⌝ }
-{
-    let upper = memory::upper_at(monitor, row);
-    if upper == MAX {
-        return MAX;
-    }
-    clock + upper
-}
-
-// The plan of one temporal row, most of which stay as they are, where the values of the rows below it are new in the table. `before` is
-// the change that a step before this one planned in the same call, and STAYS if there is none: the plan is of both.
-fn plan_row(
-    monitor: &[u64; SIZE],
-    clock: u64,
-    slot: usize,
-    row: usize,
-    before: u8,
-    spans: bool,
-) -> RowPlan
-    requires { ⌜ Slot (now monitor) clock slot row ⌝ }
-    ensures { λ r. ⌜ r ≡ rowPlan (now (monitor .entry)) clock (spannedIf spans (bothOf before (modeAt (now (monitor .entry)) row))) slot ⌝ }
-{
-    let mode = set_change::next(before, mode_of(monitor, row), spans);
-    let set = set_at(monitor, slot);
-    if mode == set_change::STAYS {
-        return RowPlan {
-            mode,
-            here: numset::contains_from_oldest(set, clock),
-            room: true,
-        };
-    }
-    let start = start_of(monitor, clock, row, mode);
-    let stop = stop_of(monitor, clock, row);
-    let room = set_change::room_for(set, mode, start, stop, clock);
-    let here = set_change::will_have(set, mode, start, stop, clock);
-    RowPlan { mode, here, room }
-}
-
-// A temporal row's value: Historically holds where nothing in the set says otherwise.
-fn temporal_value(kind: u64, here: bool) -> bool
-    ensures { λ r. ⌜ r ≡ cond (eqb kind HISTORICALLY) (not here) here ⌝ }
-{
-    if kind == HISTORICALLY { !here } else { here }
-}
-
-// Notes a row's new value.
-fn put_value(monitor: &mut [u64; SIZE], row: usize, value: bool)
-    requires { ⌜ (row < MOST-ROWS) × (length (now monitor) ≡ SIZE) ⌝ }
-    ensures { λ _. ⌜ now (monitor .exit) ≡ set (now (monitor .entry)) (VALUES + row) (bitOf value) ⌝ }
-{
-    monitor[VALUES + row] = lists::wide(pmtl::bit(value));
-}
-
-// Tries a row, where the values of the rows below it are new in the table: its own is noted, and if it is temporal its mode; but nothing
-// where its set lacks room.
-fn try_row(
-    monitor: &mut [u64; SIZE],
-    clock: u64,
-    atoms: &[u8],
-    row: usize,
-    modes: &mut [u8],
-    spans: bool,
-) -> bool
-    requires { ⌜ Timely (now monitor) clock ⌝ }
-    requires { ⌜ (row < rowCount (now monitor)) × (length (now modes) ≡ MOST-TEMPORALS) × Named (now monitor) (now atoms) row × Leading (now monitor) (now modes) spans row ⌝ }
-    ensures { λ r. ⌜ RowTried (now (monitor .entry)) spans clock (now (atoms .entry)) (now (modes .entry)) row (now (monitor .exit)) (now (modes .exit)) r ⌝ }
-{
-    let kind = memory::kind_at(monitor, row);
-    if kind < HISTORICALLY {
-        let value = plain_value(monitor, atoms, row);
-        put_value(monitor, row, value);
-        return true;
-    }
-    let slot = memory::slot_at(monitor, row);
-    let plan = plan_row(monitor, clock, slot, row, modes[slot], spans);
-    let room = plan.room;
-    if room {
-        modes[slot] = plan.mode;
-        put_value(monitor, row, temporal_value(kind, plan.here));
-        return true;
-    }
-    false
-}
-
-// Whether a call looks at a row. A state call looks at all, a time call at those that move with the clock: the others keep their values.
-fn visits(monitor: &[u64; SIZE], row: usize, fresh: bool) -> bool
-    requires { ⌜ row < MOST-ROWS ⌝ }
-    ensures { λ r. ⌜ r ≡ (fresh || isOne (movesAt (now (monitor .entry)) row)) ⌝ }
-{
-    if fresh {
-        true
-    } else {
-        memory::moves_at(monitor, row)
-    }
-}
-
-// Whether a step counts the whole stretch since the clock before: if a state lasts. A step with fresh atoms is made at a clock at which
-// the old ones were counted already.
-fn counts_stretch(monitor: &[u64; SIZE], fresh: bool) -> bool
-    ensures { λ r. ⌜ r ≡ spansIn (now (monitor .entry)) fresh ⌝ }
-{
-    if fresh {
-        false
-    } else {
-        memory::is_lasting(monitor)
-    }
-}
-
-// The plan of a step, from row 0 upward, up to the first row whose set lacks room, over the modes that the steps before it left. A step
-// with no fresh atoms has no bytes for them.
-fn plan_call(
-    monitor: &mut [u64; SIZE],
-    clock: u64,
-    atoms: &[u8],
-    fresh: bool,
-    modes: &mut [u8],
-) -> bool
-    requires { ⌜ Sound (now monitor) × (clock ≤ LAST-TIME) × (fresh ≡ false → Kept (now monitor) × Unplanned (now monitor) (now modes)) ⌝ }
-    requires { ⌜ (length (now modes) ≡ MOST-TEMPORALS) × (fresh ≡ true → widthWord (now monitor) ≤ length (now atoms)) ⌝ }
-    ensures { λ r. ⌜ Planned (now (monitor .entry)) (renewOver (now (monitor .entry)) (spansIn (now (monitor .entry)) fresh)) (ahead (now (monitor .entry)) clock (now (modes .entry))) clock (atomsFor (now (monitor .entry)) fresh (now (atoms .entry))) (now (monitor .exit)) r (now (modes .exit)) ⌝ }
-{
-    let spans = counts_stretch(monitor, fresh);
-    let count = memory::row_count(monitor);
-    let mut row = 0;
-    while row < count {
-        if visits(monitor, row, fresh) {
-            if try_row(monitor, clock, atoms, row, modes, spans) {
-                row += 1;
-            } else {
-                return false;
-            }
-        } else {
-            row += 1;
-        }
-    }
-    true
-}
+use planning::plan_call;
+use planning::start_of;
+use planning::stop_of;
 
 // Changes the set of a slot among a monitor's words, by a range's start and stop and the clock. No part can be taken of an array.
 fn change_set(words: &mut [u64], slot: usize, mode: u8, start: u64, stop: u64, clock: u64)
@@ -344,21 +107,73 @@ fn put_atoms(monitor: &mut [u64; SIZE], atoms: &[u8])
     }
 }
 
+fn greater(a: u8, b: u8) -> u8
+    ensures { λ r. ⌜ r ≡ max a b ⌝ }
+{
+    if a < b { b } else { a }
+}
+
+// The greatest of the changes that are planned, STAYS where there is none. There is one way through the loop, so that the compiler takes
+// many slots at a time.
+fn most_planned(modes: &[u8; MOST_TEMPORALS]) -> u8
+    ensures { λ r. ⌜ NoneOver (now (modes .entry)) r MOST-TEMPORALS ⌝ }
+{
+    let mut most: u8 = 0;
+    let mut i = 0;
+    while i < MOST_TEMPORALS {
+        most = greater(most, modes[i]);
+        i += 1;
+    }
+    most
+}
+
+// Whether a planned step leaves the sets as they are: no change is planned, and a step at this clock has gone before, so that no run is
+// over.
+fn leaves_sets(monitor: &[u64; SIZE], fresh: bool, modes: &[u8; MOST_TEMPORALS]) -> bool
+    ensures { λ r. ⌜ (r ≡ true → SetsStay (now (monitor .entry)) fresh (now (modes .entry))) ⌝ }
+{
+    if memory::begun(monitor) != 1 {
+        return false;
+    }
+    if fresh {
+        return most_planned(modes) == set_change::STAYS;
+    }
+    false
+}
+
+// What came of a step: its number, and whether nothing but values of rows was changed.
+pub struct Step {
+    pub number: u64,
+    pub same: bool,
+}
+
 // A call at a clock and atoms: planned, and then carried out, all but the atoms, which a time call leaves as they are. Where a set
 // lacks room, the values are worked out anew from what did not change: these are the old ones.
-fn advance(monitor: &mut [u64; SIZE], clock: u64, atoms: &[u8], fresh: bool) -> u64
+fn advance(monitor: &mut [u64; SIZE], clock: u64, atoms: &[u8], fresh: bool) -> Step
     requires { ⌜ Kept (now monitor) × (clock ≤ LAST-TIME) ⌝ }
     requires { ⌜ (fresh ≡ true → (widthWord (now monitor) ≤ length (now atoms)) × (clock ≡ clockOf (now monitor))) ⌝ }
-    ensures { λ r. ⌜ Tried (now (monitor .entry)) (ownRenew (stateOf (now (monitor .entry)))) (stateOf (now (monitor .entry))) clock (atomsFor (now (monitor .entry)) fresh (now (atoms .entry))) (now (monitor .exit)) r ⌝ }
+    ensures { λ r. ⌜ Tried (now (monitor .entry)) (ownRenew (stateOf (now (monitor .entry)))) (stateOf (now (monitor .entry))) clock (atomsFor (now (monitor .entry)) fresh (now (atoms .entry))) (now (monitor .exit)) (r .number) × (r .same ≡ true → OnlyValues (now (monitor .entry)) (now (monitor .exit))) ⌝ }
 {
     let mut modes = [0u8; MOST_TEMPORALS];
     if plan_call(monitor, clock, atoms, fresh, &mut modes) {
+        if leaves_sets(monitor, fresh, &modes) {
+            return Step {
+                number: ACCEPTED,
+                same: true,
+            };
+        }
         commit(monitor, clock, &modes);
         put_clock(monitor, clock);
-        return ACCEPTED;
+        return Step {
+            number: ACCEPTED,
+            same: false,
+        };
     }
     tables::fill_values(monitor);
-    NO_ROOM
+    Step {
+        number: NO_ROOM,
+        same: false,
+    }
 }
 
 // A stamped call at a clock and the bytes of its state, planned and carried out, all but the atoms: the time step is planned with the
@@ -381,21 +196,21 @@ fn advance_both(monitor: &mut [u64; SIZE], clock: u64, state: &[u8]) -> u64
     NO_ROOM
 }
 
-// After an accepted call the rows are told anew what is so of their sets. Only if that is something new, or at the first such call, are
-// the properties asked again.
+// After an accepted call the rows are told anew what is so of their sets. Only the properties above a row that was told something new
+// are asked again; at the first such call all are.
 fn ask_anew(monitor: &mut [u64; SIZE], first: bool)
     requires { ⌜ Due (now monitor) first ⌝ }
     ensures { λ _. ⌜ Alike (now (monitor .entry)) (now (monitor .exit)) × Tables (now (monitor .exit)) × SameLedger (now (monitor .entry)) (now (monitor .exit)) ⌝ }
 {
+    let news = tables::retell(monitor);
     if first {
-        tables::retell(monitor);
-        tables::ask(monitor);
+        tables::ask_all(monitor);
         return;
     }
-    if tables::retell(monitor) {
+    if news.end == 0 {
         return;
     }
-    tables::ask(monitor);
+    tables::ask(monitor, news.first, news.end);
 }
 
 // After an accepted call: the answers, and up to when a time call moves the clock alone.
@@ -407,18 +222,17 @@ fn renew(monitor: &mut [u64; SIZE], first: bool)
     tables::fill_until(monitor);
 }
 
-// Whether a byte is neither 0 nor 1.
+// Whether a byte is neither 0 nor 1: the greatest of them tells, and the compiler takes many at a time.
 fn has_other(state: &[u8]) -> bool
     ensures { λ r. ⌜ r ≡ some (ltb 1) (now (state .entry)) ⌝ }
 {
+    let mut most: u8 = 0;
     let mut i = 0;
     while i < state.len() {
-        if 1 < state[i] {
-            return true;
-        }
+        most = greater(most, state[i]);
         i += 1;
     }
-    false
+    1 < most
 }
 
 // What is wrong with a time, or 0.
@@ -507,7 +321,8 @@ fn time_call(monitor: &mut [u64; SIZE], time: u64) -> u64
         return ACCEPTED;
     }
     let first = memory::begun(monitor) == 0;
-    let number = advance(monitor, time, b"", false);
+    let step = advance(monitor, time, b"", false);
+    let number = step.number;
     if number != ACCEPTED {
         return number;
     }
@@ -526,11 +341,16 @@ fn restate(monitor: &mut [u64; SIZE], state: &[u8]) -> u64
     }
     let first = memory::begun(monitor) == 0;
     let clock = memory::clock(monitor);
-    let number = advance(monitor, clock, state, true);
+    let step = advance(monitor, clock, state, true);
+    let number = step.number;
     if number != ACCEPTED {
         return number;
     }
     put_atoms(monitor, state);
+    let same = step.same;
+    if same {
+        return ACCEPTED;
+    }
     renew(monitor, first);
     ACCEPTED
 }

@@ -91,7 +91,7 @@ module _ (way : Way) (m : List ℕ) (long : length m ≡ SIZE) (word : wayWord m
       }
 
   empty-unused : Unused m
-  empty-unused = record { values = λ r p q. rest _ (omega arith); told = λ j p q. rest _ (omega arith); early = λ i p q. rest _ (omega arith); settled = λ i p q. rest _ (omega arith); moves = λ r p q. rest _ (omega arith) }
+  empty-unused = record { values = λ r p q. rest _ (omega arith); told = λ j p q. rest _ (omega arith); early = λ i p q. rest _ (omega arith); settled = λ i p q. rest _ (omega arith); moves = λ r p q. rest _ (omega arith); lowest = λ r p q. rest _ (omega arith) }
 
   empty-book : bookOf m ≡ emptyBook
   unfolding bookOf rowsOf listed

@@ -15,7 +15,7 @@ use Rattle.numset.proofs.Packs.{good-zeros}
 use Rattle.pmtl.specs.Book.{widthOf}
 use Rattle.pmtl.specs.Sets.{Way}
 use Rattle.pmtl.specs.Monitor.{initialIn}
-use Rattle.memory.specs.Layout.{ROWS, ROW, OPERANDS, PROPERTIES, ATOMS, OWNERS, SET, SIZE, VALUES, TOLD, EARLY, SETTLED, MOVES}
+use Rattle.memory.specs.Layout.{ROWS, ROW, OPERANDS, PROPERTIES, ATOMS, OWNERS, SET, SIZE, VALUES, TOLD, EARLY, SETTLED, MOVES, LOWEST}
 use Rattle.lists.specs.Lists.{part, listed, put}
 use Rattle.memory.specs.Memory.{assumeCount, guaranteeCount, kindAt, argAt, lowerAt, upperAt, startAt, slotAt, operandsOf, ownerAt, setStart, slotWords, rowOf, rowsOf, bookOf, isOne, setOf, stateOf}
 use Rattle.book.specs.Rows.{countOf}
@@ -275,14 +275,15 @@ module _ (way : Way) (s : Sections) (m : List ℕ) (ok : Accepted s) (st : Stand
           early = λ i p q. zero-from (EARLY + i) (omega arith);
           settled = λ i p q. zero-from (SETTLED + i) (omega arith);
           moves = λ r p q. zero-from (MOVES + r) (omega arith);
+          lowest = λ r p q. zero-from (LOWEST + r) (omega arith);
         };
         blank = λ i h. zero-from i (omega arith);
       }
 
 -- ---- what `store` writes, one after the other
-pub store-holds : (way : Way) (s : Sections) → Accepted s → (m : List ℕ) {m₁ m₂ m₃ m₄ m₅ m₆ : List ℕ} {width slots : ℕ} → length m ≡ SIZE → m₁ ≡ replicate (length m) 0
+pub store-holds : (way : Way) (s : Sections) → Accepted s → {m₁ m₂ m₃ m₄ m₅ m₆ : List ℕ} {width slots : ℕ} → m₁ ≡ replicate SIZE 0
     → m₂ ≡ put m₁ OPERANDS (s .operands) → m₃ ≡ put m₂ PROPERTIES (s .assumes) → m₄ ≡ put m₃ (PROPERTIES + length (s .assumes)) (s .guarantees)
     → m₅ ≡ rowsPut (s .rows) m₄ (rowsIn s) → width ≡ widthIn (s .rows) (rowsIn s) → slots ≡ temporalsIn (s .rows) (rowsIn s)
     → m₆ ≡ headPut m₅ way (rowsIn s) width slots (length (s .assumes)) (length (s .guarantees)) → Holds way (bookIn s) m₆
 unfolding stored
-store-holds way s ok m l e₁ e₂ e₃ e₄ e₅ ew et e₆ = rw (e₆, e₅, e₄, e₃, e₂, e₁, l, ew, et) (holds way s (stored way s) ok (stored-stands way s ok))
+store-holds way s ok e₁ e₂ e₃ e₄ e₅ ew et e₆ = rw (e₆, e₅, e₄, e₃, e₂, e₁, ew, et) (holds way s (stored way s) ok (stored-stands way s ok))

@@ -87,6 +87,11 @@ pub record Accepted (s : Sections) : Type 0 where
   pub few : Few s
   pub good : judged s ≡ ACCEPTED
 
+-- a whole memory of zeros
+pub record Zeroed (m : List ℕ) : Type 0 where
+  pub long : length m ≡ SIZE
+  pub zeros : m ≡ replicate SIZE 0
+
 -- the memory holds a book, with a fresh monitor in a way, and nothing is counted; its tables are not worked out yet
 pub record Holds (way : Way) (b : Book) (m : List ℕ) : Type 0 where
   pub book : bookOf m ≡ b

@@ -3,7 +3,7 @@ mod flat;
 
 ghost use mathlib.Core.Path.{_≡_};
 ghost use Prim.Native.Nat.{_+_, _*_, _/_, _≤_, _<_, max};
-ghost use lib.ListN.{length};
+ghost use lib.ListN.{length, replicate};
 ghost use lib.Seq.{paste};
 ghost use Rattle.pmtl.specs.Book.{emptyBook};
 ghost use Rattle.memory.specs.Layout.{ROWS, ROW, SIZE};
@@ -12,7 +12,7 @@ ghost use Rattle.book.specs.Placing.{sectionsOf, partsOf, Counted};
 ghost use Rattle.book.specs.Judging.{startIn, temporalsIn, bookIn};
 ghost use Rattle.book.specs.Loading.{wayIn};
 ghost use Rattle.loader.specs.Loading.{Loads};
-ghost use Rattle.loader.specs.Private.{reach, widthIn, wordsWith, rowPut, rowsPut, wordFor, headPut, Rowed, Accepted, Holds, Stored};
+ghost use Rattle.loader.specs.Private.{reach, widthIn, wordsWith, rowPut, rowsPut, wordFor, headPut, Rowed, Accepted, Zeroed, Holds, Stored};
 use book::ATOM;
 use book::HISTORICALLY;
 use book::check::Places;
@@ -157,7 +157,7 @@ fn put_head(
     monitor[WAY] = way_word(way);
 }
 
-// The memory of an accepted book, whatever stood there before.
+// The memory of an accepted book, in a memory of zeros.
 fn store<'a>(
     way: Loading,
     given: &'a [u64],
@@ -167,10 +167,9 @@ fn store<'a>(
     monitor: &mut [u64],
 )
     requires { ⌜ Accepted (sectionsOf (now given) (now operands) (now assumes) (now guarantees)) ⌝ }
-    requires { ⌜ length (now monitor) ≡ SIZE ⌝ }
+    requires { ⌜ Zeroed (now monitor) ⌝ }
     ensures { λ _. ⌜ Holds (wayIn way) (bookIn (sectionsOf (now (given .entry)) (now (operands .entry)) (now (assumes .entry)) (now (guarantees .entry)))) (now (monitor .exit)) ⌝ }
 {
-    lists::clear(monitor);
     lists::copy(operands, monitor, OPERANDS);
     lists::copy(assumes, monitor, PROPERTIES);
     lists::copy(guarantees, monitor, PROPERTIES + assumes.len());
@@ -188,7 +187,7 @@ fn store<'a>(
 // The book of these words, whose sections stand where places tell.
 fn store_parts(way: Loading, words: &[u64], places: Places, monitor: &mut [u64])
     requires { ⌜ Counted (now words) (places .rows) (places .operands) (places .assumes) (places .guarantees) ⌝ }
-    requires { ⌜ Accepted (partsOf (now words) (places .rows) (places .operands) (places .assumes) (places .guarantees)) × (length (now monitor) ≡ SIZE) ⌝ }
+    requires { ⌜ Accepted (partsOf (now words) (places .rows) (places .operands) (places .assumes) (places .guarantees)) × Zeroed (now monitor) ⌝ }
     ensures { λ _. ⌜ Holds (wayIn way) (bookIn (partsOf (now (words .entry)) (places .rows) (places .operands) (places .assumes) (places .guarantees))) (now (monitor .exit)) ⌝ }
 {
     store(
@@ -201,7 +200,7 @@ fn store_parts(way: Loading, words: &[u64], places: Places, monitor: &mut [u64])
     );
 }
 
-// The memory of an empty book: it has its way, too.
+// The memory of an empty book, whatever stood there before: it has its way, too.
 fn store_empty(way: Loading, monitor: &mut [u64])
     requires { ⌜ length (now monitor) ≡ SIZE ⌝ }
     ensures { λ _. ⌜ Holds (wayIn way) emptyBook (now (monitor .exit)) ⌝ }
@@ -210,9 +209,9 @@ fn store_empty(way: Loading, monitor: &mut [u64])
     monitor[WAY] = way_word(way);
 }
 
-// Loading as far as the words alone tell, and but for the tables, over a memory whose length is not part of its type.
+// Loading as far as the words alone tell, and but for the tables, over a memory of zeros whose length is not part of its type.
 fn store_judged(way: Loading, words: &[u64], monitor: &mut [u64]) -> u64
-    requires { ⌜ length (now monitor) ≡ SIZE ⌝ }
+    requires { ⌜ Zeroed (now monitor) ⌝ }
     ensures { λ r. ⌜ Stored way (now (words .entry)) (now (monitor .exit)) r ⌝ }
 {
     let places = place_by(way, words);
@@ -225,9 +224,10 @@ fn store_judged(way: Loading, words: &[u64], monitor: &mut [u64]) -> u64
     number
 }
 
-// Loads a book from words in a way of loading: a fresh monitor of it, or of an empty book where it is refused, whatever stood in
-// the memory before.
-pub fn load_by(way: Loading, words: &[u64], monitor: &mut [u64; SIZE]) -> u64
+// Loads a book from words in a way of loading: a fresh monitor of it, or of an empty book where it is refused. For a caller whose
+// memory is all zeros already.
+pub fn load_in_zeros(way: Loading, words: &[u64], monitor: &mut [u64; SIZE]) -> u64
+    requires { ⌜ now monitor ≡ replicate SIZE 0 ⌝ }
     ensures { λ r. ⌜ Loads way (now (words .entry)) (now (monitor .exit)) r ⌝ }
 {
     let judged = store_judged(way, words, monitor);
@@ -238,6 +238,14 @@ pub fn load_by(way: Loading, words: &[u64], monitor: &mut [u64; SIZE]) -> u64
     store_empty(way, monitor);
     tables::work_out(monitor);
     NESTED
+}
+
+// The same, whatever stood in the memory before.
+pub fn load_by(way: Loading, words: &[u64], monitor: &mut [u64; SIZE]) -> u64
+    ensures { λ r. ⌜ Loads way (now (words .entry)) (now (monitor .exit)) r ⌝ }
+{
+    lists::clear(monitor);
+    load_in_zeros(way, words, monitor)
 }
 
 // Loads a book as any that is in order.

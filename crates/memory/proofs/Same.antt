@@ -12,15 +12,15 @@ use Rattle.numset.specs.Runs.{Runs, runs, pack}
 use Rattle.lists.proofs.Tests.{either, lt-or-ge}
 use Rattle.numset.proofs.Packs.{packed}
 use Rattle.pmtl.specs.Answer.{bitOf, digitOf}
-use Rattle.pmtl.specs.Book.{Row, Rows, Book, widthOf, moves}
+use Rattle.pmtl.specs.Book.{Row, Rows, Book, widthOf, moves, lowest}
 use Rattle.pmtl.specs.Sets.{Way, ordinary, lasting}
 use Rattle.pmtl.specs.Monitor.{State, fullest, value}
 use Rattle.pmtl.specs.Quiet.{quietUntil}
 use Rattle.pmtl.specs.Early.{early}
 use Rattle.pmtl.specs.Settled.{settled}
-use Rattle.memory.specs.Layout.{ROWS, ROW, OPERANDS, PROPERTIES, ATOMS, OWNERS, SETS, SET, VALUES, TOLD, EARLY, SETTLED, MOVES, FULLEST, UNTIL, LEDGER, TAKEN, ENTRIES, ENTRY, SIZE}
+use Rattle.memory.specs.Layout.{ROWS, ROW, OPERANDS, PROPERTIES, ATOMS, OWNERS, SETS, SET, VALUES, TOLD, EARLY, SETTLED, MOVES, LOWEST, FULLEST, UNTIL, LEDGER, TAKEN, ENTRIES, ENTRY, SIZE}
 use Rattle.lists.specs.Lists.{part, listed}
-use Rattle.memory.specs.Memory.{rowCount, begunWord, clockOf, widthWord, temporals, assumeCount, guaranteeCount, wayWord, kindAt, argAt, lowerAt, upperAt, startAt, slotAt, operandsOf, ownerAt, setStart, slotWords, propertyRow, valueAt, toldAt, earlyAt, settledAt, movesAt, fullestWord, untilWord, numberWord, takenWord, entryStart, entryWord, rowOf, rowsOf, bookOf, isOne, wayOf, setOf, stateOf, entryOf, ledgerOf}
+use Rattle.memory.specs.Memory.{rowCount, begunWord, clockOf, widthWord, temporals, assumeCount, guaranteeCount, wayWord, kindAt, argAt, lowerAt, upperAt, startAt, slotAt, operandsOf, ownerAt, setStart, slotWords, propertyRow, valueAt, toldAt, earlyAt, settledAt, movesAt, lowestAt, fullestWord, untilWord, numberWord, takenWord, entryStart, entryWord, rowOf, rowsOf, bookOf, isOne, wayOf, setOf, stateOf, entryOf, ledgerOf}
 use Rattle.memory.specs.Tables.{standing, propertyCount}
 use Rattle.book.specs.Rows.{countOf}
 use Rattle.ledger.specs.Ledger.{Entry, Ledger, entryAt}
@@ -392,6 +392,15 @@ module _ (m m′ : List ℕ) (k : Kept m) (k′ : Kept m′) (same-book : bookOf
       (λ p. k .tables .unused .moves r p h ∙ sym (k′ .tables .unused .moves r (omega arith) h))
       (lt-or-ge r (rowCount m))
 
+  same-lowest : (r : ℕ) → r < 128 → lowestAt m r ≡ lowestAt m′ r
+  same-lowest r h =
+      let c = below 0 (omega arith) in
+      let e = same-rows m m′ (k .sound) (k′ .sound) same-book same-state in
+      ⊎-elim
+      (λ p. k .tables .founded .right r p ∙ ap (λ (b : Rows). lowest b r) e ∙ sym (k′ .tables .founded .right r (omega arith)))
+      (λ p. k .tables .unused .lowest r p h ∙ sym (k′ .tables .unused .lowest r (omega arith) h))
+      (lt-or-ge r (rowCount m))
+
   same-fullest : fullestWord m ≡ fullestWord m′
   same-fullest = k .tables .counts .right ∙ ap fullest same-state ∙ sym (k′ .tables .counts .right)
 
@@ -411,10 +420,12 @@ module _ (m m′ : List ℕ) (k : Kept m) (k′ : Kept m′) (same-book : bookOf
       ⊎-elim (λ q. in-part EARLY i p₃ (same-early (i - EARLY) (omega arith))) (λ p₄.
       ⊎-elim (λ q. in-part SETTLED i p₄ (same-settled (i - SETTLED) (omega arith))) (λ p₅.
       ⊎-elim (λ q. in-part MOVES i p₅ (same-moves (i - MOVES) (omega arith))) (λ p₆.
-      ⊎-elim (λ q. word-at m i FULLEST (omega arith) ∙ same-fullest ∙ word-at m′ FULLEST i (omega arith)) (λ p₇.
+      ⊎-elim (λ q. in-part LOWEST i p₆ (same-lowest (i - LOWEST) (omega arith))) (λ p₇.
+      ⊎-elim (λ q. word-at m i FULLEST (omega arith) ∙ same-fullest ∙ word-at m′ FULLEST i (omega arith)) (λ p₈.
       word-at m i UNTIL (omega arith) ∙ same-until ∙ word-at m′ UNTIL i (omega arith))
       (lt-or-ge i UNTIL))
       (lt-or-ge i FULLEST))
+      (lt-or-ge i LOWEST))
       (lt-or-ge i MOVES))
       (lt-or-ge i SETTLED))
       (lt-or-ge i EARLY))

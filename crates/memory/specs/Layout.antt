@@ -82,9 +82,13 @@ SETTLED = EARLY + MOST-PROPERTIES
 abbrev pub MOVES : ℕ
 MOVES = SETTLED + MOST-PROPERTIES
 
+-- and the lowest row at or below each row
+abbrev pub LOWEST : ℕ
+LOWEST = MOVES + MOST-ROWS
+
 -- and a word for how many runs the fullest set has
 abbrev pub FULLEST : ℕ
-FULLEST = MOVES + MOST-ROWS
+FULLEST = LOWEST + MOST-ROWS
 
 -- and a word for up to when a time call moves the clock alone
 abbrev pub UNTIL : ℕ

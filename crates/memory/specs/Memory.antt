@@ -13,7 +13,7 @@ use Rattle.pmtl.specs.Monitor.{State}
 use Rattle.book.specs.Rows.{rowFrom, temporal}
 use Rattle.ledger.specs.Ledger.{Entry, Ledger}
 use Rattle.memory.specs.declared.RowWords.{RowWords}
-use Rattle.memory.specs.Layout.{ROW-COUNT, BEGUN, CLOCK, WIDTH, TEMPORALS, ASSUMES, GUARANTEES, WAY, ROWS, ROW, OPERANDS, PROPERTIES, ATOMS, OWNERS, SETS, SET, VALUES, TOLD, EARLY, SETTLED, MOVES, FULLEST, UNTIL, LEDGER, TAKEN, ENTRIES, ENTRY, FAILED, FIRST, LAST, LONGEST, SETTLED-CALL, STRETCH}
+use Rattle.memory.specs.Layout.{ROW-COUNT, BEGUN, CLOCK, WIDTH, TEMPORALS, ASSUMES, GUARANTEES, WAY, ROWS, ROW, OPERANDS, PROPERTIES, ATOMS, OWNERS, SETS, SET, VALUES, TOLD, EARLY, SETTLED, MOVES, LOWEST, FULLEST, UNTIL, LEDGER, TAKEN, ENTRIES, ENTRY, FAILED, FIRST, LAST, LONGEST, SETTLED-CALL, STRETCH}
 
 -- ---- words read off a memory
 abbrev pub rowCount : List ℕ → ℕ
@@ -112,6 +112,10 @@ settledAt m i = getD m (SETTLED + i) 0
 -- whether a time call can change a row's value
 abbrev pub movesAt : List ℕ → ℕ → ℕ
 movesAt m r = getD m (MOVES + r) 0
+
+-- the lowest row at or below a row
+abbrev pub lowestAt : List ℕ → ℕ → ℕ
+lowestAt m r = getD m (LOWEST + r) 0
 
 -- how many runs the fullest set has
 abbrev pub fullestWord : List ℕ → ℕ

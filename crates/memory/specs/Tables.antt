@@ -7,12 +7,12 @@ use Rattle.numbers.specs.Limits.{MOST-ROWS, MOST-PROPERTIES, MOST-TEMPORALS}
 use Rattle.numset.specs.Runs.{Runs, runs, covers}
 use Rattle.pmtl.specs.declared.Answer.{Answer}
 use Rattle.pmtl.specs.Answer.{bitOf, digitOf}
-use Rattle.pmtl.specs.Book.{moves}
+use Rattle.pmtl.specs.Book.{moves, lowest}
 use Rattle.pmtl.specs.Sets.{gone}
 use Rattle.pmtl.specs.Monitor.{fullest, value}
 use Rattle.pmtl.specs.Early.{early}
 use Rattle.pmtl.specs.Settled.{settled}
-use Rattle.memory.specs.Memory.{rowCount, clockOf, temporals, assumeCount, guaranteeCount, slotWords, propertyRow, valueAt, toldAt, earlyAt, settledAt, movesAt, fullestWord, rowsOf, stateOf}
+use Rattle.memory.specs.Memory.{rowCount, clockOf, temporals, assumeCount, guaranteeCount, slotWords, propertyRow, valueAt, toldAt, earlyAt, settledAt, movesAt, lowestAt, fullestWord, rowsOf, stateOf}
 
 -- what is told of a set: that it has every instant from the clock on; that it has none of them; or neither
 abbrev pub COVERS : ℕ
@@ -58,6 +58,10 @@ pub record Answered (m : List ℕ) : Type 0 where
 pub record Moving (m : List ℕ) : Type 0 where
   pub right : (r : ℕ) → r < rowCount m → movesAt m r ≡ bitOf (moves (rowsOf m) r)
 
+-- and which row is the lowest at or below it
+pub record Founded (m : List ℕ) : Type 0 where
+  pub right : (r : ℕ) → r < rowCount m → lowestAt m r ≡ lowest (rowsOf m) r
+
 -- the count is that of the fullest set
 pub record Counts (m : List ℕ) : Type 0 where
   pub right : fullestWord m ≡ fullest (stateOf m)
@@ -65,6 +69,7 @@ pub record Counts (m : List ℕ) : Type 0 where
 -- words of the tables that are not in use are 0
 pub record Unused (m : List ℕ) : Type 0 where
   pub moves : (r : ℕ) → rowCount m ≤ r → r < MOST-ROWS → movesAt m r ≡ 0
+  pub lowest : (r : ℕ) → rowCount m ≤ r → r < MOST-ROWS → lowestAt m r ≡ 0
   pub values : (r : ℕ) → rowCount m ≤ r → r < MOST-ROWS → valueAt m r ≡ 0
   pub told : (j : ℕ) → temporals m ≤ j → j < MOST-TEMPORALS → toldAt m j ≡ 0
   pub early : (i : ℕ) → propertyCount m ≤ i → i < MOST-PROPERTIES → earlyAt m i ≡ 0
@@ -76,5 +81,6 @@ pub record Tables (m : List ℕ) : Type 0 where
   pub told : Told m
   pub answered : Answered m
   pub moving : Moving m
+  pub founded : Founded m
   pub counts : Counts m
   pub unused : Unused m

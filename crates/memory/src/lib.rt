@@ -4,7 +4,7 @@ ghost use Prim.Native.Nat.{_<_};
 ghost use lib.ListN.{getD};
 ghost use Rattle.numbers.specs.Limits.{MOST-ROWS, MOST-OPERANDS, MOST-PROPERTIES, MOST-TEMPORALS};
 ghost use Rattle.memory.specs.Layout.{ENTRY, SIZE};
-ghost use Rattle.memory.specs.Memory.{rowCount, begunWord, clockOf, widthWord, temporals, assumeCount, guaranteeCount, wayWord, kindAt, argAt, lowerAt, upperAt, startAt, wordsAt, slotAt, operandAt, propertyRow, ownerAt, slotWords, valueAt, toldAt, earlyAt, settledAt, movesAt, fullestWord, untilWord, numberWord, takenWord, entryWord, isOne};
+ghost use Rattle.memory.specs.Memory.{rowCount, begunWord, clockOf, widthWord, temporals, assumeCount, guaranteeCount, wayWord, kindAt, argAt, lowerAt, upperAt, startAt, wordsAt, slotAt, operandAt, propertyRow, ownerAt, slotWords, valueAt, toldAt, earlyAt, settledAt, movesAt, lowestAt, fullestWord, untilWord, numberWord, takenWord, entryWord, isOne};
 ghost use Rattle.memory.specs.Kept.{BookKept};
 ghost use Rattle.memory.specs.Tables.{propertyCount};
 use numbers::MOST_ATOMS;
@@ -80,8 +80,11 @@ pub const SETTLED: usize = EARLY + MOST_PROPERTIES;
 // And of each row whether a time call can change its value.
 pub const MOVES: usize = SETTLED + MOST_PROPERTIES;
 
+// And the lowest row at or below each row.
+pub const LOWEST: usize = MOVES + MOST_ROWS;
+
 // And how many runs the fullest set has.
-pub const FULLEST: usize = MOVES + MOST_ROWS;
+pub const FULLEST: usize = LOWEST + MOST_ROWS;
 
 // And up to when a time call moves the clock alone.
 pub const UNTIL: usize = FULLEST + 1;
@@ -312,6 +315,14 @@ pub fn moves_at(monitor: &[u64; SIZE], row: usize) -> bool
     ensures { λ r. ⌜ r ≡ isOne (movesAt (now (monitor .entry)) row) ⌝ }
 {
     monitor[MOVES + row] == 1
+}
+
+// The lowest row at or below a row.
+pub fn lowest_at(monitor: &[u64; SIZE], row: usize) -> usize
+    requires { ⌜ row < MOST-ROWS ⌝ }
+    ensures { λ r. ⌜ r ≡ lowestAt (now (monitor .entry)) row ⌝ }
+{
+    monitor[LOWEST + row] as usize
 }
 
 // How many runs the fullest set has, 0 where no row is temporal.

@@ -13,7 +13,7 @@ use Rattle.numset.specs.Runs.{run, Runs, Under, Canonical, within, has, 
 use Rattle.numset.specs.Private.{Shifted, Cleared, oldestLapsed, Lapsed, Dropped, withRun}
 use Rattle.lists.proofs.Tests.{lt-or-ge, and-left, and-right}
 use Rattle.numset.proofs.Laws.{outside-below, under-mono, canonical, topOf, under-topOf}
-use Rattle.numset.proofs.Union.{insert-over, insert-past, insert-join, union-none, union-some}
+use Rattle.numset.proofs.Union.{insert-over, insert-past, insert-join, union-none, union-some, union-has}
 use Rattle.numset.proofs.Words.{at, runs-suc, length-runs}
 use Rattle.numset.proofs.Packs.{packed, good-pack}
 use Rattle.numset.proofs.Moves.{put-here, cleared-none, cleared-more, cleared-eq}
@@ -49,6 +49,10 @@ kept-has t i (run l u ∷ rs) h =
     (λ p. rw (kept-out t l u rs p, outside-below l u i (omega arith)) (kept-has t i rs h))
     (λ p. rw (kept-in t l u rs p) (ap (λ (x : Bool). within l u i || x) (kept-has t i rs h)))
     (lt-or-ge u t)
+
+-- and with an interval added t itself, where it is in the one or the other
+pub joined-has : (l u t : ℕ) (rs : Runs) → Canonical rs → has (union l u (kept t rs)) t ≡ within l u t || has rs t
+joined-has l u t rs w = union-has l u (kept t rs) t (kept-canonical t rs w) ∙ rw (kept-has t t rs (omega arith))
 
 -- there are not more of them
 pub kept-length : (t : ℕ) (rs : Runs) → length (kept t rs) ≤ length rs
@@ -135,7 +139,13 @@ module _ (m : List ℕ) (t : ℕ) where
   unfolding oldestLapsed
   oldest-is h = rw (lt-ltb 0 (getD m 0 0) h)
 
--- where it did not lapse, none did
+-- where it lapsed, the look goes on behind it
+pub lapsing-first : {m : List ℕ} {t : ℕ} → oldestLapsed m t ≡ true → Lapsing m t 1
+unfolding oldestLapsed
+lapsing-first {m} {t} e =
+    lapsing-more (lapsing-start m t) (ltb-true 0 (getD m 0 0) (and-left _ (ltb (hi m 0) t) e)) (ltb-true (hi m 0) t (and-right (ltb 0 (getD m 0 0)) _ e))
+
+-- where it did not, none did
 pub none-lapses : {m : List ℕ} {t : ℕ} → Good m → oldestLapsed m t ≡ false → Lapsed m t 0
 none-lapses {m} {t} g e =
     ⊎-elim
@@ -143,7 +153,7 @@ none-lapses {m} {t} g e =
     (λ h. lapsing-end (lapsing-start m t) h)
     (lt-or-ge 0 (getD m 0 0))
 
--- where it did, there are fewer left
+-- where it lapsed, there are fewer left
 fewer-left : (t : ℕ) (m : List ℕ) (i : ℕ) → hi m 0 < t → length (kept t (runsTo m (suc i))) ≤ i
 unfolding runsTo
 fewer-left t m zero h = rw (kept-out t (lo m 0) (hi m 0) (runsTo m 0) h) (kept-length t (runsTo m 0))
@@ -226,7 +236,7 @@ module _ {m : List ℕ} {t k : ℕ} (w : Lapsed m t k) (g : Good m) where
     runs-left : runs m′ ≡ kept t (runs m)
     runs-left = ap (runsTo m′) (z .count) ∙ kept-moved w z (getD m 0 0 - k) (getD m 0 0) (omega (arith, w .few)) (omega arith)
 
-    good-left : Good m′
+    pub good-left : Good m′
     good-left =
         record {
           room = rw (z .count, e) (let r = g .room in omega arith);

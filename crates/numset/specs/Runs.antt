@@ -98,6 +98,10 @@ pack size rs = length rs ∷ words rs ++ replicate (size - (2 * length rs + 1)) 
 abbrev pub fits : ℕ → Runs → Bool
 fits size rs = ltb (2 * length rs) size
 
+-- the words m, with what is kept of their set from t on
+abbrev pub keptWords : ℕ → List ℕ → List ℕ
+keptWords t m = pack (length m) (kept t (runs m))
+
 -- the words of a set with room for the most runs
 abbrev pub SET-WORDS : ℕ
 SET-WORDS = 1 + 2 * MOST-RUNS

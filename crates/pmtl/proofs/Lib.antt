@@ -1,4 +1,5 @@
 pub mod Table
+pub mod Lowest
 pub mod Answers
 pub mod Still
 pub mod Flat

@@ -1,11 +1,11 @@
 -- A monitor that rests: up to a time that its sets tell, a time call is accepted and moves the clock alone, in either way of monitoring. Assumes nothing.
-use Prim.Native.Nat.{ℕ, zero, suc, _+_, _≤_, _<_, min}
+use Prim.Native.Nat.{ℕ, zero, suc, _+_, _≤_, _<_, min, max}
 use native.Mathlib.Omega.{arith}
 use mathlib.Core.Path.{_≡_, refl, sym, ap, ap₂, subst, _∙_}
 use mathlib.Core.Logic.{⊎-elim}
 use mathlib.Core.Bool.{Bool, true, false, cond, not, true≢false}
 use mathlib.Core.List.{List, [], _∷_}
-use lib.ListN.{length}
+use lib.ListN.{length, getD}
 use lib.Seq.{ext-getD}
 use lib.Dec.{eqb}
 use borrow.Author.Tests.{le-ltb, lt-ltb, ltb-true, eq-eqb}
@@ -421,3 +421,14 @@ module _ (b : Rows) (w : Ordered b) (ranged : (r : ℕ) → RowRanged (rowAt b r
         ∙ past-time (stated (timed (st .now) t) bytes ∷ [])
         ∙ older b st (movedTo t st) (movedTo t st) (stated (timed (st .now) t) bytes ∷ [])
         ∙ ap (λ (o : Outcome). record { number = o .number; state = cond (eqb (o .number) ACCEPTED) (o .state) st }) (sym (not-refused b (movedTo t st) (state bytes) right))
+
+-- ---- it hangs on the clock and the sets alone
+until-same : (b : Rows) (st st′ : State) → st .now .clock ≡ st′ .now .clock → st .sets ≡ st′ .sets → (n : ℕ) → untilTo b st n ≡ untilTo b st′ n
+unfolding untilTo
+until-same b st st′ ec es zero = refl
+until-same b st st′ ec es (suc r) =
+    ap₂ min (until-same b st st′ ec es r) (ap₂ (λ (c : ℕ) (ss : List Runs). untilRow c (getD ss r []) (rowAt b r)) ec es)
+
+pub quiet-same : (b : Rows) (st st′ : State) → st .now .clock ≡ st′ .now .clock → st .sets ≡ st′ .sets → quietUntil b st ≡ quietUntil b st′
+unfolding quietUntil
+quiet-same b st st′ ec es = ap₂ max ec (until-same b st st′ ec es (length b))

@@ -7,7 +7,7 @@ use native.Mathlib.Omega.{arith}
 use native.Mathlib.Numerals.{add-one}
 use native.Mathlib.Decide.{ℕ-discrete}
 use lib.Dec.{lit≤}
-use lib.ListN.{length, take, drop, length-drop, length-append}
+use lib.ListN.{length, getD, take, drop, length-drop, length-append, drop-of-length-le}
 use lib.Seq.{sets, take-all}
 use borrow.Author.Tests.{eq-eqb, ne-eqb}
 use Rattle.text.specs.Words.{space, lineFeed, digit0}
@@ -26,8 +26,8 @@ use Rattle.memory.specs.Kept.{Kept}
 use Rattle.property_answers.specs.Verdict.{verdictIn, verdictOf}
 use Rattle.memory.proofs.Properties.{properties-length, property-is}
 use Rattle.buffer_writer.specs.Buffer.{Handed}
-use Rattle.buffer_writer.specs.Finish.{finish, Wrote}
-use Rattle.buffer_writer.proofs.Writes.{sets-append, it-fits, too-much, and-then}
+use Rattle.buffer_writer.specs.Finish.{finish, Wrote, Laid}
+use Rattle.buffer_writer.proofs.Writes.{sets-append, it-fits, too-much, and-then, same-bytes, drop-more}
 use Rattle.report.specs.Lines.{PropertyWord, wordOf, restOf, lineOf}
 use Rattle.report.specs.Report.{excessWords, propertyWord, propertyWords, restWords, callLine}
 use Rattle.report.specs.Private.{digitWord, wordAt, digitWords, LaidOn, digitRest, digitLine}
@@ -116,6 +116,48 @@ pub rest-written : (m : List ℕ) {out out₁ out₂ out₃ : List ℕ} {at at�
     → count ≡ fullestWord m → Wrote out₂ at₂ (decimal count) out₃ at₃ → Wrote out at (digitRest m) out₃ at₃
 unfolding digitRest
 rest-written m words part e number = and-then words (and-then part (rw e at number))
+
+-- ---- a line that is laid
+-- the last digits of a number, each at its place
+last-more : (m : List ℕ) (i : ℕ) {l : List ℕ} → i < length m → drop (i + 1) m ≡ l → drop i m ≡ getD m i 0 ∷ l
+last-more m i h e = drop-more m i h ∙ ap (λ (l : List ℕ). getD m i 0 ∷ l) e
+
+last-one : (m : List ℕ) (i : ℕ) → i + 1 ≡ length m → drop i m ≡ getD m i 0 ∷ []
+last-one m i e = last-more m i (omega arith) (drop-of-length-le m {i = i + 1} (omega arith))
+
+pub last-three : (m : List ℕ) → length m ≡ 20 → getD m 17 0 ∷ getD m 18 0 ∷ getD m 19 0 ∷ [] ≡ drop 17 m
+last-three m e = sym (last-more m 17 (omega arith) (last-more m 18 (omega arith) (last-one m 19 (omega arith))))
+
+pub last-four : (m : List ℕ) → length m ≡ 20 → getD m 16 0 ∷ getD m 17 0 ∷ getD m 18 0 ∷ getD m 19 0 ∷ [] ≡ drop 16 m
+last-four m e = sym (last-more m 16 (omega arith) (sym (last-three m e)))
+
+pub laid-from : (digits : List ℕ) {first k : ℕ} {m m₁ : List ℕ} {at at₁ : ℕ} → first ≡ k → Laid m at (drop k digits) m₁ at₁ → Laid m at (drop first digits) m₁ at₁
+laid-from digits e l = rw e l
+
+-- what follows the words of the properties
+pub end-at-once : (count : ℕ) → count < 10 → space ∷ (digit0 + count) ∷ lineFeed ∷ [] ≡ space ∷ decimal count ++ lineFeed ∷ []
+end-at-once count h = ap (λ (l : List ℕ). space ∷ l ++ lineFeed ∷ []) (one-place count h)
+
+pub end-laid : (count : ℕ) {m m₁ m₂ m₃ : List ℕ} {at at₁ at₂ at₃ : ℕ} → Laid m at (space ∷ []) m₁ at₁ → Laid m₁ at₁ (decimal count) m₂ at₂ → Laid m₂ at₂ (lineFeed ∷ []) m₃ at₃
+    → Wrote m at (space ∷ decimal count ++ lineFeed ∷ []) m₃ at₃
+end-laid count part number end = and-then (part .wrote) (and-then (number .wrote) (end .wrote))
+
+pub rest-laid : (m out : List ℕ) (at : ℕ) {count n : ℕ} {out₁ out₂ : List ℕ} {at₂ : ℕ} → count ≡ propertyCount m → out₁ ≡ sets out at (digitWords m count) → n ≡ fullestWord m
+    → Wrote out₁ (at + 4 * count) (space ∷ decimal n ++ lineFeed ∷ []) out₂ at₂ → Wrote out at (digitRest m ++ lineFeed ∷ []) out₂ at₂
+unfolding digitRest
+rest-laid m out at e words f end =
+    same-bytes (and-then (words-wrote m out at e words) (rw f at end))
+    (sym (append-assoc (digitWords m (propertyCount m)) (space ∷ decimal (fullestWord m)) (lineFeed ∷ [])))
+
+pub line-laid : (number words : List ℕ) {m m₁ m₂ m₃ : List ℕ} {at at₁ at₂ at₃ : ℕ} → Laid m at number m₁ at₁ → Laid m₁ at₁ (space ∷ digit0 ∷ []) m₂ at₂ → Wrote m₂ at₂ (words ++ lineFeed ∷ []) m₃ at₃
+    → Wrote m at (digitLine number 0 words) m₃ at₃
+unfolding digitLine
+line-laid number words digits nought rest =
+    same-bytes (and-then (and-then (digits .wrote) (same-bytes (nought .wrote) (accepted-bytes 0 refl))) rest)
+    (sym (append-assoc (number ++ space ∷ decimal 0) words (lineFeed ∷ [])))
+
+pub as-accepted : (number words : List ℕ) {r : ℕ} {m m₁ : List ℕ} {at at₁ : ℕ} → r ≡ 0 → Wrote m at (digitLine number 0 words) m₁ at₁ → Wrote m at (digitLine number r words) m₁ at₁
+as-accepted number words e w = rw e w
 
 -- ---- the digits of the answers, and the line of REFERENCE 8.3
 one-more : (ws : List PropertyWord) (w : PropertyWord) → propertyWords (ws ++ w ∷ []) ≡ propertyWords ws ++ propertyWord w

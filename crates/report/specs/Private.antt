@@ -5,7 +5,9 @@ use mathlib.Core.Bool.{Bool, true, false, cond}
 use mathlib.Core.List.{List, [], _∷_, _++_}
 use lib.Dec.{eqb}
 use lib.Seq.{sets}
-use Rattle.text.specs.Words.{space, digit0, supplyFrom}
+use Rattle.text.specs.Words.{space, digit0, nextWord, supplyFrom}
+use Rattle.text.specs.declared.words.Read as text
+use Rattle.text.specs.declared.words.Read.the-variants.{Word}
 use Rattle.text.specs.Decimals.{decimal}
 use Rattle.pmtl.specs.Calls.{Call}
 use Rattle.pmtl.specs.Calls.Call.{state, stamped}
@@ -14,7 +16,6 @@ use Rattle.memory.specs.Layout.{FAILED, FIRST, LAST, LONGEST, SETTLED-CALL}
 use Rattle.memory.specs.Memory.{propertyRow, valueAt, earlyAt, settledAt, fullestWord, takenWord, entryWord}
 use Rattle.memory.specs.Tables.{propertyCount}
 use Rattle.calls.specs.Called.{Called}
-use Rattle.report.specs.Lines.{timeFrom, stampedFrom}
 use Rattle.report.specs.Report.{ended}
 use Rattle.report.specs.declared.text_calls.Turn.{Turn}
 use Rattle.report.specs.declared.text_calls.Turn.the-variants.{Made, Stopped}
@@ -29,10 +30,10 @@ unfoldable pub withState : Bool → ℕ → List ℕ → Call
 withState true t = stamped t
 withState false t = state
 
--- what a call that has a time is read from, stamped or not
-unfoldable pub timedFrom : Bool → ℕ → List ℕ → Read Call
-timedFrom true = stampedFrom
-timedFrom false = timeFrom
+-- the time of a call and the place after it; 0, and the place itself, of one that has none
+unfoldable pub timeWord : Bool → List ℕ → ℕ → text.Read
+timeWord true input at = Word 0 at
+timeWord false input at = nextWord input at
 
 -- a call was read, from words that leave off with `ending`, and made on the memory m, which it left as m′ with the number r
 pub record CallMade (input : List ℕ) (ending : ℕ) (asked : Read Call) (m m′ : List ℕ) (r next : ℕ) : Type 0 where

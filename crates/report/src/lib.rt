@@ -89,7 +89,7 @@ fn loaded_book(way: Loading, input: &[u8], cursor: usize, words: &[u64], out: &m
     ensures { λ r. ⌜ handed r (now (out .exit)) ≡ finish (now (out .entry)) 0 (written (bookThen way (loaded (now (words .entry))) (supplyFrom (now (input .entry)) cursor .ending) (supplyFrom (now (input .entry)) cursor .words))) ⌝ }
 {
     let mut monitor = [0u64; SIZE];
-    let number = loader::load_by(way, words, &mut monitor);
+    let number = loader::load_in_zeros(way, words, &mut monitor);
     if number == ACCEPTED {
         let at = lines::put_book(out, 0, number, Excess::Within);
         return counted_calls(input, cursor, &mut monitor, out, at);

@@ -7,9 +7,9 @@ ghost use lib.Seq.{sets};
 ghost use Rattle.text.specs.Words.{space, digit0, supplyFrom};
 ghost use Rattle.text.specs.Decimals.{decimal};
 ghost use Rattle.buffer_writer.specs.Buffer.{handed};
-ghost use Rattle.buffer_writer.specs.Finish.{finish, Wrote};
+ghost use Rattle.buffer_writer.specs.Finish.{finish, Wrote, Laid};
 ghost use Rattle.report.specs.Lines.{Ending, endingOf, endLines};
-ghost use Rattle.report.specs.Report.{excessWords, bookLine, stopLine, written};
+ghost use Rattle.report.specs.Report.{ended as Report·ended, excessWords, bookLine, stopLine, written};
 ghost use Rattle.report.specs.Private.{wordAt, digitWords, LaidOn, digitRest, digitLine};
 ghost use Rattle.memory.specs.Memory.{ledgerOf};
 ghost use Rattle.memory.specs.Tables.{propertyCount};
@@ -19,14 +19,29 @@ use book::strict::Excess;
 use memory::SIZE;
 use numbers::ACCEPTED;
 use numbers::BAD_WORD;
+use numbers::MOST_PROPERTIES;
 use numbers::WRONG_LENGTH;
+use text::MOST_DIGITS;
 use text::Read;
 
-// The byte of the digit 0.
+// The first number of two digits, and the byte of the digit 0.
+const TEN: u64 = 10;
+
 const ZERO: u8 = b'0';
 
 // A property's word, with the space before it.
 const WORD_BYTES: usize = 4;
+
+// Where the last four digits of a number begin, and the last three.
+const FOUR: usize = MOST_DIGITS - 4;
+
+const THREE: usize = MOST_DIGITS - 3;
+
+// What the line of an accepted call has besides its number, the words and the count: ` 0`, a space and the line feed.
+const FIXED_BYTES: usize = 4;
+
+// The longest such line.
+const LONGEST_LINE: usize = MOST_DIGITS + WORD_BYTES * MOST_PROPERTIES + MOST_DIGITS + FIXED_BYTES;
 
 // A word and a number.
 pub fn put_numbered(out: &mut [u8], at: usize, word: &[u8], number: u64) -> usize
@@ -180,11 +195,97 @@ fn put_numbers(out: &mut [u8], at: usize, digits: &[u8], first: usize, refusal: 
     buffer_writer::put_number(out, b, refusal)
 }
 
-// A call's line, its number's digits from `first` on. Only that of an accepted call has more than the refusal.
-pub fn put_call(
+// The last four digits, each at its place, which takes less than a copy of some length.
+fn lay_four(out: &mut [u8], at: usize, digits: &[u8; MOST_DIGITS]) -> usize
+    requires { ⌜ (length (now digits) ≡ 20) × (at + 4 ≤ length (now out)) ⌝ }
+    ensures { λ r. ⌜ Laid (now (out .entry)) at (drop 16 (now (digits .entry))) (now (out .exit)) r ⌝ }
+{
+    let four = [
+        digits[FOUR],
+        digits[FOUR + 1],
+        digits[FOUR + 2],
+        digits[FOUR + 3],
+    ];
+    buffer_writer::lay_bytes(out, at, &four)
+}
+
+// And the last three.
+fn lay_three(out: &mut [u8], at: usize, digits: &[u8; MOST_DIGITS]) -> usize
+    requires { ⌜ (length (now digits) ≡ 20) × (at + 3 ≤ length (now out)) ⌝ }
+    ensures { λ r. ⌜ Laid (now (out .entry)) at (drop 17 (now (digits .entry))) (now (out .exit)) r ⌝ }
+{
+    let three = [digits[THREE], digits[THREE + 1], digits[THREE + 2]];
+    buffer_writer::lay_bytes(out, at, &three)
+}
+
+// Those from `first` on, however many.
+fn lay_some(out: &mut [u8], at: usize, digits: &[u8], first: usize) -> usize
+    requires { ⌜ (first ≤ length (now digits)) × (at + length (now digits) ≤ length (now out)) ⌝ }
+    ensures { λ r. ⌜ Laid (now (out .entry)) at (drop first (now (digits .entry))) (now (out .exit)) r ⌝ }
+{
+    buffer_writer::lay_bytes(out, at, &digits[first..])
+}
+
+// The digits from `first` on, where there is room for all. Most calls of a text have a number of three or four.
+fn lay_digits(out: &mut [u8], at: usize, digits: &[u8; MOST_DIGITS], first: usize) -> usize
+    requires { ⌜ (first ≤ length (now digits)) × (length (now digits) ≡ 20) × (at + 20 ≤ length (now out)) ⌝ }
+    ensures { λ r. ⌜ Laid (now (out .entry)) at (drop first (now (digits .entry))) (now (out .exit)) r ⌝ }
+{
+    if first == FOUR {
+        return lay_four(out, at, digits);
+    }
+    if first == THREE {
+        return lay_three(out, at, digits);
+    }
+    lay_some(out, at, digits, first)
+}
+
+// The count and the end of an accepted call's line, where there is room: at once if the count has one digit, as it most often has.
+fn lay_end(out: &mut [u8], at: usize, count: u64) -> usize
+    requires { ⌜ at + 22 ≤ length (now out) ⌝ }
+    ensures { λ r. ⌜ Wrote (now (out .entry)) at (space ∷ decimal count ++ Report·ended) (now (out .exit)) r ⌝ }
+{
+    if count < TEN {
+        let end = [b' ', ZERO + count as u8, b'\n'];
+        return buffer_writer::lay_bytes(out, at, &end);
+    }
+    let a = buffer_writer::lay_bytes(out, at, b" ");
+    let b = buffer_writer::lay_number(out, a, count);
+    buffer_writer::lay_bytes(out, b, b"\n")
+}
+
+// What it has after its refusal, where there is room for all.
+fn lay_rest(out: &mut [u8], at: usize, monitor: &[u64; SIZE]) -> usize
+    requires { ⌜ Kept (now monitor) × (at + 150 ≤ length (now out)) ⌝ }
+    ensures { λ r. ⌜ Wrote (now (out .entry)) at (digitRest (now (monitor .entry)) ++ Report·ended) (now (out .exit)) r ⌝ }
+{
+    let count = memory::property_count(monitor);
+    lay_words(out, at, monitor, count);
+    lay_end(out, at + WORD_BYTES * count, memory::fullest(monitor))
+}
+
+// An accepted call's line, where there is room for the longest: no part is tested for itself.
+fn lay_call(
     out: &mut [u8],
     at: usize,
-    digits: &[u8],
+    digits: &[u8; MOST_DIGITS],
+    first: usize,
+    monitor: &[u64; SIZE],
+) -> usize
+    requires { ⌜ Kept (now monitor) × (first ≤ length (now digits)) × (length (now digits) ≡ 20) ⌝ }
+    requires { ⌜ at + 172 ≤ length (now out) ⌝ }
+    ensures { λ r. ⌜ Wrote (now (out .entry)) at (digitLine (drop first (now (digits .entry))) 0 (digitRest (now (monitor .entry)))) (now (out .exit)) r ⌝ }
+{
+    let a = lay_digits(out, at, digits, first);
+    let b = buffer_writer::lay_bytes(out, a, b" 0");
+    lay_rest(out, b, monitor)
+}
+
+// A call's line where there may be no room, part by part. Only that of an accepted call has more than the refusal.
+fn put_parts(
+    out: &mut [u8],
+    at: usize,
+    digits: &[u8; MOST_DIGITS],
     first: usize,
     refusal: u64,
     monitor: &[u64; SIZE],
@@ -198,4 +299,25 @@ pub fn put_call(
         return buffer_writer::put_bytes(out, b, b"\n");
     }
     buffer_writer::put_bytes(out, a, b"\n")
+}
+
+// A call's line, its number's digits from `first` on. That of an accepted call is laid by one test of room, but at the very end of a
+// buffer.
+pub fn put_call(
+    out: &mut [u8],
+    at: usize,
+    digits: &[u8; MOST_DIGITS],
+    first: usize,
+    refusal: u64,
+    monitor: &[u64; SIZE],
+) -> usize
+    requires { ⌜ Kept (now monitor) × (first ≤ length (now digits)) × (length (now digits) ≡ 20) ⌝ }
+    ensures { λ r. ⌜ Wrote (now (out .entry)) at (digitLine (drop first (now (digits .entry))) refusal (digitRest (now (monitor .entry)))) (now (out .exit)) r ⌝ }
+{
+    if refusal == ACCEPTED {
+        if at < text::before_last(out, LONGEST_LINE) {
+            return lay_call(out, at, digits, first, monitor);
+        }
+    }
+    put_parts(out, at, digits, first, refusal, monitor)
 }

@@ -5,28 +5,30 @@ use native.Mathlib.Decide.{decLt}
 use mathlib.Core.Path.{_≡_, refl, sym, ap, ap₂, subst, _∙_}
 use mathlib.Core.Bool.{Bool, true, false, cond}
 use mathlib.Core.List.{List}
+use lib.ListN.{length}
 use borrow.Author.Tests.{eqb-true}
 use lib.Dec.{eqb}
 use Rattle.numbers.specs.Limits.{MAX}
 use Rattle.numset.specs.Runs.{Runs, runs, covers, Canonical}
 use Rattle.pmtl.specs.declared.Answer.{Answer}
 use Rattle.pmtl.specs.declared.Answer.the-variants.{Open}
-use Rattle.pmtl.specs.Book.{Row, mapRow, rowAt}
+use Rattle.pmtl.specs.Book.{Row, mapRow, rowAt, lowest}
 use Rattle.pmtl.specs.Book.Row.{never, always, atom, conj, disj, neg, implies, historically, once, since}
 use Rattle.pmtl.specs.Sets.{gone}
 use Rattle.pmtl.specs.Monitor.{setAt}
 use Rattle.pmtl.specs.Early.{earlyRule, early}
 use Rattle.pmtl.specs.Settled.{settledTrue, settledFalse, settledRule, settled}
-use Rattle.pmtl.proofs.Table.{answer-local, row-out}
+use Rattle.pmtl.proofs.Table.{answer-local, row-out, Agree}
+use Rattle.pmtl.proofs.Lowest.{answer-between}
 use Rattle.pmtl.proofs.Settled.{covers-not-gone}
 use Rattle.memory.specs.Memory.{rowCount, begunWord, clockOf, temporals, kindAt, argAt, lowerAt, upperAt, slotAt, slotWords, toldAt, rowOf, rowsOf, isOne, stateOf}
 use Rattle.memory.specs.Tables.{COVERS, GONE, standing, earlyOf, settledOf}
 use Rattle.memory.specs.Layout.{ROWS, ROW}
-use Rattle.memory.specs.Kept.{Sound}
+use Rattle.memory.specs.Kept.{BookKept, Sound}
 use Rattle.memory.specs.Alike.{Alike}
 use Rattle.book.specs.Rows.{rowFrom}
 use Rattle.row_answers.specs.Told.{coversIn, goneIn, earlyTold, settledTold}
-use Rattle.memory.proofs.Rows.{rows-length, row-at}
+use Rattle.memory.proofs.Rows.{rows-length, row-at, kept-ordered}
 use Rattle.memory.proofs.Sets.{owner-set, set-canonical}
 
 -- ---- what a word says
@@ -161,23 +163,45 @@ module _ (m : List ℕ) (sound : Sound m) (told : (j : ℕ) → j < temporals m 
       (λ h. let t = timed-at m o (timed-map f (rowAt (rowsOf m) o) h) in (covers-told o (t .0) (t .1), gone-told o (t .0) (t .1))))
 
 -- ---- memories with the same rows, whose temporal rows were told the same, answer the same by it
+module _ (m m′ : List ℕ) where
+  abbrev SameTold : ℕ → Type 0
+  SameTold o = o < rowCount m → 7 ≤ kindAt m o → toldAt m′ (slotAt m′ o) ≡ toldAt m (slotAt m o)
+
+  early-agree : (o : ℕ) → SameTold o → Agree (rowsOf m) Open (λ n row. earlyRule (coversIn m′ n) row) (λ n row. earlyRule (coversIn m n) row) o
+  early-agree o same f =
+      same-early (mapRow f (rowAt (rowsOf m) o))
+      (λ h. let t = timed-at m o (timed-map f (rowAt (rowsOf m) o) h) in ap (λ x. eqb x COVERS) (same (t .0) (t .1)))
+
+  settled-agree : (o : ℕ) → SameTold o → Agree (rowsOf m) Open (λ n row. settledRule (coversIn m′ n) (goneIn m′ n) row) (λ n row. settledRule (coversIn m n) (goneIn m n) row) o
+  settled-agree o same f =
+      same-settled (mapRow f (rowAt (rowsOf m) o))
+      (λ h. let t = timed-at m o (timed-map f (rowAt (rowsOf m) o) h) in let e = same (t .0) (t .1) in (ap (λ x. eqb x COVERS) e, ap (λ x. eqb x GONE) e))
+
 module _ (m m′ : List ℕ) (rows : rowsOf m′ ≡ rowsOf m) (same : (o : ℕ) → o < rowCount m → 7 ≤ kindAt m o → toldAt m′ (slotAt m′ o) ≡ toldAt m (slotAt m o)) where
   pub early-same : (r : ℕ) → earlyTold m′ r ≡ earlyTold m r
-  early-same r =
-      rw rows
-      (answer-local (rowsOf m) Open _ _ r λ o l f.
-      same-early (mapRow f (rowAt (rowsOf m) o))
-      (λ h. let t = timed-at m o (timed-map f (rowAt (rowsOf m) o) h) in ap (λ x. eqb x COVERS) (same o (t .0) (t .1))))
+  early-same r = rw rows (answer-local (rowsOf m) Open _ _ r λ o l. early-agree m m′ o (same o))
 
   pub settled-same : (r : ℕ) → settledTold m′ r ≡ settledTold m r
   settled-same r =
       rw rows
-      (answer-local (rowsOf m) Open
-      (λ n row. settledRule (coversIn m′ n) (goneIn m′ n) row)
-      (λ n row. settledRule (coversIn m n) (goneIn m n) row)
-      r λ o l f.
-      same-settled (mapRow f (rowAt (rowsOf m) o))
-      (λ h. let t = timed-at m o (timed-map f (rowAt (rowsOf m) o) h) in let e = same o (t .0) (t .1) in (ap (λ x. eqb x COVERS) e, ap (λ x. eqb x GONE) e)))
+      (answer-local (rowsOf m) Open (λ n row. settledRule (coversIn m′ n) (goneIn m′ n) row) (λ n row. settledRule (coversIn m n) (goneIn m n) row) r λ o l.
+      settled-agree m m′ o (same o))
+
+-- and of one row, where the temporal rows from the lowest below it up to it were told the same
+module _ (m m′ : List ℕ) (kept : BookKept m) (rows : rowsOf m′ ≡ rowsOf m) (r : ℕ) (inside : r < rowCount m)
+    (same : (o : ℕ) → lowest (rowsOf m) r ≤ o → o ≤ r → o < rowCount m → 7 ≤ kindAt m o → toldAt m′ (slotAt m′ o) ≡ toldAt m (slotAt m o))
+  where
+    in-rows : r < length (rowsOf m)
+    in-rows = let e = rows-length m in omega arith
+
+    pub early-between : earlyTold m′ r ≡ earlyTold m r
+    early-between = rw rows (answer-between (rowsOf m) (kept-ordered kept) Open _ _ r in-rows λ o lo hi. early-agree m m′ o (same o lo hi))
+
+    pub settled-between : settledTold m′ r ≡ settledTold m r
+    settled-between =
+        rw rows
+        (answer-between (rowsOf m) (kept-ordered kept) Open (λ n row. settledRule (coversIn m′ n) (goneIn m′ n) row) (λ n row. settledRule (coversIn m n) (goneIn m n) row) r in-rows λ o lo hi.
+        settled-agree m m′ o (same o lo hi))
 
 -- as those that differ in other tables alone
 pub alike-told : {m m′ : List ℕ} → Sound m → Alike m m′ → ((j : ℕ) → j < 32 → toldAt m′ j ≡ toldAt m j) → (o : ℕ) → o < rowCount m → 7 ≤ kindAt m o → toldAt m′ (slotAt m′ o) ≡ toldAt m (slotAt m o)

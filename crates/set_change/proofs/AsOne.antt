@@ -171,6 +171,10 @@ module _ (first : ℕ) where
   both-2 (suc (suc (suc zero))) m e f = refl
   both-2 (suc (suc (suc (suc k)))) m e f = absurd (clash e f)
 
+-- where no step came before, the second is both
+pub both-alone : (first second : ℕ) → first ≡ 0 → second < 4 → second ≡ bothOf first second
+both-alone first second z h = sym (ap (λ (j : ℕ). bothOf j second) z ∙ stays-both second h)
+
 module _ {spans : Bool} {joined wanted : ℕ} (e : joined ≡ wanted) where
   pub next-spans : spans ≡ true → {k : ℕ} → k ≡ spanned joined → k ≡ spannedIf spans wanted
   next-spans t ek = rw t (ek ∙ ap (λ (j : ℕ). spanned j) e)

@@ -1,8 +1,8 @@
 -- The laws of `changed`: it is what the definitions say of a set, and what the code asks and does, arm by arm. Assumes nothing.
 use Prim.Native.Nat.{ℕ, zero, suc, _+_, _*_, _≤_, _<_, min}
 use mathlib.Core.Path.{_≡_, refl, sym, ap, _∙_}
-use mathlib.Core.Logic.{⊎-elim}
-use mathlib.Core.Bool.{Bool, true, false, cond, not, _||_, or-false, true≢false}
+use mathlib.Core.Logic.{_⊎_, ⊎-elim}
+use mathlib.Core.Bool.{Bool, true, false, cond, not, or-false, true≢false}
 use mathlib.Core.List.{List, []}
 use native.Mathlib.Omega.{arith}
 use lib.ListN.{length, getD}
@@ -12,7 +12,7 @@ use Rattle.lists.proofs.Tests.{lt-or-ge}
 use Rattle.numset.proofs.Union.{union-has, union-under, union-none, union-some}
 use Rattle.numset.proofs.Words.{length-runs}
 use Rattle.numset.proofs.Packs.{length-pack, runs-pack}
-use Rattle.numset.proofs.Kept.{kept-under, kept-canonical, kept-has, kept-length}
+use Rattle.numset.proofs.Kept.{kept-under, kept-has, kept-length}
 use Rattle.numset.proofs.Changes.{added-words}
 use Rattle.pmtl.specs.Book.{Range, start, stop, Row}
 use Rattle.pmtl.specs.Book.Row.{historically, once, since}
@@ -83,21 +83,13 @@ module _ (l u c : ℕ) (rs : Runs) where
   unfolding changed
   changed-3 k e = rw e
 
--- a change that is none of three
-pub grows-rest : (k : ℕ) → (k ≡ 0 → ⊥) → (k ≡ 2 → ⊥) → (k ≡ 3 → ⊥) → growing k ≡ true
-grows-rest zero x y z = absurd (x refl)
-grows-rest (suc zero) x y z = refl
-grows-rest (suc (suc zero)) x y z = absurd (y refl)
-grows-rest (suc (suc (suc zero))) x y z = absurd (z refl)
-grows-rest (suc (suc (suc (suc k)))) x y z = refl
-
--- and one that is left when the set is not to stay, nor to be dropped
-pub drops-rest : (k : ℕ) → (k ≡ 0 → ⊥) → growing k ≡ false → (k ≡ 2 → ⊥) → k ≡ 3
-drops-rest zero x f y = absurd (x refl)
-drops-rest (suc zero) x f y = absurd (true≢false f)
-drops-rest (suc (suc zero)) x f y = absurd (y refl)
-drops-rest (suc (suc (suc zero))) x f y = refl
-drops-rest (suc (suc (suc (suc k)))) x f y = absurd (true≢false f)
+-- a change by which the set stays, and that is not the one which adds nothing
+pub grows-rest : (k : ℕ) → (k ≡ 0 → ⊥) → (k < 2) ⊎ (4 ≤ k) → growing k ≡ true
+grows-rest zero x w = absurd (x refl)
+grows-rest (suc zero) x w = refl
+grows-rest (suc (suc zero)) x w = absurd (⊎-elim (λ h. omega arith) (λ h. omega arith) w)
+grows-rest (suc (suc (suc zero))) x w = absurd (⊎-elim (λ h. omega arith) (λ h. omega arith) w)
+grows-rest (suc (suc (suc (suc k)))) x w = refl
 
 -- ---- room
 one-run : (l u : ℕ) → length (union l u []) ≤ 1
@@ -116,6 +108,9 @@ room-else {m} (suc (suc zero)) l u c g h f = sym (lt-ltb 0 (length m) (omega ari
 room-else {m} (suc (suc (suc zero))) l u c g h f = sym (lt-ltb _ (length m) (omega (arith, one-run l u)))
 room-else {m} (suc (suc (suc (suc k)))) l u c g h f = absurd (true≢false f)
 
+pub room-grown : (m : List ℕ) (k l u c : ℕ) {b : Bool} → b ≡ fits (length m) (union l u (kept c (runs m))) → growing k ≡ true → b ≡ fits (length m) (changed k l u c (runs m))
+room-grown m k l u c e q = e ∙ sym (ap (λ (s : Runs). fits (length m) s) (changed-1 l u c (runs m) k q))
+
 -- a change keeps runs in order
 pub changed-under : (top k l u c : ℕ) (rs : Runs) → Under top rs → u + 1 < top → Under top (changed k l u c rs)
 unfolding changed Under
@@ -125,7 +120,7 @@ changed-under top (suc (suc zero)) l u c rs w f = tt
 changed-under top (suc (suc (suc zero))) l u c rs w f = union-under top l u [] tt f
 changed-under top (suc (suc (suc (suc k)))) l u c rs w f = union-under top l u (kept c rs) (kept-under c top rs w) f
 
--- ---- `will_have`, arm by arm
+-- ---- `look_ahead`, arm by arm
 none-has : (l u t : ℕ) → has (union l u []) t ≡ within l u t
 unfolding has Canonical
 none-has l u t = union-has l u [] t tt ∙ or-false (within l u t)
@@ -135,17 +130,11 @@ module _ (k l u c : ℕ) (rs : Runs) where
   here-same : has (kept c rs) c ≡ has rs c
   here-same = kept-has c c rs (omega arith)
 
-  added-has : Canonical rs → growing k ≡ true → has (changed k l u c rs) c ≡ within l u c || has rs c
-  added-has w q = ap (λ (s : Runs). has s c) (changed-1 l u c rs k q) ∙ union-has l u (kept c rs) c (kept-canonical c rs w) ∙ rw here-same
-
   pub will-0 : {b : Bool} → b ≡ has rs c → k ≡ 0 → b ≡ has (changed k l u c rs) c
   will-0 e q = e ∙ sym (ap (λ (s : Runs). has s c) (changed-0 l u c rs k q) ∙ here-same)
 
-  pub will-in : {b : Bool} → b ≡ within l u c → b ≡ true → Canonical rs → growing k ≡ true → true ≡ has (changed k l u c rs) c
-  will-in e y w q = sym (added-has w q ∙ rw (← e, y))
-
-  pub will-out : {b d : Bool} → b ≡ within l u c → b ≡ false → d ≡ has rs c → Canonical rs → growing k ≡ true → d ≡ has (changed k l u c rs) c
-  will-out e y f w q = f ∙ sym (added-has w q ∙ rw (← e, y))
+  pub will-1 : {b : Bool} → b ≡ has (union l u (kept c rs)) c → growing k ≡ true → b ≡ has (changed k l u c rs) c
+  will-1 e q = e ∙ sym (ap (λ (s : Runs). has s c) (changed-1 l u c rs k q))
 
   pub will-2 : k ≡ 2 → false ≡ has (changed k l u c rs) c
   unfolding has

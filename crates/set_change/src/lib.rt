@@ -1,12 +1,13 @@
-// What a call does to one set: which change, whether there is room for it, whether the set will then hold the clock, and the
-// change itself. Whoever plans asks the first three, reading only. Whatever the change, runs that end before the clock that
+// What a call does to one set: which change, whether the set will then hold the clock and whether there is room for it, and the
+// change itself. Whoever plans asks the first two, reading only. Whatever the change, runs that end before the clock that
 // the call leaves are dropped first.
 ghost use mathlib.Core.Path.{_≡_};
 ghost use mathlib.Core.Bool.{true};
 ghost use Prim.Native.Nat.{_<_};
 ghost use lib.ListN.{length};
-ghost use Rattle.numset.specs.Runs.{Good, runs, has, fits, pack, within};
+ghost use Rattle.numset.specs.Runs.{Good, runs, has, fits, pack};
 ghost use Rattle.set_change.specs.Change.{modeOf, changed, growing, spanned, spannedIf, adding, bothOf};
+use numset::Outlook;
 
 // The changes: the set stays, or is dropped; the range is added, or is not. To a set that stays the ranges of a stretch of instants
 // may be added, as one interval.
@@ -78,11 +79,19 @@ fn both(first: u8, second: u8) -> u8
     second
 }
 
-// The change that a step makes of a set which the steps before it in the same call are to change as `before` says. Where it counts a
-// stretch of instants it is the first of its call: no time passes after it.
+// The change that a step makes of a set which the steps before it in the same call are to change as `before` says. Mostly none came
+// before, which is seen first. Where it counts a stretch of instants it is the first of its call: no time passes after it.
 pub fn next(before: u8, mode: u8, spans: bool) -> u8
     ensures { λ r. ⌜ r ≡ spannedIf spans (bothOf before mode) ⌝ }
 {
+    if before == STAYS {
+        if mode < STAYS_AND_SPANS {
+            if spans {
+                return spanning(mode);
+            }
+            return mode;
+        }
+    }
     let joined = both(before, mode);
     if spans {
         return spanning(joined);
@@ -90,42 +99,30 @@ pub fn next(before: u8, mode: u8, spans: bool) -> u8
     joined
 }
 
-fn inside(lower: u64, upper: u64, t: u64) -> bool
-    ensures { λ r. ⌜ r ≡ within lower upper t ⌝ }
-{
-    if lower <= t {
-        return t <= upper;
-    }
-    false
-}
-
-// Whether there is room for the change: only a set that stays can grow past its words.
-pub fn room_for(set: &[u64], mode: u8, lower: u64, upper: u64, clock: u64) -> bool
+// What will become of the set: whether it will contain the clock, and whether there is room for the change. No run that holds the clock
+// is dropped for its age; and only a set that stays can grow past its words. The two changes that drop the set stand together, here and
+// below: one look tells them from those by which it grows.
+pub fn look_ahead(set: &[u64], mode: u8, lower: u64, upper: u64, clock: u64) -> Outlook
     requires { ⌜ Good (now set) ⌝ }
     requires { ⌜ 2 < length (now set) ⌝ }
-    ensures { λ r. ⌜ r ≡ fits (length (now (set .entry))) (changed mode lower upper clock (runs (now (set .entry)))) ⌝ }
-{
-    if grows(mode) {
-        return numset::will_have_room(set, clock, lower, upper);
-    }
-    true
-}
-
-// Whether the set will contain the clock. No run that holds it is dropped for its age, so the set is asked as it is.
-pub fn will_have(set: &[u64], mode: u8, lower: u64, upper: u64, clock: u64) -> bool
-    requires { ⌜ Good (now set) ⌝ }
-    ensures { λ r. ⌜ r ≡ has (changed mode lower upper clock (runs (now (set .entry)))) clock ⌝ }
+    ensures { λ r. ⌜ (r .here ≡ has (changed mode lower upper clock (runs (now (set .entry)))) clock) × (r .room ≡ fits (length (now (set .entry))) (changed mode lower upper clock (runs (now (set .entry))))) ⌝ }
 {
     match mode {
-        STAYS => numset::contains_from_oldest(set, clock),
-        DROPPED => false,
-        DROPPED_AND_ADDS => inside(lower, upper, clock),
-        _ => {
-            if inside(lower, upper, clock) {
-                return true;
-            }
-            numset::contains_from_oldest(set, clock)
+        STAYS => {
+            let here = numset::contains_from_oldest(set, clock);
+            Outlook { here, room: true }
         }
+        DROPPED | DROPPED_AND_ADDS => {
+            if mode == DROPPED {
+                return Outlook {
+                    here: false,
+                    room: true,
+                };
+            }
+            let here = numset::inside(lower, upper, clock);
+            Outlook { here, room: true }
+        }
+        _ => numset::look_ahead(set, clock, lower, upper),
     }
 }
 
@@ -135,18 +132,17 @@ pub fn change(set: &mut [u64], mode: u8, lower: u64, upper: u64, clock: u64)
     requires { ⌜ fits (length (now set)) (changed mode lower upper clock (runs (now set))) ≡ true ⌝ }
     ensures { λ _. ⌜ now (set .exit) ≡ pack (length (now (set .entry))) (changed mode lower upper clock (runs (now (set .entry)))) ⌝ }
 {
-    if mode == STAYS {
-        numset::drop_before(set, clock);
-        return;
+    match mode {
+        STAYS => numset::drop_before(set, clock),
+        DROPPED | DROPPED_AND_ADDS => {
+            if mode == DROPPED {
+                numset::clear(set);
+                return;
+            }
+            numset::set_to(set, lower, upper);
+        }
+        _ => {
+            numset::drop_and_add(set, clock, lower, upper);
+        }
     }
-    if grows(mode) {
-        numset::drop_before(set, clock);
-        numset::add(set, lower, upper);
-        return;
-    }
-    if mode == DROPPED {
-        numset::clear(set);
-        return;
-    }
-    numset::set_to(set, lower, upper);
 }

@@ -1,29 +1,30 @@
 -- What a table that is worked out anew says, and that the others say what they said. Assumes nothing.
-use Prim.Native.Nat.{ℕ, zero, suc, _+_, max, _≤_, _<_}
+use Prim.Native.Nat.{ℕ, zero, suc, _+_, min, max, _≤_, _<_}
 use native.Mathlib.Numerals.{add-one}
 use native.Mathlib.Omega.{arith}
 use mathlib.Core.Path.{_≡_, refl, sym, ap, ap₂, _∙_}
 use mathlib.Core.Bool.{Bool, true, false, cond, _&&_}
+use mathlib.Core.Logic.{⊎-elim}
 use mathlib.Core.List.{List}
 use lib.ListN.{getD, set, length-set}
 use lib.Seq.{set-getD, getD-set-same, getD-set-other}
-use lib.Dec.{eqb}
-use borrow.Author.Tests.{eqb-true}
+use lib.Dec.{eqb, leb, ltb}
+use borrow.Author.Tests.{eqb-true, eq-eqb, ne-eqb}
 use Rattle.lists.specs.Lists.{filledFrom}
-use Rattle.lists.proofs.Tests.{and-left, and-right}
+use Rattle.lists.proofs.Tests.{either}
 use Rattle.lists.proofs.Filled.{filledFrom-at, filledFrom-before, filledFrom-after, filledFrom-more}
 use Rattle.numset.specs.Runs.{runs, held}
 use Rattle.pmtl.specs.declared.Answer.{Answer}
 use Rattle.pmtl.specs.declared.Answer.the-variants.{Open}
 use Rattle.pmtl.specs.Answer.{bitOf, digitOf}
-use Rattle.pmtl.specs.Book.{Row, Rows, rowAt, mapRow, Below, moveRule, moves}
+use Rattle.pmtl.specs.Book.{Row, Rows, rowAt, mapRow, Below, moveRule, moves, lowestRule, lowest}
 use Rattle.pmtl.proofs.Table.{mapRow-local, answer-in}
 use Rattle.pmtl.specs.Monitor.{State, fullest, value}
 use Rattle.pmtl.specs.Early.{early}
 use Rattle.pmtl.specs.Settled.{settled}
-use Rattle.memory.specs.Layout.{VALUES, TOLD, EARLY, SETTLED, MOVES, FULLEST, UNTIL, PROPERTIES}
-use Rattle.memory.specs.Memory.{rowCount, clockOf, temporals, slotWords, propertyRow, valueAt, toldAt, earlyAt, settledAt, movesAt, fullestWord, rowOf, rowsOf, stateOf, isOne}
-use Rattle.memory.specs.Tables.{standing, valueOf, earlyOf, settledOf, propertyCount, Valued, Told, Answered, Moving, Counts, Unused, Tables}
+use Rattle.memory.specs.Layout.{VALUES, TOLD, EARLY, SETTLED, MOVES, LOWEST, FULLEST, UNTIL, PROPERTIES, OWNERS}
+use Rattle.memory.specs.Memory.{rowCount, clockOf, temporals, ownerAt, slotWords, propertyRow, valueAt, toldAt, earlyAt, settledAt, movesAt, lowestAt, fullestWord, rowOf, rowsOf, stateOf, isOne}
+use Rattle.memory.specs.Tables.{standing, valueOf, earlyOf, settledOf, propertyCount, Valued, Told, Answered, Moving, Founded, Counts, Unused, Tables}
 use Rattle.memory.specs.Kept.{Sound}
 use Rattle.memory.specs.Alike.{Alike, SameLedger}
 use Rattle.memory.proofs.Bits.{bit-back}
@@ -32,7 +33,7 @@ use Rattle.memory.proofs.Ledger.{ledger-on, ledger-filled}
 use Rattle.memory.proofs.Alike.{alike-on, alike-filled, alike-sound, alike-rows, alike-state, alike-set}
 use Rattle.row_answers.specs.Told.{earlyTold}
 use Rattle.row_answers.proofs.Told.{told-early, told-settled, early-same, settled-same, alike-told}
-use Rattle.tables.specs.Puts.{bitIn, movesPut, valuesPut, standingAt, toldPut, countPut, toldAgain, earlyDigit, earlyPut, settledNow, settledDigit, settledPut}
+use Rattle.tables.specs.Puts.{bitIn, movesPut, wordIn, lowestPut, valuesPut, standingAt, toldPut, countPut, newsFrom, newsEnd, earlyDigit, earlyPut, settledNow, settledDigit, settledPut, reaches, earlyAsked, earlyRenewed}
 use Rattle.tables.proofs.Fullest.{mostTo, most-none, most-more, most-is-fullest}
 
 abbrev pub move-word : List ℕ → ℕ → ℕ
@@ -57,10 +58,10 @@ module _ {m m′ : List ℕ} (sound : Sound m) (alike : Alike m m′) where
   same-sets : temporals m′ ≡ temporals m
   same-sets = alike .below 4 (omega arith)
 
-  same-properties : propertyCount m′ ≡ propertyCount m
+  pub same-properties : propertyCount m′ ≡ propertyCount m
   same-properties = ap₂ (λ (a g : ℕ). a + g) (alike .below 5 (omega arith)) (alike .below 6 (omega arith))
 
-  same-property : (i : ℕ) → i < 32 → propertyRow m′ i ≡ propertyRow m i
+  pub same-property : (i : ℕ) → i < 32 → propertyRow m′ i ≡ propertyRow m i
   same-property i h = alike .below (PROPERTIES + i) (omega arith)
 
   -- an answer of every row
@@ -86,6 +87,11 @@ module _ {m m′ : List ℕ} (sound : Sound m) (alike : Alike m m′) where
       let few = few-rows sound in
       record { right = rw (same-rows, alike-rows sound alike) (λ r h. same r (omega arith) ∙ v .right r h) }
 
+  pub founded-same : ((r : ℕ) → r < 128 → lowestAt m′ r ≡ lowestAt m r) → Founded m → Founded m′
+  founded-same same v =
+      let few = few-rows sound in
+      record { right = rw (same-rows, alike-rows sound alike) (λ r h. same r (omega arith) ∙ v .right r h) }
+
   pub counts-same : fullestWord m′ ≡ fullestWord m → Counts m → Counts m′
   counts-same same c = record { right = same ∙ c .right ∙ sym (ap fullest (alike-state sound alike)) }
 
@@ -108,14 +114,16 @@ module _ {m m′ : List ℕ} (sound : Sound m) (alike : Alike m m′) where
       → ((i : ℕ) → propertyCount m ≤ i → i < 32 → earlyAt m′ i ≡ earlyAt m i)
       → ((i : ℕ) → propertyCount m ≤ i → i < 32 → settledAt m′ i ≡ settledAt m i)
       → ((r : ℕ) → rowCount m ≤ r → r < 128 → movesAt m′ r ≡ movesAt m r)
+      → ((r : ℕ) → rowCount m ≤ r → r < 128 → lowestAt m′ r ≡ lowestAt m r)
       → Unused m → Unused m′
-  unused-same values told early settled moved u =
+  unused-same values told early settled moved low u =
       record {
         values = rw same-rows (λ r p q. values r p q ∙ u .values r p q);
         told = rw same-sets (λ j p q. told j p q ∙ u .told j p q);
         early = rw same-properties (λ i p q. early i p q ∙ u .early i p q);
         settled = rw same-properties (λ i p q. settled i p q ∙ u .settled i p q);
         moves = rw same-rows (λ r p q. moved r p q ∙ u .moves r p q);
+        lowest = rw same-rows (λ r p q. low r p q ∙ u .lowest r p q);
       }
 
   -- so are all tables, where the memories differ in what stands behind them alone
@@ -125,11 +133,12 @@ module _ {m m′ : List ℕ} (sound : Sound m) (alike : Alike m m′) where
     told = told-same (λ j h. same (TOLD + j) (omega arith)) (t .told);
     answered = answered-same (λ i h. same (EARLY + i) (omega arith)) (λ i h. same (SETTLED + i) (omega arith)) (t .answered);
     moving = moving-same (λ r h. same (MOVES + r) (omega arith)) (t .moving);
+    founded = founded-same (λ r h. same (LOWEST + r) (omega arith)) (t .founded);
     counts = counts-same (same FULLEST (omega arith)) (t .counts);
     unused =
         unused-same
         (λ r p q. same (VALUES + r) (omega arith)) (λ j p q. same (TOLD + j) (omega arith))
-        (λ i p q. same (EARLY + i) (omega arith)) (λ i p q. same (SETTLED + i) (omega arith)) (λ r p q. same (MOVES + r) (omega arith))
+        (λ i p q. same (EARLY + i) (omega arith)) (λ i p q. same (SETTLED + i) (omega arith)) (λ r p q. same (MOVES + r) (omega arith)) (λ r p q. same (LOWEST + r) (omega arith))
         (t .unused);
   }
 
@@ -177,6 +186,55 @@ module _ {m : List ℕ} (sound : Sound m) where
       (λ r p q. moves-before (VALUES + r) (omega arith)) (λ j p q. moves-before (TOLD + j) (omega arith))
       (λ i p q. moves-before (EARLY + i) (omega arith)) (λ i p q. moves-before (SETTLED + i) (omega arith))
       (λ r p q. filledFrom-after MOVES (move-word m) m 0 (rowCount m) (MOVES + r) (omega arith))
+      (λ r p q. filledFrom-after MOVES (move-word m) m 0 (rowCount m) (LOWEST + r) (let few = few-rows sound in omega arith))
+
+-- ---- the lowest row below each
+module _ {m : List ℕ} (sound : Sound m) where
+  -- as a loop finds it
+  module _ (n : ℕ) {m′ : List ℕ} (e : m′ ≡ filledFrom LOWEST (lowest (rowsOf m)) m n) where
+    lowest-alike : Alike m m′
+    lowest-alike = rw e (alike-filled m LOWEST (lowest (rowsOf m)) n (omega arith))
+
+    pub lowest-sound : Sound m′
+    lowest-sound = alike-sound sound lowest-alike
+
+    pub lowest-count : rowCount m′ ≡ rowCount m
+    lowest-count = lowest-alike .below 0 (omega arith)
+
+    pub lowest-more : n < rowCount m → {w : ℕ} → w ≡ lowestRule n (mapRow (wordIn m′ LOWEST) (rowOf m′ n)) → set m′ (LOWEST + n) w ≡ filledFrom LOWEST (lowest (rowsOf m)) m (n + 1)
+    lowest-more h ew =
+        let few = few-rows sound in
+        let long = sound .book .long in
+        let h′ : n < rowCount m′ = rw lowest-count h in
+        let row : rowOf m′ n ≡ rowOf m n = sym (row-at m′ n h′) ∙ ap (λ (b : Rows). rowAt b n) (alike-rows sound lowest-alike) ∙ row-at m n h in
+        let low : Below n (rowOf m n) = rw (row-at m n h) at (kept-ordered (sound .book) n) in
+        let words : (o : ℕ) → o < n → wordIn m′ LOWEST o ≡ lowest (rowsOf m) o =
+        λ o l. ap (λ (x : List ℕ). wordIn x LOWEST o) e ∙ filledFrom-at LOWEST (lowest (rowsOf m)) m 0 n o l (omega arith) in
+        filledFrom-more LOWEST (lowest (rowsOf m)) m e
+        (ew ∙ ap (λ (x : Row ℕ). lowestRule n (mapRow (wordIn m′ LOWEST) x)) row ∙ ap (lowestRule n) (mapRow-local n (wordIn m′ LOWEST) (lowest (rowsOf m)) words (rowOf m n) low)
+        ∙ sym (answer-in (rowsOf m) 0 lowestRule (kept-ordered (sound .book)) n (rw rows-length h) ∙ ap (λ (x : Row ℕ). lowestRule n (mapRow (lowest (rowsOf m)) x)) (row-at m n h)))
+
+  pub lowest-put-alike : Alike m (lowestPut m)
+  lowest-put-alike = lowest-alike (rowCount m) refl
+
+  pub lowest-founded : Founded (lowestPut m)
+  lowest-founded =
+      let few = few-rows sound in
+      let long = sound .book .long in
+      record { right = rw (lowest-count (rowCount m) refl, alike-rows sound lowest-put-alike) (λ r h. filledFrom-at LOWEST (lowest (rowsOf m)) m 0 (rowCount m) r h (omega arith)) }
+
+  lowest-before : (k : ℕ) → k < LOWEST → getD (lowestPut m) k 0 ≡ getD m k 0
+  lowest-before k h = filledFrom-before LOWEST (lowest (rowsOf m)) m 0 (rowCount m) k h
+
+  pub lowest-moving : Moving m → Moving (lowestPut m)
+  lowest-moving = moving-same sound lowest-put-alike (λ r h. lowest-before (MOVES + r) (omega arith))
+
+  pub lowest-unused : Unused m → Unused (lowestPut m)
+  lowest-unused =
+      unused-same sound lowest-put-alike
+      (λ r p q. lowest-before (VALUES + r) (omega arith)) (λ j p q. lowest-before (TOLD + j) (omega arith))
+      (λ i p q. lowest-before (EARLY + i) (omega arith)) (λ i p q. lowest-before (SETTLED + i) (omega arith)) (λ r p q. lowest-before (MOVES + r) (omega arith))
+      (λ r p q. filledFrom-after LOWEST (lowest (rowsOf m)) m 0 (rowCount m) (LOWEST + r) (omega arith))
 
 -- ---- the values
 module _ {m : List ℕ} (sound : Sound m) where
@@ -217,50 +275,93 @@ module _ {m : List ℕ} (sound : Sound m) where
       let few = few-rows sound in
       unused-same sound values-alike
       (λ r p q. values-after (VALUES + r) (omega arith)) (λ j p q. values-after (TOLD + j) (omega arith))
-      (λ i p q. values-after (EARLY + i) (omega arith)) (λ i p q. values-after (SETTLED + i) (omega arith)) (λ r p q. values-after (MOVES + r) (omega arith))
+      (λ i p q. values-after (EARLY + i) (omega arith)) (λ i p q. values-after (SETTLED + i) (omega arith)) (λ r p q. values-after (MOVES + r) (omega arith)) (λ r p q. values-after (LOWEST + r) (omega arith))
 
   pub values-moving : Moving m → Moving (valuesPut m)
   values-moving = let few = few-rows sound in moving-same sound values-alike (λ r h. values-after (MOVES + r) (omega arith))
 
+  pub values-founded : Founded m → Founded (valuesPut m)
+  values-founded = let few = few-rows sound in founded-same sound values-alike (λ r h. values-after (LOWEST + r) (omega arith))
+
 -- ---- what the rows are told
--- how far a loop has told them, whether that is all as before, and the greatest count so far
-pub record Telling (m : List ℕ) (n : ℕ) (m′ : List ℕ) (same : Bool) (most : ℕ) : Type 0 where
+-- how far a loop has told them, between which rows that is something new, and the greatest count so far
+pub record Telling (m : List ℕ) (n : ℕ) (m′ : List ℕ) (first end most : ℕ) : Type 0 where
   pub put : m′ ≡ filledFrom TOLD (standingAt m) m n
-  pub again : same ≡ toldAgain m n
+  pub from : first ≡ newsFrom m n
+  pub up-to : end ≡ newsEnd m n
   pub counted : most ≡ mostTo m n
 
-pub telling-start : (m : List ℕ) → Telling m 0 m true 0
-unfolding toldAgain
-telling-start m = record { put = refl; again = refl; counted = sym (most-none m) }
+pub telling-start : (m : List ℕ) → Telling m 0 m 128 0 0
+unfolding newsFrom newsEnd
+telling-start m = record { put = refl; from = refl; up-to = refl; counted = sym (most-none m) }
 
--- where all is told again, nothing is new
-pub told-still : (m : List ℕ) (n : ℕ) → toldAgain m n ≡ true → filledFrom TOLD (standingAt m) m n ≡ m
-unfolding toldAgain
+-- where nothing new is told, all stays
+pub told-still : (m : List ℕ) (n : ℕ) → newsEnd m n ≡ 0 → filledFrom TOLD (standingAt m) m n ≡ m
+unfolding newsEnd
 told-still m zero e = refl
 told-still m (suc j) e =
-    let is = eqb-true (toldAt m j) (standingAt m j) (and-right (toldAgain m j) _ e) in
-    rw (told-still m j (and-left (toldAgain m j) _ e)) (ap (set m (TOLD + j)) (sym is) ∙ set-getD m (TOLD + j) 0)
+    ⊎-elim
+    (λ (t : eqb (toldAt m j) (standingAt m j) ≡ true).
+    rw (told-still m j (rw t at e)) (ap (set m (TOLD + j)) (sym (eqb-true (toldAt m j) (standingAt m j) t)) ∙ set-getD m (TOLD + j) 0))
+    (λ (t : eqb (toldAt m j) (standingAt m j) ≡ false). absurd (let z : ownerAt m j + 1 ≡ 0 = rw t at e in omega arith))
+    (either (eqb (toldAt m j) (standingAt m j)))
 
 module _ {m : List ℕ} (sound : Sound m) where
-  module _ {n : ℕ} {m′ : List ℕ} {same : Bool} {most : ℕ} (t : Telling m n m′ same most) where
+  module _ {n : ℕ} {m′ : List ℕ} {first end most : ℕ} (t : Telling m n m′ first end most) where
     alike : Alike m m′
     alike = rw (t .put) (alike-filled m TOLD (standingAt m) n (omega arith))
 
     pub telling-sound : Sound m′
     telling-sound = alike-sound sound alike
 
-    pub telling-more : n < temporals m → {words again : List ℕ} {clock old new most′ : ℕ} {same′ : Bool} → clock ≡ clockOf m → words ≡ slotWords m′ n → new ≡ standing clock (runs words)
-        → again ≡ slotWords m′ n → most′ ≡ max most (held again) → old ≡ toldAt m′ n → same′ ≡ (same && eqb old new) → Telling m (n + 1) (set m′ (TOLD + n) new) same′ most′
-    unfolding toldAgain
-    telling-more h {words} {again} {clock} {old} {new} ec ew en ea em eo es =
+    pub telling-owner : n < temporals m → {row : ℕ} → row ≡ ownerAt m′ n → row < 128
+    telling-owner h er =
         let few = few-sets sound in
-        let before : old ≡ toldAt m n = eo ∙ ap (λ (x : List ℕ). toldAt x n) (t .put) ∙ filledFrom-after TOLD (standingAt m) m 0 n (TOLD + n) (omega arith) in
-        let is : new ≡ standingAt m n = en ∙ ap₂ (λ (c : ℕ) (ws : List ℕ). standing c (runs ws)) ec (ew ∙ alike-set sound alike n (omega arith)) in
-        record {
-          put = filledFrom-more TOLD (standingAt m) m (t .put) is;
-          again = es ∙ rw (t .again, before, is, add-one);
-          counted = em ∙ ap₂ (λ (a : ℕ) (ws : List ℕ). max a (held ws)) (t .counted) (ea ∙ alike-set sound alike n (omega arith)) ∙ sym (most-more m n);
-        }
+        let rows = few-rows sound in
+        let owned = sound .book .owned n h in
+        let same : ownerAt m′ n ≡ ownerAt m n = alike .below (OWNERS + n) (omega arith) in
+        omega arith
+
+    -- what is so of one more set, and how many runs it has
+    module _ (h : n < temporals m) {words again : List ℕ} {clock old new most′ : ℕ} (ec : clock ≡ clockOf m) (ew : words ≡ slotWords m′ n) (en : new ≡ standing clock (runs words))
+        (ea : again ≡ slotWords m′ n) (em : most′ ≡ max most (held again)) (eo : old ≡ toldAt m′ n)
+      where
+        small : n < 32
+        small = let f = few-sets sound in omega arith
+
+        before : old ≡ toldAt m n
+        before = eo ∙ ap (λ (x : List ℕ). toldAt x n) (t .put) ∙ filledFrom-after TOLD (standingAt m) m 0 n (TOLD + n) (omega arith)
+
+        is : new ≡ standingAt m n
+        is = en ∙ ap₂ (λ (c : ℕ) (ws : List ℕ). standing c (runs ws)) ec (ew ∙ alike-set sound alike n small)
+
+        count-is : most′ ≡ mostTo m (n + 1)
+        count-is = em ∙ ap₂ (λ (a : ℕ) (ws : List ℕ). max a (held ws)) (t .counted) (ea ∙ alike-set sound alike n small) ∙ sym (most-more m n)
+
+        -- it was told so before
+        pub telling-same : old ≡ new → Telling m (n + 1) m′ first end most′
+        unfolding newsFrom newsEnd
+        telling-same e =
+            let told : eqb (toldAt m n) (standingAt m n) ≡ true = eq-eqb _ _ (sym before ∙ e ∙ is) in
+            record {
+              put = sym (set-getD m′ (TOLD + n) 0) ∙ filledFrom-more TOLD (standingAt m) m (t .put) (sym eo ∙ e ∙ is);
+              from = t .from ∙ sym (rw (add-one n, told));
+              up-to = t .up-to ∙ sym (rw (add-one n, told));
+              counted = count-is;
+            }
+
+        -- it is something new
+        pub telling-new : (old ≡ new → ⊥) → {row first′ end′ : ℕ} → row ≡ ownerAt m′ n → first′ ≡ min first row → end′ ≡ row + 1 → Telling m (n + 1) (set m′ (TOLD + n) new) first′ end′ most′
+        unfolding newsFrom newsEnd
+        telling-new ne er ef ee =
+            let told : eqb (toldAt m n) (standingAt m n) ≡ false = ne-eqb _ _ (λ q. ne (before ∙ q ∙ sym is)) in
+            let row-is = er ∙ alike .below (OWNERS + n) (omega (arith, small)) in
+            record {
+              put = filledFrom-more TOLD (standingAt m) m (t .put) is;
+              from = ef ∙ ap₂ (λ (a b : ℕ). min a b) (t .from) row-is ∙ sym (rw (add-one n, told));
+              up-to = ee ∙ ap (λ (b : ℕ). b + 1) row-is ∙ sym (rw (add-one n, told));
+              counted = count-is;
+            }
 
     -- once all are told
     pub telling-counted : n ≡ temporals m → set m′ FULLEST most ≡ countPut (toldPut m)
@@ -285,7 +386,7 @@ module _ {m : List ℕ} (sound : Sound m) where
   pub told-valued : Valued m → Valued (toldPut m)
   told-valued = valued-same sound told-alike (λ r h. filledFrom-before TOLD (standingAt m) m 0 (temporals m) (VALUES + r) (omega arith))
 
-  told-after : (k : ℕ) → TOLD + temporals m ≤ k → getD (toldPut m) k 0 ≡ getD m k 0
+  pub told-after : (k : ℕ) → TOLD + temporals m ≤ k → getD (toldPut m) k 0 ≡ getD m k 0
   told-after k h = filledFrom-after TOLD (standingAt m) m 0 (temporals m) k h
 
   pub told-unused : Unused m → Unused (toldPut m)
@@ -293,14 +394,17 @@ module _ {m : List ℕ} (sound : Sound m) where
       let few = few-sets sound in
       unused-same sound told-alike
       (λ r p q. filledFrom-before TOLD (standingAt m) m 0 (temporals m) (VALUES + r) (omega arith)) (λ j p q. told-after (TOLD + j) (omega arith))
-      (λ i p q. told-after (EARLY + i) (omega arith)) (λ i p q. told-after (SETTLED + i) (omega arith)) (λ r p q. told-after (MOVES + r) (omega arith))
+      (λ i p q. told-after (EARLY + i) (omega arith)) (λ i p q. told-after (SETTLED + i) (omega arith)) (λ r p q. told-after (MOVES + r) (omega arith)) (λ r p q. told-after (LOWEST + r) (omega arith))
 
   pub told-moving : Moving m → Moving (toldPut m)
   told-moving = let few = few-sets sound in moving-same sound told-alike (λ r h. told-after (MOVES + r) (omega arith))
 
+  pub told-founded : Founded m → Founded (toldPut m)
+  told-founded = let few = few-sets sound in founded-same sound told-alike (λ r h. told-after (LOWEST + r) (omega arith))
+
 -- ---- the count
 module _ {m : List ℕ} (sound : Sound m) where
-  count-other : (k : ℕ) → k < FULLEST → getD (countPut m) k 0 ≡ getD m k 0
+  pub count-other : (k : ℕ) → k < FULLEST → getD (countPut m) k 0 ≡ getD m k 0
   count-other k h = getD-set-other m FULLEST k (fullest (stateOf m)) 0 (omega arith)
 
   pub count-alike : Alike m (countPut m)
@@ -326,6 +430,9 @@ module _ {m : List ℕ} (sound : Sound m) where
   pub count-moving : Moving m → Moving (countPut m)
   count-moving = moving-same sound count-alike (λ r h. count-other (MOVES + r) (omega arith))
 
+  pub count-founded : Founded m → Founded (countPut m)
+  count-founded = founded-same sound count-alike (λ r h. count-other (LOWEST + r) (omega arith))
+
   pub count-answered : Answered m → Answered (countPut m)
   count-answered = answered-same sound count-alike (λ i h. count-other (EARLY + i) (omega arith)) (λ i h. count-other (SETTLED + i) (omega arith))
 
@@ -333,7 +440,7 @@ module _ {m : List ℕ} (sound : Sound m) where
   count-unused =
       unused-same sound count-alike
       (λ r p q. count-other (VALUES + r) (omega arith)) (λ j p q. count-other (TOLD + j) (omega arith))
-      (λ i p q. count-other (EARLY + i) (omega arith)) (λ i p q. count-other (SETTLED + i) (omega arith)) (λ r p q. count-other (MOVES + r) (omega arith))
+      (λ i p q. count-other (EARLY + i) (omega arith)) (λ i p q. count-other (SETTLED + i) (omega arith)) (λ r p q. count-other (MOVES + r) (omega arith)) (λ r p q. count-other (LOWEST + r) (omega arith))
 
 -- ---- the digits, which are put by what was told
 module _ {m : List ℕ} (sound : Sound m) (a : ℕ) (f : ℕ → ℕ) (n : ℕ) (far : EARLY ≤ a) where
@@ -349,35 +456,59 @@ module _ {m : List ℕ} (sound : Sound m) (a : ℕ) (f : ℕ → ℕ) (n : ℕ) 
   digits-early : (r : ℕ) → earlyTold (filledFrom a f m n) r ≡ earlyTold m r
   digits-early = early-same m (filledFrom a f m n) (alike-rows sound digits-alike) (alike-told sound digits-alike digits-told)
 
-  digits-settled : (r : ℕ) → settledNow (filledFrom a f m n) r ≡ settledNow m r
+  pub digits-settled : (r : ℕ) → settledNow (filledFrom a f m n) r ≡ settledNow m r
   digits-settled r = ap₂ (λ (w : ℕ) (x : Answer). cond (isOne w) x Open) (digits-alike .below 1 (omega arith)) (settled-same m (filledFrom a f m n) (alike-rows sound digits-alike) (alike-told sound digits-alike digits-told) r)
 
   pub digits-row : (i : ℕ) → i < 32 → propertyRow (filledFrom a f m n) i ≡ propertyRow m i
   digits-row = same-property sound digits-alike
 
--- as a loop puts them: with any answer that tables leave as it is
-module _ {m : List ℕ} (sound : Sound m) (a : ℕ) (far : EARLY ≤ a) (ask : List ℕ → ℕ → Answer)
-    (stays : (f : ℕ → ℕ) (n r : ℕ) → ask (filledFrom a f m n) r ≡ ask m r)
+  pub digits-lowest : a ≤ SETTLED → n < 33 → (r : ℕ) → lowestAt (filledFrom a f m n) r ≡ lowestAt m r
+  digits-lowest near few r = filledFrom-after a f m 0 n (LOWEST + r) (omega arith)
+
+-- as a loop puts them: with any answer that tables leave as it is, of the properties that are reached
+module _ {m : List ℕ} (sound : Sound m) (a : ℕ) (far : EARLY ≤ a) (near : a ≤ SETTLED) (ask : List ℕ → ℕ → Answer)
+    (stays : (f : ℕ → ℕ) (n r : ℕ) → ask (filledFrom a f m n) r ≡ ask m r) (first end : ℕ)
   where
     abbrev digit-word : ℕ → ℕ
-    digit-word i = digitOf (ask m (propertyRow m i))
+    digit-word i = cond (reaches m first end i) (digitOf (ask m (propertyRow m i))) (getD m (a + i) 0)
 
-    pub digits-sound : (n : ℕ) {m′ : List ℕ} → m′ ≡ filledFrom a digit-word m n → Sound m′
-    digits-sound n e = rw e (alike-sound sound (digits-alike sound a digit-word n far))
+    module _ (n : ℕ) {m′ : List ℕ} (e : m′ ≡ filledFrom a digit-word m n) where
+      pub digits-sound : Sound m′
+      digits-sound = rw e (alike-sound sound (digits-alike sound a digit-word n far))
 
-    pub digits-inside : (n : ℕ) {m′ : List ℕ} → m′ ≡ filledFrom a digit-word m n → n < propertyCount m → {row : ℕ} → row ≡ propertyRow m′ n → row < rowCount m′
-    digits-inside n {m′} e h {row} er =
-        let few = few-properties sound in
-        let al = digits-alike sound a digit-word n far in
-        rw (er, e, digits-row sound a digit-word n far n (omega arith), same-rows sound al) (sound .book .properties n h)
+      module _ (h : n < propertyCount m) {row : ℕ} (er : row ≡ propertyRow m′ n) where
+        few-here : n < 32
+        few-here = let f = few-properties sound in omega arith
 
-    pub digits-more : (n : ℕ) {m′ : List ℕ} → m′ ≡ filledFrom a digit-word m n → n < propertyCount m → {row : ℕ} → row ≡ propertyRow m′ n → {x : Answer} → x ≡ ask m′ row → {d w : ℕ} → d ≡ digitOf x → w ≡ d
-        → set m′ (a + n) w ≡ filledFrom a digit-word m (n + 1)
-    digits-more n {m′} e h {row} er ex ed ew =
-        let few = few-properties sound in
-        let row-is : row ≡ propertyRow m n = er ∙ ap (λ (l : List ℕ). propertyRow l n) e ∙ digits-row sound a digit-word n far n (omega arith) in
-        filledFrom-more a digit-word m e
-        (ew ∙ ed ∙ ap digitOf (ex ∙ ap₂ ask e row-is ∙ stays digit-word n (propertyRow m n)))
+        row-is : row ≡ propertyRow m n
+        row-is = er ∙ ap (λ (l : List ℕ). propertyRow l n) e ∙ digits-row sound a digit-word n far n few-here
+
+        pub digits-inside : row < rowCount m′
+        digits-inside = rw (row-is, e, same-rows sound (digits-alike sound a digit-word n far)) (sound .book .properties n h)
+
+        pub digits-few : row < 128
+        digits-few = let l = digits-inside in let f = few-rows digits-sound in omega arith
+
+        module _ {b : Bool} (eb : b ≡ (leb first row && ltb (lowestAt m′ row) end)) where
+          reach-is : b ≡ reaches m first end n
+          reach-is =
+              eb ∙ ap₂ (λ (x : List ℕ) (r : ℕ). leb first r && ltb (lowestAt x r) end) e row-is
+              ∙ ap (λ (low : ℕ). leb first (propertyRow m n) && ltb low end) (digits-lowest sound a digit-word n far near (omega (arith, few-here)) (propertyRow m n))
+
+          -- one more is asked
+          pub digits-more : b ≡ true → {x : Answer} → x ≡ ask m′ row → {d w : ℕ} → d ≡ digitOf x → w ≡ d → set m′ (a + n) w ≡ filledFrom a digit-word m (n + 1)
+          digits-more yes-it-is ex ed ew =
+              filledFrom-more a digit-word m e
+              (ew ∙ ed ∙ ap digitOf (ex ∙ ap₂ ask e row-is ∙ stays digit-word n (propertyRow m n))
+              ∙ ap (λ (c : Bool). cond c (digitOf (ask m (propertyRow m n))) (getD m (a + n) 0)) (sym yes-it-is ∙ reach-is))
+
+          -- one more keeps its digit
+          pub digits-kept : b ≡ false → m′ ≡ filledFrom a digit-word m (n + 1)
+          digits-kept no-it-is =
+              sym (set-getD m′ (a + n) 0)
+              ∙ filledFrom-more a digit-word m e
+              (ap (λ (x : List ℕ). getD x (a + n) 0) e ∙ filledFrom-after a digit-word m 0 n (a + n) (omega arith)
+              ∙ ap (λ (c : Bool). cond c (digitOf (ask m (propertyRow m n))) (getD m (a + n) 0)) (sym no-it-is ∙ reach-is))
 
 pub early-stays : {m : List ℕ} → Sound m → (f : ℕ → ℕ) (n r : ℕ) → earlyTold (filledFrom EARLY f m n) r ≡ earlyTold m r
 early-stays sound f n = digits-early sound EARLY f n (omega arith)
@@ -385,11 +516,11 @@ early-stays sound f n = digits-early sound EARLY f n (omega arith)
 pub settled-stays : {m : List ℕ} → Sound m → (f : ℕ → ℕ) (n r : ℕ) → settledNow (filledFrom SETTLED f m n) r ≡ settledNow m r
 settled-stays sound f n = digits-settled sound SETTLED f n (omega arith)
 
-pub early-sound : {m : List ℕ} → Sound m → Sound (earlyPut m)
-early-sound {m} sound = alike-sound sound (digits-alike sound EARLY (earlyDigit m) (propertyCount m) (omega arith))
+pub early-sound : {m : List ℕ} → Sound m → (first end : ℕ) → Sound (earlyRenewed m first end)
+early-sound {m} sound first end = alike-sound sound (digits-alike sound EARLY (earlyAsked m first end) (propertyCount m) (omega arith))
 
 -- ---- the tables are right once the digits are put where values and what was told are
-module _ {m : List ℕ} (sound : Sound m) (valued : Valued m) (told : Told m) (moving : Moving m) (counts : Counts m) (unused : Unused m) where
+module _ {m : List ℕ} (sound : Sound m) (valued : Valued m) (told : Told m) (moving : Moving m) (founded : Founded m) (counts : Counts m) (unused : Unused m) where
   abbrev early-put : List ℕ
   early-put = earlyPut m
 
@@ -452,6 +583,7 @@ module _ {m : List ℕ} (sound : Sound m) (valued : Valued m) (told : Told m) (m
       (λ i p q. before₂ (EARLY + i) (omega arith) ∙ after₁ (EARLY + i) (omega arith))
       (λ i p q. filledFrom-after SETTLED (settledDigit early-put) early-put 0 (propertyCount early-put) (SETTLED + i) (omega (arith, count₁)) ∙ after₁ (SETTLED + i) (omega arith))
       (λ r p q. filledFrom-after SETTLED (settledDigit early-put) early-put 0 (propertyCount early-put) (MOVES + r) (omega (arith, count₁)) ∙ after₁ (MOVES + r) (omega arith))
+      (λ r p q. filledFrom-after SETTLED (settledDigit early-put) early-put 0 (propertyCount early-put) (LOWEST + r) (omega (arith, count₁)) ∙ after₁ (LOWEST + r) (omega arith))
       unused
 
   moving₂ : Moving (settledPut early-put)
@@ -460,6 +592,13 @@ module _ {m : List ℕ} (sound : Sound m) (valued : Valued m) (told : Told m) (m
       moving-same sound asked-alike (λ r h.
       filledFrom-after SETTLED (settledDigit early-put) early-put 0 (propertyCount early-put) (MOVES + r) (omega (arith, count₁))
       ∙ filledFrom-after EARLY (earlyDigit m) m 0 (propertyCount m) (MOVES + r) (omega arith)) moving
+
+  founded₂ : Founded (settledPut early-put)
+  founded₂ =
+      let few = few-properties sound in
+      founded-same sound asked-alike (λ r h.
+      filledFrom-after SETTLED (settledDigit early-put) early-put 0 (propertyCount early-put) (LOWEST + r) (omega (arith, count₁))
+      ∙ filledFrom-after EARLY (earlyDigit m) m 0 (propertyCount m) (LOWEST + r) (omega arith)) founded
 
   counts₂ : Counts (settledPut early-put)
   counts₂ =
@@ -476,6 +615,7 @@ module _ {m : List ℕ} (sound : Sound m) (valued : Valued m) (told : Told m) (m
         told = told₂;
         answered = record { early = rw count early-word; settled = rw count settled-word };
         moving = moving₂;
+        founded = founded₂;
         counts = counts₂;
         unused = unused₂;
       }
@@ -490,31 +630,47 @@ values-put-sound {m} sound = values-sound sound (rowCount m) refl
 pub moves-put-sound : {m : List ℕ} → Sound m → Sound (movesPut m)
 moves-put-sound {m} sound = alike-sound sound (moves-put-alike sound)
 
+pub lowest-put-sound : {m : List ℕ} → Sound m → Sound (lowestPut m)
+lowest-put-sound {m} sound = alike-sound sound (lowest-put-alike sound)
+
+pub worked-founded : {m : List ℕ} → Sound m → Founded (countPut (toldPut (valuesPut (lowestPut (movesPut m)))))
+worked-founded sound =
+    let sound₀ = moves-put-sound sound in
+    let sound₁ = lowest-put-sound sound₀ in
+    let sound₂ = values-put-sound sound₁ in
+    count-founded (alike-sound sound₂ (told-alike sound₂)) (told-founded sound₂ (values-founded sound₁ (lowest-founded sound₀)))
+
 -- what is told and counted, and the digits, put where the rest is right
-pub told-and-asked : {m : List ℕ} → Sound m → Valued m → Moving m → Unused m → {m′ : List ℕ} → m′ ≡ settledPut (earlyPut (countPut (toldPut m))) → Alike m m′ × Tables m′ × SameLedger m m′
-told-and-asked {m} sound valued moving unused e =
+pub told-and-asked : {m : List ℕ} → Sound m → Valued m → Moving m → Founded m → Unused m → {m′ : List ℕ} → m′ ≡ settledPut (earlyPut (countPut (toldPut m))) → Alike m m′ × Tables m′ × SameLedger m m′
+told-and-asked {m} sound valued moving founded unused e =
     let sound₁ = alike-sound sound (told-alike sound) in
     let sound₂ = count-sound sound₁ in
     let valued₂ = count-valued sound₁ (told-valued sound valued) in
     let told₂ = count-told sound₁ (told-told sound) in
     let moving₂ = count-moving sound₁ (told-moving sound moving) in
+    let founded₂ = count-founded sound₁ (told-founded sound founded) in
     let counts₂ = count-counts sound₁ in
     let unused₂ = count-unused sound₁ (told-unused sound unused) in
     let few = few-sets sound in
     rw e (
-      alike-on (told-alike sound) (alike-on (count-alike sound₁) (asked-alike sound₂ valued₂ told₂ moving₂ counts₂ unused₂)),
-      asked-tables sound₂ valued₂ told₂ moving₂ counts₂ unused₂,
-      ledger-on (ledger-filled m TOLD (standingAt m) (temporals m) (omega arith)) (ledger-on (count-ledger sound₁) (asked-ledger sound₂ valued₂ told₂ moving₂ counts₂ unused₂)),
+      alike-on (told-alike sound) (alike-on (count-alike sound₁) (asked-alike sound₂ valued₂ told₂ moving₂ founded₂ counts₂ unused₂)),
+      asked-tables sound₂ valued₂ told₂ moving₂ founded₂ counts₂ unused₂,
+      ledger-on (ledger-filled m TOLD (standingAt m) (temporals m) (omega arith)) (ledger-on (count-ledger sound₁) (asked-ledger sound₂ valued₂ told₂ moving₂ founded₂ counts₂ unused₂)),
     )
 
 pub worked-out : {m : List ℕ} → Sound m → Unused m
-    → let m′ = settledPut (earlyPut (countPut (toldPut (valuesPut (movesPut m))))) in Alike m m′ × Tables m′ × SameLedger m m′
+    → let m′ = settledPut (earlyPut (countPut (toldPut (valuesPut (lowestPut (movesPut m)))))) in Alike m m′ × Tables m′ × SameLedger m m′
 worked-out {m} sound unused =
     let sound₀ = moves-put-sound sound in
-    let to₁ = alike-on (moves-put-alike sound) (values-alike sound₀) in
-    let t = told-and-asked (values-put-sound sound₀) (values-valued sound₀) (values-moving sound₀ (moves-moving sound)) (values-unused sound₀ (moves-unused sound unused)) refl in
+    let sound₁ = lowest-put-sound sound₀ in
+    let to₁ = alike-on (moves-put-alike sound) (alike-on (lowest-put-alike sound₀) (values-alike sound₁)) in
+    let t =
+    told-and-asked (values-put-sound sound₁) (values-valued sound₁) (values-moving sound₁ (lowest-moving sound₀ (moves-moving sound))) (values-founded sound₁ (lowest-founded sound₀))
+    (values-unused sound₁ (lowest-unused sound₀ (moves-unused sound unused))) refl in
     let few = few-rows sound in
     let few₀ = few-rows sound₀ in
+    let few₁ = few-rows sound₁ in
     let same₀ = ledger-filled m MOVES (move-word m) (rowCount m) (omega arith) in
-    let same₁ = ledger-filled (movesPut m) VALUES (value-word sound₀) (rowCount (movesPut m)) (omega arith) in
-    (alike-on to₁ (t .0), t .1, ledger-on same₀ (ledger-on same₁ (t .2)))
+    let same₁ = ledger-filled (movesPut m) LOWEST (lowest (rowsOf (movesPut m))) (rowCount (movesPut m)) (omega arith) in
+    let same₂ = ledger-filled (lowestPut (movesPut m)) VALUES (value-word sound₁) (rowCount (lowestPut (movesPut m))) (omega arith) in
+    (alike-on to₁ (t .0), t .1, ledger-on same₀ (ledger-on same₁ (ledger-on same₂ (t .2))))

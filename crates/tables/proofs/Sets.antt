@@ -2,12 +2,11 @@
 use Prim.Native.Nat.{ℕ, zero, suc, _+_, _*_, max, _≤_, _<_}
 use native.Mathlib.Omega.{arith}
 use mathlib.Core.Path.{_≡_, refl, sym, _∙_}
-use mathlib.Core.Bool.{Bool, true, false, _&&_}
+use mathlib.Core.Bool.{Bool, true, false}
 use mathlib.Core.Logic.{_↔_}
 use mathlib.Core.List.{List}
 use lib.ListN.{getD}
-use lib.Dec.{ltb, eqb}
-use borrow.Author.Tests.{eq-eqb, ne-eqb}
+use lib.Dec.{ltb}
 use Rattle.numbers.specs.Limits.{MAX}
 use Rattle.numset.specs.Runs.{lo, hi, runs, runsTo, covers, Covers, Good, held}
 use Rattle.numset.proofs.Words.{length-runs}
@@ -51,12 +50,3 @@ count-greater words most count e h = let l = length-runs words (getD words 0 0) 
 
 pub count-lesser : (words : List ℕ) (most count : ℕ) → count ≡ getD words 0 0 → count ≤ most → most ≡ max most (held words)
 count-lesser words most count e h = let l = length-runs words (getD words 0 0) in omega arith
-
--- ---- the same as before
-pub still-same : (same : Bool) (old new : ℕ) → old ≡ new → same ≡ (same && eqb old new)
-still-same true old new e = sym (eq-eqb old new e)
-still-same false old new e = refl
-
-pub still-other : (same : Bool) (old new : ℕ) → (old ≡ new → ⊥) → false ≡ (same && eqb old new)
-still-other true old new e = sym (ne-eqb old new e)
-still-other false old new e = refl

@@ -27,7 +27,7 @@ use Rattle.memory.proofs.Rows.{rows-length, row-at}
 use Rattle.memory.proofs.Sets.{owner-set}
 use Rattle.memory.proofs.Alike.{alike-on, alike-sound, alike-rows, alike-state}
 use Rattle.memory.proofs.Ledger.{ledger-on}
-use Rattle.tables.specs.Puts.{movesPut, valuesPut, toldPut, countPut, earlyPut, settledPut, untilOf, untilAt, untilPut}
+use Rattle.tables.specs.Puts.{movesPut, lowestPut, valuesPut, toldPut, countPut, earlyPut, settledPut, untilOf, untilAt, untilPut}
 use Rattle.tables.proofs.Puts.{tables-same, worked-out}
 
 -- ---- one set, as the code finds it
@@ -215,9 +215,9 @@ tables-awaited {m} {m₁} sound t e =
       until-awaited sound₁,
     )
 
-pub worked-awaited : {m m₀ m₁ m₂ m₃ m₄ : List ℕ} → Sound m → Unused m → m₀ ≡ movesPut m → m₁ ≡ valuesPut m₀ → m₂ ≡ countPut (toldPut m₁) → m₃ ≡ settledPut (earlyPut m₂)
+pub worked-awaited : {m m₀ l₀ m₁ m₂ m₃ m₄ : List ℕ} → Sound m → Unused m → m₀ ≡ movesPut m → l₀ ≡ lowestPut m₀ → m₁ ≡ valuesPut l₀ → m₂ ≡ countPut (toldPut m₁) → m₃ ≡ settledPut (earlyPut m₂)
     → m₄ ≡ untilPut m₃ → Alike m m₄ × Tables m₄ × SameLedger m m₄ × Awaited m₄
-worked-awaited {m₃ = m₃} sound unused e₀ e₁ e₂ e₃ e₄ = tables-awaited {m₁ = m₃} sound (rw (e₃, e₂, e₁, e₀) (worked-out sound unused)) e₄
+worked-awaited {m₃ = m₃} sound unused e₀ el e₁ e₂ e₃ e₄ = tables-awaited {m₁ = m₃} sound (rw (e₃, e₂, e₁, el, e₀) (worked-out sound unused)) e₄
 
-pub asked-sound : {m m₀ m₁ m₂ m₃ : List ℕ} → Sound m → Unused m → m₀ ≡ movesPut m → m₁ ≡ valuesPut m₀ → m₂ ≡ countPut (toldPut m₁) → m₃ ≡ settledPut (earlyPut m₂) → Sound m₃
-asked-sound sound unused e₀ e₁ e₂ e₃ = rw (e₃, e₂, e₁, e₀) (alike-sound sound (worked-out sound unused .0))
+pub asked-sound : {m m₀ l₀ m₁ m₂ m₃ : List ℕ} → Sound m → Unused m → m₀ ≡ movesPut m → l₀ ≡ lowestPut m₀ → m₁ ≡ valuesPut l₀ → m₂ ≡ countPut (toldPut m₁) → m₃ ≡ settledPut (earlyPut m₂) → Sound m₃
+asked-sound sound unused e₀ el e₁ e₂ e₃ = rw (e₃, e₂, e₁, el, e₀) (alike-sound sound (worked-out sound unused .0))

@@ -1,27 +1,28 @@
 // The tables of a monitor's memory, worked out from the book, the clock, the atoms and the sets.
 ghost use mathlib.Core.Path.{_≡_};
-ghost use mathlib.Core.Bool.{true, cond, _&&_};
+ghost use mathlib.Core.Bool.{cond, _&&_};
 ghost use mathlib.Core.List.{map};
 ghost use Prim.Native.Nat.{_+_, _≤_, _<_, min, max};
-ghost use lib.Dec.{eqb};
+ghost use lib.Dec.{leb, ltb};
 ghost use Rattle.numset.specs.Runs.{Good, runs, held};
 ghost use Rattle.pmtl.specs.Sets.{gone};
 ghost use Rattle.numbers.specs.Limits.{MAX as Limits·MAX, LAST-TIME, MOST-ROWS};
-ghost use Rattle.pmtl.specs.Book.{mapRow, moveRule};
+ghost use Rattle.pmtl.specs.Book.{mapRow, moveRule, leastOf, lowestRule};
 ghost use Rattle.pmtl.specs.Quiet.{quietUntil};
-ghost use Rattle.memory.specs.Layout.{MOVES, SIZE};
-ghost use Rattle.memory.specs.Memory.{rowCount, begunWord, temporals, operandsFrom, rowOf, rowsOf, stateOf, isOne};
-ghost use Rattle.memory.specs.Tables.{standing, Unused, Tables};
+ghost use Rattle.memory.specs.Layout.{MOVES, LOWEST, SIZE};
+ghost use Rattle.memory.specs.Memory.{rowCount, begunWord, temporals, operandsFrom, rowOf, rowsOf, stateOf, isOne, lowestAt};
+ghost use Rattle.memory.specs.Tables.{standing, Founded, Unused, Tables};
 ghost use Rattle.memory.specs.Kept.{BookKept, Span, Sound, Awaited};
 ghost use Rattle.memory.specs.Alike.{Alike, SameLedger};
 ghost use Rattle.row_answers.specs.Told.{settledTold};
 ghost use Rattle.row_answers.specs.Private.{joined};
-ghost use Rattle.tables.specs.Puts.{bitIn, movesPut, valuesPut, toldPut, countPut, earlyPut, settledPut, toldAgain, untilOf, untilAt, untilPut};
+ghost use Rattle.tables.specs.Puts.{bitIn, wordIn, movesPut, lowestPut, valuesPut, toldPut, countPut, newsFrom, newsEnd, earlyRenewed, settledRenewed, earlyPut, settledPut, untilOf, untilAt, untilPut};
 use book::HISTORICALLY;
 use memory::COVERS;
 use memory::EARLY;
 use memory::FULLEST;
 use memory::GONE;
+use memory::LOWEST;
 use memory::MOVES;
 use memory::NEITHER;
 use memory::SETTLED;
@@ -30,6 +31,7 @@ use memory::TOLD;
 use memory::UNTIL;
 use memory::VALUES;
 use numbers::MAX;
+use numbers::MOST_ROWS;
 use pmtl::Answer;
 
 // And, which stops at a false, or Or, which stops at a true, of what a table has of `left` operands from `place` on.
@@ -74,6 +76,56 @@ fn fill_moves(monitor: &mut [u64; SIZE])
     while row < count {
         let moves = moves_here(monitor, row);
         monitor[MOVES + row] = lists::wide(pmtl::bit(moves));
+        row += 1;
+    }
+}
+
+fn lesser(a: u64, b: u64) -> u64
+    ensures { λ r. ⌜ r ≡ min a b ⌝ }
+{
+    if a < b { a } else { b }
+}
+
+// The least of a number and of the lowest rows below `left` operands from `place` on.
+fn least_of(monitor: &[u64; SIZE], place: usize, left: usize, from: u64) -> u64
+    requires { ⌜ BookKept (now monitor) × Span (now monitor) (rowCount (now monitor)) place left ⌝ }
+    ensures { λ r. ⌜ r ≡ leastOf from (map (wordIn (now (monitor .entry)) LOWEST) (operandsFrom (now (monitor .entry)) place left)) ⌝ }
+{
+    let mut least = from;
+    let mut at = place;
+    let mut rest = left;
+    while rest != 0 {
+        least = lesser(
+            least,
+            memory::word(monitor, LOWEST + memory::operand_at(monitor, at)),
+        );
+        at += 1;
+        rest -= 1;
+    }
+    least
+}
+
+// The lowest row at or below a row, where it is known of its operands.
+fn lowest_here(monitor: &[u64; SIZE], row: usize) -> u64
+    requires { ⌜ Sound (now monitor) ⌝ }
+    requires { ⌜ row < rowCount (now monitor) ⌝ }
+    ensures { λ r. ⌜ r ≡ lowestRule row (mapRow (wordIn (now (monitor .entry)) LOWEST) (rowOf (now (monitor .entry)) row)) ⌝ }
+{
+    let words = memory::row_at(monitor, row);
+    let count = book::check::taken_by(words.kind, words.arg as u64);
+    least_of(monitor, words.start, count, row as u64)
+}
+
+// Of each row, from row 0 upward, the lowest row at or below it.
+fn fill_lowest(monitor: &mut [u64; SIZE])
+    requires { ⌜ Sound (now monitor) ⌝ }
+    ensures { λ _. ⌜ now (monitor .exit) ≡ lowestPut (now (monitor .entry)) ⌝ }
+{
+    let count = memory::row_count(monitor);
+    let mut row = 0;
+    while row < count {
+        let lowest = lowest_here(monitor, row);
+        monitor[LOWEST + row] = lowest;
         row += 1;
     }
 }
@@ -127,45 +179,76 @@ fn fuller(most: u64, set: &[u64]) -> u64
     if most < count { count } else { most }
 }
 
-// Whether all is as before, and this is, too.
-fn still(same: bool, old: u64, new: u64) -> bool
-    ensures { λ r. ⌜ r ≡ (same && eqb old new) ⌝ }
+// The lower of two rows.
+fn lower_row(a: usize, b: usize) -> usize
+    ensures { λ r. ⌜ r ≡ min a b ⌝ }
 {
-    if old == new { same } else { false }
+    if a < b { a } else { b }
 }
 
-// Tells the rows anew what is so of their sets. Whether that is all as before. The same walk finds how many runs the fullest set has.
-pub fn retell(monitor: &mut [u64; SIZE]) -> bool
+// The rows whose sets are told something new lie from `first` up to `end`; where `end` is 0 there are none.
+pub struct News {
+    pub first: usize,
+    pub end: usize,
+}
+
+// Tells the rows anew what is so of their sets, and says between which rows that is something new. The same walk finds how many runs the
+// fullest set has.
+pub fn retell(monitor: &mut [u64; SIZE]) -> News
     requires { ⌜ Sound (now monitor) ⌝ }
-    ensures { λ r. ⌜ (now (monitor .exit) ≡ countPut (toldPut (now (monitor .entry)))) × (r ≡ toldAgain (now (monitor .entry)) (temporals (now (monitor .entry)))) ⌝ }
+    ensures { λ r. ⌜ (now (monitor .exit) ≡ countPut (toldPut (now (monitor .entry)))) × (r .first ≡ newsFrom (now (monitor .entry)) (temporals (now (monitor .entry)))) × (r .end ≡ newsEnd (now (monitor .entry)) (temporals (now (monitor .entry)))) ⌝ }
 {
     let clock = memory::clock(monitor);
     let count = memory::temporal_count(monitor);
-    let mut same = true;
+    let mut first = MOST_ROWS;
+    let mut end = 0;
     let mut most = 0;
     let mut slot = 0;
     while slot < count {
         let new = standing(memory::set_at(monitor, slot), clock);
         most = fuller(most, memory::set_at(monitor, slot));
-        same = still(same, memory::told_at(monitor, slot), new);
-        monitor[TOLD + slot] = new;
-        slot += 1;
+        if memory::told_at(monitor, slot) == new {
+            slot += 1;
+        } else {
+            let row = memory::owner_at(monitor, slot);
+            monitor[TOLD + slot] = new;
+            first = lower_row(first, row);
+            end = row + 1;
+            slot += 1;
+        }
     }
     monitor[FULLEST] = most;
-    same
+    News { first, end }
 }
 
-// Asks every property for its early answer, by what the rows were told.
-fn ask_early(monitor: &mut [u64; SIZE])
+// Whether a row may lie above one of the rows from `first` up to `end`: it is none before them, and the lowest row below it is none after
+// them.
+fn reached(monitor: &[u64; SIZE], row: usize, first: usize, end: usize) -> bool
+    requires { ⌜ row < MOST-ROWS ⌝ }
+    ensures { λ r. ⌜ r ≡ (leb first row && ltb (lowestAt (now (monitor .entry)) row) end) ⌝ }
+{
+    if row < first {
+        return false;
+    }
+    memory::lowest_at(monitor, row) < end
+}
+
+// Asks the properties above the rows from `first` up to `end` for their early answers, by what the rows were told.
+fn ask_early(monitor: &mut [u64; SIZE], first: usize, end: usize)
     requires { ⌜ Sound (now monitor) ⌝ }
-    ensures { λ _. ⌜ now (monitor .exit) ≡ earlyPut (now (monitor .entry)) ⌝ }
+    ensures { λ _. ⌜ now (monitor .exit) ≡ earlyRenewed (now (monitor .entry)) first end ⌝ }
 {
     let count = memory::property_count(monitor);
     let mut i = 0;
     while i < count {
-        let answer = row_answers::valuation(monitor, memory::property_row(monitor, i));
-        monitor[EARLY + i] = lists::wide(pmtl::digit(answer));
-        i += 1;
+        let row = memory::property_row(monitor, i);
+        if reached(monitor, row, first, end) {
+            let answer = row_answers::valuation(monitor, row);
+            monitor[EARLY + i] = lists::wide(pmtl::digit(answer));
+            i += 1;
+        } else {
+            i += 1;
+        }
     }
 }
 
@@ -181,27 +264,40 @@ fn settled_now(monitor: &[u64; SIZE], row: usize) -> Answer
     Answer::Open
 }
 
-// Asks every property for its settled answer.
-fn ask_settled(monitor: &mut [u64; SIZE])
+// Asks the same properties for their settled answers.
+fn ask_settled(monitor: &mut [u64; SIZE], first: usize, end: usize)
     requires { ⌜ Sound (now monitor) ⌝ }
-    ensures { λ _. ⌜ now (monitor .exit) ≡ settledPut (now (monitor .entry)) ⌝ }
+    ensures { λ _. ⌜ now (monitor .exit) ≡ settledRenewed (now (monitor .entry)) first end ⌝ }
 {
     let count = memory::property_count(monitor);
     let mut i = 0;
     while i < count {
-        let answer = settled_now(monitor, memory::property_row(monitor, i));
-        monitor[SETTLED + i] = lists::wide(pmtl::digit(answer));
-        i += 1;
+        let row = memory::property_row(monitor, i);
+        if reached(monitor, row, first, end) {
+            let answer = settled_now(monitor, row);
+            monitor[SETTLED + i] = lists::wide(pmtl::digit(answer));
+            i += 1;
+        } else {
+            i += 1;
+        }
     }
 }
 
-// The digits of every property, by what the rows were told.
-pub fn ask(monitor: &mut [u64; SIZE])
+// The digits of the properties above the rows from `first` up to `end`, by what the rows were told. The others keep theirs.
+pub fn ask(monitor: &mut [u64; SIZE], first: usize, end: usize)
     requires { ⌜ Sound (now monitor) ⌝ }
+    ensures { λ _. ⌜ now (monitor .exit) ≡ settledRenewed (earlyRenewed (now (monitor .entry)) first end) first end ⌝ }
+{
+    ask_early(monitor, first, end);
+    ask_settled(monitor, first, end);
+}
+
+// The digits of every property.
+pub fn ask_all(monitor: &mut [u64; SIZE])
+    requires { ⌜ Sound (now monitor) × Founded (now monitor) ⌝ }
     ensures { λ _. ⌜ now (monitor .exit) ≡ settledPut (earlyPut (now (monitor .entry))) ⌝ }
 {
-    ask_early(monitor);
-    ask_settled(monitor);
+    ask(monitor, 0, MOST_ROWS);
 }
 
 // Up to when a set stays as it is, and the clock meets the same of it, by the range that its row adds and its newest run.
@@ -238,12 +334,6 @@ fn until_at(monitor: &[u64; SIZE], slot: usize) -> u64
     until_of(memory::set_at(monitor, slot), clock, lower, upper)
 }
 
-fn sooner(a: u64, b: u64) -> u64
-    ensures { λ r. ⌜ r ≡ min a b ⌝ }
-{
-    if a < b { a } else { b }
-}
-
 // Up to when a time call moves the clock alone: what changes first decides. No set changes before the clock, so the first that may
 // change after it ends the look.
 fn least_until(monitor: &[u64; SIZE]) -> u64
@@ -255,7 +345,7 @@ fn least_until(monitor: &[u64; SIZE]) -> u64
     let mut least = MAX;
     let mut slot = 0;
     while slot < count {
-        least = sooner(least, until_at(monitor, slot));
+        least = lesser(least, until_at(monitor, slot));
         if least <= clock {
             return clock;
         }
@@ -279,8 +369,9 @@ pub fn work_out(monitor: &mut [u64; SIZE])
     ensures { λ _. ⌜ Alike (now (monitor .entry)) (now (monitor .exit)) × Tables (now (monitor .exit)) × SameLedger (now (monitor .entry)) (now (monitor .exit)) × Awaited (now (monitor .exit)) ⌝ }
 {
     fill_moves(monitor);
+    fill_lowest(monitor);
     fill_values(monitor);
     retell(monitor);
-    ask(monitor);
+    ask_all(monitor);
     fill_until(monitor);
 }

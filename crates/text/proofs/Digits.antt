@@ -8,7 +8,7 @@ use native.Mathlib.Numerals.{add-one}
 use native.Mathlib.Nat.{pow-suc}
 use lib.Dec.{leb, ltb, eqb}
 use lib.ListN.{length, getD, take, drop, set, replicate, length-replicate, length-drop, length-append, length-set, take-append-drop}
-use lib.Seq.{take-suc, take-suc-set, take-at, drop-append-le, take-set-le, drop-cons, drop-set-lt, getD-set-same, length-take-le, drop-length, take-take, take-all, drop-at}
+use lib.Seq.{take-suc, take-suc-set, take-at, drop-append-le, take-set-le, drop-cons, drop-set-lt, getD-set-same, length-take-le, drop-length, take-take, take-all, drop-at, getD-take}
 use borrow.Author.Tests.{ne-eqb, le-leb, le-ltb, lt-leb, leb-true}
 use Rattle.text.specs.Words.{pick}
 use Rattle.text.specs.Decimals.{orElse, digitsBefore, before, decimal, shown, lastly, Counted}
@@ -220,28 +220,79 @@ some : (n : ℕ) → 1 ≤ length (decimal n)
 unfolding decimal
 some n = longer (n / 10) (n / 10) ((48 + n % 10) ∷ [])
 
-module _ {n : ℕ} {m : List ℕ} {first : ℕ} (g : Counted n m first) where
-  below : first ≤ length (take 19 m)
-  below = omega (arith, some n, ap length (g .digits), length-drop first m, g .size, length-take-le 19 m (omega (arith, g .size)))
+put-last : (m : List ℕ) (k v : ℕ) → length m ≡ suc k → set m k v ≡ take k m ++ v ∷ []
+put-last m k v e = sym (take-all (suc k) (set m k v) (omega (arith, length-set m k v))) ∙ take-suc-set m k v (omega arith)
 
+-- the digits of n end m, from `first` on, and k is the place of the last
+module _ (k n : ℕ) (m : List ℕ) (first : ℕ) (size : length m ≡ suc k) (digits : drop first m ≡ decimal n) where
+  below : first ≤ length (take k m)
+  below = omega (arith, some n, ap length digits, length-drop first m, length-take-le k m (omega arith))
+
+  whole : m ≡ take k m ++ getD m k 0 ∷ []
+  whole = sym (take-all (suc k) m (omega arith)) ∙ take-suc m k 0 (omega arith)
+
+  ends : (drop first (take k m) ≡ before (n / 10) []) × (getD m k 0 ≡ 48 + n % 10)
+  ends = same-ends (drop first (take k m)) (before (n / 10) []) (getD m k 0) (48 + n % 10) (sym (drop-append-le first (take k m) (getD m k 0 ∷ []) below) ∙ ap (drop first) (sym whole) ∙ digits ∙ last-apart n)
+
+  -- the last digit is not 9: it alone is another
+  last-more : (v : ℕ) → v ≡ getD m k 0 + 1 → getD m k 0 < 57 → drop first (take k m ++ v ∷ []) ≡ decimal (n + 1)
+  last-more v e h =
+      let q : (n + 1) / 10 ≡ n / 10 = omega (arith, ends .1) in
+      let r : 48 + (n + 1) % 10 ≡ v = omega (arith, ends .1) in
+      drop-append-le first (take k m) (v ∷ []) below ∙ ap (λ (l : List ℕ). l ++ v ∷ []) (ends .0) ∙ sym (last-apart (n + 1) ∙ rw (q, r))
+
+-- digits before another are those of a number
+tens : (q : ℕ) (l : List ℕ) → l ≡ before q [] → 0 < length l → l ≡ decimal q
+unfolding digitsBefore decimal
+tens zero l e h = absurd (omega (arith, ap length e))
+tens (suc q) l e h = e ∙ step (suc q) [] (omega arith)
+
+module _ {n : ℕ} {m : List ℕ} {first : ℕ} (g : Counted n m first) where
   pub inside : first ≤ length m
   inside = omega (arith, some n, ap length (g .digits), length-drop first m)
 
-  whole : m ≡ take 19 m ++ getD m 19 0 ∷ []
-  whole = sym (take-all (suc 19) m (omega (arith, g .size))) ∙ take-suc m 19 0 (omega (arith, g .size))
-
-  ends : (drop first (take 19 m) ≡ before (n / 10) []) × (getD m 19 0 ≡ 48 + n % 10)
-  ends = same-ends (drop first (take 19 m)) (before (n / 10) []) (getD m 19 0) (48 + n % 10) (sym (drop-append-le first (take 19 m) (getD m 19 0 ∷ []) below) ∙ ap (drop first) (sym whole) ∙ g .digits ∙ last-apart n)
-
   pub one-more : (v : ℕ) → v ≡ getD m 19 0 + 1 → getD m 19 0 < 57 → Counted (n + 1) (set m 19 v) first
   one-more v e h =
-      let s : set m 19 v ≡ take 19 m ++ v ∷ [] = sym (take-all (suc 19) (set m 19 v) (omega (arith, length-set m 19 v, g .size))) ∙ take-suc-set m 19 v (omega (arith, g .size)) in
-      let q : (n + 1) / 10 ≡ n / 10 = omega (arith, ends .1) in
-      let r : 48 + (n + 1) % 10 ≡ v = omega (arith, ends .1) in
       record {
         size = length-set m 19 v ∙ g .size;
-        digits = ap (drop first) s ∙ drop-append-le first (take 19 m) (v ∷ []) below ∙ ap (λ (l : List ℕ). l ++ v ∷ []) (ends .0) ∙ sym (last-apart (n + 1) ∙ rw (q, r));
+        digits = ap (drop first) (put-last m 19 v (g .size)) ∙ last-more 19 n m first (g .size) (g .digits) v e h;
       }
+
+  -- the last digit is 9 and the one before it is not: these two are others
+  module _ (v : ℕ) (two : first < 19) (e : v ≡ getD m 18 0 + 1) (h : getD m 18 0 < 57) (nine : 57 ≤ getD m 19 0) where
+    long : length (take 19 m) ≡ 19
+    long = length-take-le 19 m (omega (arith, g .size))
+
+    last : getD m 19 0 ≡ 48 + n % 10
+    last = ends 19 n m first (g .size) (g .digits) .1
+
+    before-last : drop first (take 19 m) ≡ decimal (n / 10)
+    before-last = tens (n / 10) (drop first (take 19 m)) (ends 19 n m first (g .size) (g .digits) .0) (omega (arith, length-drop first (take 19 m), long))
+
+    tens-up : drop first (take 18 m ++ v ∷ []) ≡ decimal (n / 10 + 1)
+    tens-up =
+        let same = getD-take 19 m 18 0 (omega arith) in
+        ap (λ (l : List ℕ). drop first (l ++ v ∷ [])) (sym (take-take 18 19 m (omega arith)))
+        ∙ last-more 18 (n / 10) (take 19 m) first long before-last v (omega (arith, same)) (omega (arith, same))
+
+    fits : first ≤ length (take 18 m ++ v ∷ [])
+    fits = omega (arith, length-append (take 18 m) (v ∷ []), length-take-le 18 m (omega (arith, g .size)))
+
+    next : decimal (n / 10 + 1) ++ 48 ∷ [] ≡ decimal (n + 1)
+    unfolding decimal
+    next =
+        let q : (n + 1) / 10 ≡ n / 10 + 1 = omega (arith, last) in
+        let r : 48 + (n + 1) % 10 ≡ 48 = omega (arith, last) in
+        ap (λ (l : List ℕ). l ++ 48 ∷ []) (sym (step (n / 10 + 1) [] (omega arith))) ∙ sym (last-apart (n + 1) ∙ rw (q, r))
+
+    pub ten-more : Counted (n + 1) (set (set m 18 v) 19 48) first
+    ten-more =
+        let s = length-set m 18 v ∙ g .size in
+        let placed = put-last (set m 18 v) 19 48 s ∙ ap (λ (l : List ℕ). l ++ 48 ∷ []) (take-suc-set m 18 v (omega (arith, g .size))) in
+        record {
+          size = length-set (set m 18 v) 19 48 ∙ s;
+          digits = ap (drop first) placed ∙ drop-append-le first (take 18 m ++ v ∷ []) (48 ∷ []) fits ∙ ap (λ (l : List ℕ). l ++ 48 ∷ []) tens-up ∙ next;
+        }
 
 pub anew : (n : ℕ) (m₀ m : List ℕ) (i : ℕ) → n < 2 ^ 64 → length m₀ ≡ 20 → length m ≡ length m₀ → i ≡ length m₀ - length (shown n (length m₀)) → m ≡ lastly n m₀ → Counted n m i
 anew n m₀ m i few size kept e f =

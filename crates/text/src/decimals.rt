@@ -16,8 +16,10 @@ const TEN: u64 = 10;
 // No number of 64 bits has more digits.
 pub const MOST_DIGITS: usize = 20;
 
-// The place of the last digit in a scratch for all of them.
+// The place of the last digit in a scratch for all of them, and of the one before it.
 const LAST: usize = MOST_DIGITS - 1;
+
+const TENS: usize = MOST_DIGITS - 2;
 
 // The byte of a digit.
 fn glyph(d: u64) -> u8
@@ -72,7 +74,7 @@ pub fn write_last(n: u64, scratch: &mut [u8]) -> usize
 }
 
 // The digits of `n` end `scratch`, from `first` on: writes those of the next number in their place, and answers where they
-// begin. Nine times in ten the last digit alone is another.
+// begin. Nine times in ten the last digit alone is another, and of the rest nine times in ten the last two.
 pub fn count_up(n: u64, scratch: &mut [u8], first: usize) -> usize
     requires { ⌜ Counted n (now scratch) first × (n < MAX) ⌝ }
     ensures { λ r. ⌜ Counted (n + 1) (now (scratch .exit)) r ⌝ }
@@ -80,6 +82,13 @@ pub fn count_up(n: u64, scratch: &mut [u8], first: usize) -> usize
     if scratch[LAST] < NINE {
         scratch[LAST] += 1;
         return first;
+    }
+    if first < LAST {
+        if scratch[TENS] < NINE {
+            scratch[TENS] += 1;
+            scratch[LAST] = ZERO;
+            return first;
+        }
     }
     write_last(n + 1, scratch)
 }

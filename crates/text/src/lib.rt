@@ -7,6 +7,7 @@ pub use decimals::count_up;
 pub use decimals::decimal;
 pub use decimals::write_last;
 pub use words::Read;
+pub use words::before_last;
 pub use words::next_number;
 pub use words::next_short;
 pub use words::next_word;

@@ -50,6 +50,18 @@ pub fn parts(b: u8) -> bool
     if b == SPACE { true } else { b == LINE_FEED }
 }
 
+// How many bytes stand before the last `count`. A place is below that if more than `count` are left from it on: one test, of a number
+// that is the same for every place.
+pub fn before_last(bytes: &[u8], count: usize) -> usize
+    ensures { λ r. ⌜ r ≡ length (now (bytes .entry)) - count ⌝ }
+{
+    if bytes.len() < count {
+        0
+    } else {
+        bytes.len() - count
+    }
+}
+
 // A byte as a number of 64 bits: a function, so that a caller need not show that it fits.
 fn wide(b: u8) -> u64
     ensures { λ r. ⌜ r ≡ b ⌝ }
@@ -155,25 +167,31 @@ pub fn next_word(input: &[u8], at: usize) -> Read
     Read::Refused(WRONG_LENGTH)
 }
 
-// The same, for a caller whose words are most often one digit between two parting bytes: such a word is told from three
+// The same, called by the two below for a word that has not the form they look for first. A function copies what it hands on when it
+// begins: as one of its own, so that only such a word pays for that.
+fn other_word(input: &[u8], at: usize) -> Read
+    ensures { λ r. ⌜ r ≡ nextWord (now (input .entry)) at ⌝ }
+{
+    next_word(input, at)
+}
+
+// The same as `next_word`, for a caller whose words are most often one digit between two parting bytes: such a word is told from three
 // bytes, by code small enough to stand in the caller's loop.
 pub fn next_short(input: &[u8], at: usize) -> Read
     ensures { λ r. ⌜ r ≡ nextWord (now (input .entry)) at ⌝ }
 {
-    if at < input.len() {
-        if SHORT < input.len() - at {
-            let end = at + SHORT;
-            if parts(input[at]) {
-                if parts(input[end]) {
-                    let d = value(input[at + 1]);
-                    if d < TEN {
-                        return Read::Word(d, end);
-                    }
+    if at < before_last(input, SHORT) {
+        let end = at + SHORT;
+        if parts(input[at]) {
+            if parts(input[end]) {
+                let d = value(input[at + 1]);
+                if d < TEN {
+                    return Read::Word(d, end);
                 }
             }
         }
     }
-    next_word(input, at)
+    other_word(input, at)
 }
 
 // The word whose first digit, which is not 0, stands after the parting byte at `at`. If it has no more digits than are looked at
@@ -192,12 +210,12 @@ fn number_here(input: &[u8], at: usize, first: u64) -> Read
             if parts(input[i]) {
                 return Read::Word(n, i);
             }
-            return next_word(input, at);
+            return other_word(input, at);
         }
         n = n * TEN + d;
         i += 1;
     }
-    next_word(input, at)
+    other_word(input, at)
 }
 
 // The same as `next_word`, for a caller whose words most often follow one parting byte and are no zero: by code that stands in the
@@ -205,17 +223,15 @@ fn number_here(input: &[u8], at: usize, first: u64) -> Read
 pub fn next_number(input: &[u8], at: usize) -> Read
     ensures { λ r. ⌜ r ≡ nextWord (now (input .entry)) at ⌝ }
 {
-    if at < input.len() {
-        if LONG < input.len() - at {
-            if parts(input[at]) {
-                let first = value(input[at + 1]);
-                if 0 < first {
-                    if first < TEN {
-                        return number_here(input, at, first);
-                    }
+    if at < before_last(input, LONG) {
+        if parts(input[at]) {
+            let first = value(input[at + 1]);
+            if 0 < first {
+                if first < TEN {
+                    return number_here(input, at, first);
                 }
             }
         }
     }
-    next_word(input, at)
+    other_word(input, at)
 }

@@ -16,7 +16,7 @@ use Rattle.text.proofs.Letters.{next-is-bit}
 use Rattle.text.proofs.Supplies.{word, refused as ended}
 use Rattle.numbers.specs.Limits.{MOST-ATOMS, ROW-WORDS}
 use Rattle.book.specs.Reading.{section, next as andNext, sections, got, refused}
-use Rattle.text_reader.specs.Reads.{numberOf, partNumber, byteOf, Bit, Took, Ended, WordsTook, WordsRead, SectionTook, SectionRead, BitsTook, BytesTook, BytesRead, StateTook, StateRead, BookTook, BookRead}
+use Rattle.text_reader.specs.Reads.{numberOf, partNumber, byteOf, Bit, BitIn, Took, Ended, WordsTook, WordsRead, SectionTook, SectionRead, BitsTook, BytesTook, BytesRead, StateTook, StateRead, BookTook, BookRead}
 use Rattle.text_reader.specs.declared.Part.{Part}
 use Rattle.text_reader.specs.declared.Part.the-variants.{Words, Refused}
 
@@ -170,42 +170,72 @@ module _ {input : List ℕ} {cursor count : ℕ} {m₀ m : List ℕ} {i from : �
   pub tell-done : cursor + 2 * count < length input → BitsTook input cursor count m i
   tell-done long = record { low = g .turning .taking .low; within = omega (arith, g .turning .taking .low); took = rw (← (g .place)) (g .turning .taking .took); stand = g .turning .stand }
 
--- the same of all words, told at the end: `most` is the largest bit and `far` the farthest byte from one that parts words
-pub record Telling-all (input : List ℕ) (cursor count : ℕ) (m₀ m : List ℕ) (most far i : ℕ) : Type 0 where
+-- the same of all words, told at the end: `most` is the largest bit, or what is none
+pub record Telling-all (input : List ℕ) (cursor count : ℕ) (m₀ m : List ℕ) (most i : ℕ) : Type 0 where
   pub low : i ≤ count
   pub size : length m ≡ length m₀
-  pub told : most < 2 → far ≡ 0 → Telling input cursor count m₀ m i (cursor + 2 * i)
+  pub told : most < 2 → Telling input cursor count m₀ m i (cursor + 2 * i)
 
-pub all-start : (input : List ℕ) (cursor count : ℕ) (m : List ℕ) → parts (getD input cursor 0) ≡ true → Telling-all input cursor count m m 0 0 0
+pub all-start : (input : List ℕ) (cursor count : ℕ) (m : List ℕ) → parts (getD input cursor 0) ≡ true → Telling-all input cursor count m m 0 0
 all-start input cursor count m h =
     let e : cursor + 2 * 0 ≡ cursor = omega arith in
-    record { low = omega arith; size = refl; told = λ _ _. rw e (tell-start input cursor count m h) }
+    record { low = omega arith; size = refl; told = λ _. rw e (tell-start input cursor count m h) }
 
-module _ {input : List ℕ} {cursor count : ℕ} {m₀ m : List ℕ} {most far i : ℕ} (g : Telling-all input cursor count m₀ m most far i) where
-  pub all-more : {b most′ s far′ : ℕ} → i < count → count ≤ length m₀ → cursor + 2 * count < length input → (b < 2 → Bit (getD input (cursor + 2 * i + 1) 0) b) → most′ ≡ max most b → (s ≡ 0 → parts (getD input (cursor + 2 * i + 2) 0) ≡ true) → far′ ≡ max far s → Telling-all input cursor count m₀ (set m i b) most′ far′ (i + 1)
-  all-more {b} {most′} {s} {far′} h room long is-bit top is-parting edge =
+module _ {input : List ℕ} {cursor count : ℕ} {m₀ m : List ℕ} {most i : ℕ} (g : Telling-all input cursor count m₀ m most i) where
+  pub all-more : {b v most′ : ℕ} → i < count → count ≤ length m₀ → cursor + 2 * count < length input → (b < 2 → Bit (getD input (cursor + 2 * i + 1) 0) b × (parts (getD input (cursor + 2 * i + 2) 0) ≡ true)) → v ≡ b % 256 → most′ ≡ max most b → Telling-all input cursor count m₀ (set m i v) most′ (i + 1)
+  all-more {b} {v} {most′} h room long is-bit low top =
       record {
         low = omega arith;
-        size = length-set m i b ∙ g .size;
-        told = λ few near.
+        size = length-set m i v ∙ g .size;
+        told = λ few.
             let t = is-bit (omega arith) in
+            let same : v ≡ getD input (cursor + 2 * i + 1) 0 - 48 = omega (arith, t .0 .value) in
             let e : cursor + 2 * (i + 1) ≡ cursor + 2 * i + 2 = omega arith in
-            rw (e, t .value) (tell-more (g .told (omega arith) (omega arith)) h room long (t .low) (t .high) (is-parting (omega arith)));
+            rw (e, same) (tell-more (g .told (omega arith)) h room long (t .0 .low) (t .0 .high) (t .1));
       }
 
-  pub all-done : most < 2 → far ≡ 0 → count ≤ i → cursor + 2 * count < length input → BitsTook input cursor count m count
-  all-done few near h long =
+  pub all-done : most < 2 → count ≤ i → cursor + 2 * count < length input → BitsTook input cursor count m count
+  all-done few h long =
       let e : count ≡ i = omega (arith, g .low) in
-      subst (λ (n : ℕ). BitsTook input cursor count m n) (sym e) (tell-done (g .told few near) long)
+      subst (λ (n : ℕ). BitsTook input cursor count m n) (sym e) (tell-done (g .told few) long)
 
--- a byte is no distance upwards, around 256, from the one or the other that parts words
-pub no-stray : (b d e r : ℕ) → (d + 32) % 2 ^ 8 ≡ b → (e + 10) % 2 ^ 8 ≡ b → r ≡ min d e → r ≡ 0 → parts b ≡ true
+-- two bytes that are no distance upwards, but for a bit, around 2 ^ 16, from the one pair or the other
+unwrapped : (a n : ℕ) → a < 2 ^ 16 → a % 2 ^ 16 ≡ n → n ≡ a
+unwrapped a n h e = omega arith
+
+under : (x near : ℕ) → near ≡ min x 8194 → near < 8194 → x ≡ near
+under x near e h = omega arith
+
+both : (low high t n : ℕ) → low < 256 → t < 2 → low + 256 * high ≡ t + 256 * n + 48 → (low ≡ 48 + t) × (high ≡ n)
+both low high t n l h e = (omega arith, omega arith)
+
+said : (low high w x near n t : ℕ) → low < 256 → w ≡ low + 256 * high → (x + 48) % 2 ^ 16 ≡ w → near ≡ min x 8194 → t < 2 → n ≤ 32 → near ≡ t + 256 * n → (low ≡ 48 + t) × (high ≡ n)
+said low high w x near n t l p q m h few e =
+    let a : x ≡ near = under x near m (omega (arith, e, h, few)) in
+    let b : w ≡ x + 48 = unwrapped (x + 48) w (omega (arith, a, e, h, few)) q in
+    both low high t n l h (sym p ∙ b ∙ ap (λ (k : ℕ). k + 48) (a ∙ e))
+
+bit-said : {low t : ℕ} → low ≡ 48 + t → t < 2 → Bit low t
+bit-said e h = record { low = omega arith; high = omega arith; value = omega arith }
+
+is-bit : (low high w x near d e r : ℕ) → low < 256 → w ≡ low + 256 * high → (x + 48) % 2 ^ 16 ≡ w → near ≡ min x 8194 → (d + 2560) % 2 ^ 16 ≡ near → (e + 8192) % 2 ^ 16 ≡ near → r ≡ min d e → r < 2 → Bit low r × (parts high ≡ true)
 unfolding parts
-no-stray b d e r p q m z =
-    ⊎-elim
-    (λ h. let k : b ≡ 32 = omega arith in rw k)
-    (λ h. let k : b ≡ 10 = omega arith in rw k)
-    (lt-or-ge d e)
+is-bit low high w x near d e r l p q n f s m z = ⊎-elim fed spaced (lt-or-ge d e)
+  where
+    fed : d < e → Bit low r × (parts high ≡ true)
+    fed k =
+        let same : r ≡ d = omega (arith, m, k) in
+        let t = said low high w x near 10 r l p q n z (omega arith) (unwrapped (d + 2560) near (omega (arith, same, z)) f ∙ ap (λ (i : ℕ). i + 2560) (sym same)) in
+        (bit-said (t .0) z, rw (t .1))
+
+    spaced : e ≤ d → Bit low r × (parts high ≡ true)
+    spaced k =
+        let same : r ≡ e = omega (arith, m, k) in
+        let t = said low high w x near 32 r l p q n z (omega arith) (unwrapped (e + 8192) near (omega (arith, same, z)) s ∙ ap (λ (i : ℕ). i + 8192) (sym same)) in
+        (bit-said (t .0) z, rw (t .1))
+
+pub bit-in : (w x near d e r : ℕ) → (x + 48) % 2 ^ 16 ≡ w → near ≡ min x 8194 → (d + 2560) % 2 ^ 16 ≡ near → (e + 8192) % 2 ^ 16 ≡ near → r ≡ min d e → BitIn w r
+bit-in w x near d e r q n f s m = record { told = λ low high l p. is-bit low high w x near d e r l p q n f s m }
 
 pub tell-none : (input : List ℕ) (cursor count : ℕ) (m : List ℕ) → BitsTook input cursor count m 0
 tell-none input cursor count m =

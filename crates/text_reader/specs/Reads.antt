@@ -1,11 +1,11 @@
 -- Steps of reading a text's words into lent memory. No public contract cites these. Definitions only.
 use Prim.Native.Nat.{ℕ, _+_, _*_, _-_, _≤_, _<_}
 use mathlib.Core.Path.{_≡_}
-use mathlib.Core.Bool.{cond}
+use mathlib.Core.Bool.{true, cond}
 use mathlib.Core.List.{List, [], _∷_, _++_, map}
 use lib.ListN.{length, take, drop}
 use lib.Dec.{ltb, eqb}
-use Rattle.text.specs.Words.{Supply, supplyFrom}
+use Rattle.text.specs.Words.{parts, Supply, supplyFrom}
 use Rattle.text.specs.declared.words.Read as text
 use Rattle.numbers.specs.Limits.{MOST-ATOMS}
 use Rattle.book.specs.Reading.{Read, got, refused, section, Sections, sections}
@@ -83,6 +83,10 @@ pub record Bit (b r : ℕ) : Type 0 where
   pub low : 48 ≤ b
   pub high : b ≤ 49
   pub value : r ≡ b - 48
+
+-- of two bytes as one number, r is the bit that the first says, if it is one at all, and the second parts words
+pub record BitIn (both r : ℕ) : Type 0 where
+  pub told : (low high : ℕ) → low < 256 → both ≡ low + 256 * high → r < 2 → Bit low r × (parts high ≡ true)
 
 -- n words, none more than asked for and each two bytes of the text, stand at the start of a memory, as bytes
 pub record BitsTook (input : List ℕ) (cursor count : ℕ) (m′ : List ℕ) (n : ℕ) : Type 0 where

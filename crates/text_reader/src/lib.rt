@@ -1,11 +1,11 @@
 // The book and the states of a text, read word by word into lent memory.
 ghost use mathlib.Core.Path.{_≡_};
 ghost use mathlib.Core.Bool.{true};
-ghost use Prim.Native.Nat.{_+_, _*_, _≤_, _<_, min, max};
+ghost use Prim.Native.Nat.{_+_, _*_, _%_, _≤_, _<_, min, max};
 ghost use lib.ListN.{length, getD};
 ghost use Rattle.numbers.specs.Limits.{MOST-ATOMS};
 ghost use Rattle.text.specs.Words.{parts, supplyFrom};
-ghost use Rattle.text_reader.specs.Reads.{numberOf, partNumber, leftOver, byteOf, Bit, WordsRead, SectionRead, BookRead, BitsTook, BytesRead, StateRead};
+ghost use Rattle.text_reader.specs.Reads.{numberOf, partNumber, leftOver, byteOf, BitIn, WordsRead, SectionRead, BookRead, BitsTook, BytesRead, StateRead};
 use numbers::ACCEPTED;
 use numbers::BAD_WORD;
 use numbers::MOST_ASSUMES;
@@ -29,17 +29,22 @@ pub const BOOK_WORDS: usize = 1
     + MOST_GUARANTEES;
 
 // The byte of the word 0, and the first number that is no bit.
-const ZERO: u8 = b'0';
+const ZERO: u16 = 48;
 
-const NO_BIT: u8 = 2;
+const NO_BIT: u16 = 2;
 
-// Words are parted by these two bytes.
-const SPACE: u8 = b' ';
+// What a byte counts that stands after another, and the two that part words, a space and a line feed, as such.
+const HIGH: u16 = 256;
 
-const LINE_FEED: u8 = b'\n';
+const SPACED: u16 = HIGH * 32;
+
+const FED: u16 = HIGH * 10;
 
 // A bit's word and the byte before it.
 const BIT_BYTES: usize = 2;
+
+// So many words the compiler takes at a time. Of a state that has fewer, one word after the other is read sooner.
+const NARROW: usize = 16;
 
 // What was read: the words stand in the memory up to a place, and the next word is looked for from another in the text; or
 // the number that ends the reading.
@@ -138,32 +143,43 @@ fn byte_of(w: u64) -> u8
     w as u8
 }
 
-// A state's bit that a byte says; what is no bit is NO_BIT or more.
-fn bit(b: u8) -> u8
-    ensures { λ r. ⌜ (r < 2 → Bit b r) ⌝ }
-{
-    std::num::wrapping_sub_u8(b, ZERO)
-}
-
-fn lesser(a: u8, b: u8) -> u8
+fn lesser(a: u16, b: u16) -> u16
     ensures { λ r. ⌜ r ≡ min a b ⌝ }
 {
     if a < b { a } else { b }
 }
 
-fn greater(a: u8, b: u8) -> u8
+fn greater(a: u16, b: u16) -> u16
     ensures { λ r. ⌜ r ≡ max a b ⌝ }
 {
     if a < b { b } else { a }
 }
 
-// How far a byte is past those that part words: 0 for these alone. As a number, so that there is no branch on it.
-fn stray(b: u8) -> u8
-    ensures { λ r. ⌜ (r ≡ 0 → parts b ≡ true) ⌝ }
+// Two bytes as one number, which the compiler then reads at once. Not part of `bit_in`, where it would take ZERO from the lower byte alone
+// and read each by itself.
+fn pair(low: u8, high: u8) -> u16
+    ensures { λ r. ⌜ r ≡ low + 256 * high ⌝ }
 {
+    low as u16 + HIGH * high as u16
+}
+
+// The lower byte of a number.
+fn low_byte(n: u16) -> u8
+    ensures { λ r. ⌜ r ≡ n % 256 ⌝ }
+{
+    (n % HIGH) as u8
+}
+
+// The bit that a word's byte says before one that parts words, both as a pair; of any other pair NO_BIT or more. As a number, so that
+// there is no branch on it. What is past all such pairs is brought down first: else the compiler makes two differences of the pair
+// itself, and reads each byte by itself, too.
+fn bit_in(both: u16) -> u16
+    ensures { λ r. ⌜ BitIn both r ⌝ }
+{
+    let near = lesser(std::num::wrapping_sub_u16(both, ZERO), SPACED + NO_BIT);
     lesser(
-        std::num::wrapping_sub_u8(b, SPACE),
-        std::num::wrapping_sub_u8(b, LINE_FEED),
+        std::num::wrapping_sub_u16(near, FED),
+        std::num::wrapping_sub_u16(near, SPACED),
     )
 }
 
@@ -173,30 +189,29 @@ fn bits_into(input: &[u8], cursor: usize, count: usize, bytes: &mut [u8]) -> usi
     requires { ⌜ (cursor + 2 * count < length (now input)) × (parts (getD (now input) cursor 0) ≡ true) × (count ≤ length (now bytes)) ⌝ }
     ensures { λ r. ⌜ BitsTook (now (input .entry)) cursor count (now (bytes .exit)) r ⌝ }
 {
-    let mut most: u8 = 0;
-    let mut farthest: u8 = 0;
+    let mut most: u16 = 0;
     let mut i = 0;
     while i < count {
         let from = cursor + BIT_BYTES * i;
-        let b = bit(input[from + 1]);
-        bytes[i] = b;
+        let b = bit_in(pair(input[from + 1], input[from + BIT_BYTES]));
+        bytes[i] = low_byte(b);
         most = greater(most, b);
-        farthest = greater(farthest, stray(input[from + BIT_BYTES]));
         i += 1;
     }
     if most < NO_BIT {
-        if farthest == 0 {
-            return count;
-        }
+        return count;
     }
     0
 }
 
-// The same from any place on: none where the text may be too short for all, or no byte parts words there.
+// The same from any place on: none if the state is narrow, the text may be too short for all, or no byte parts words there.
 fn bits(input: &[u8], cursor: usize, count: usize, bytes: &mut [u8]) -> usize
     requires { ⌜ count ≤ length (now bytes) ⌝ }
     ensures { λ r. ⌜ BitsTook (now (input .entry)) cursor count (now (bytes .exit)) r ⌝ }
 {
+    if count < NARROW {
+        return 0;
+    }
     if cursor < input.len() {
         if count < (input.len() - cursor) / BIT_BYTES {
             if text::parts(input[cursor]) {

@@ -3,7 +3,8 @@ use mathlib.Core.Path.{sym}
 use mathlib.Core.Bool.{false, true≢false}
 use Rattle.memory.specs.Memory.{atomsOf}
 use Rattle.calls.proofs.Advances.{planned-as, planned-from, planned-sound, fitting, first-sound, first-width, second-from, both-room, both-full, first-full}
-use Rattle.calls.proofs.Ahead.{ahead-none, unplanned}
+use Rattle.calls.proofs.Stood.{founded-then, bits-then, stands-then}
+use Rattle.planning.proofs.Ahead.{ahead-none, unplanned}
 use Rattle.numbers.specs.Limits.{MOST-TEMPORALS}
 use borrow.Author.Needs.{needs}
 use Rattle.calls.proofs.advance_both.Statement.{statement}
@@ -16,13 +17,13 @@ slice-aggregate-plan-call-2 : tie.Need-slice-aggregate-plan-call-2
 slice-aggregate-plan-call-2 c = search needs
 
 plan-call-requires : tie.Need-plan-call-requires
-plan-call-requires c κs = let s = (c .before .before .before .before) in ((s .pre .0 .sound, s .pre .1, λ z. (s .pre .0, unplanned (s .args .monitor .now) MOST-TEMPORALS)), (search needs, λ z. absurd (true≢false (sym z))))
+plan-call-requires c κs = let s = (c .before .before .before .before) in ((s .pre .0 .sound, s .pre .1, λ z. (s .pre .0, unplanned (s .args .monitor .now) MOST-TEMPORALS)), ((search needs, λ z. absurd (true≢false (sym z))), λ z. absurd (true≢false (sym z))))
 
 slice-aggregate-plan-call-3 : tie.Need-slice-aggregate-plan-call-3
 slice-aggregate-plan-call-3 c = search needs
 
 plan-call-requires-2 : tie.Need-plan-call-requires-2
-plan-call-requires-2 c κs = let s = (c .before .before .before .before .before .before .before .before .before) in let first = planned-from (ahead-none (s .pre .0 .sound) (s .pre .1) false (λ z. absurd (true≢false (sym z))) _ (unplanned (s .args .monitor .now) MOST-TEMPORALS) (atomsOf (s .args .monitor .now))) (planned-as ((c .before .before) .if1 .taken) ((c .before .before .before .before) .plan-call .ensures)) in ((first-sound (s .pre .0) (s .pre .1) first, s .pre .1, λ z. absurd (true≢false z)), (search needs, λ z. first-width (s .pre .0) (s .pre .1) first (s .args .state .now) (s .pre .2)))
+plan-call-requires-2 c κs = let s = (c .before .before .before .before .before .before .before .before .before) in let first = planned-from (ahead-none (s .pre .0 .sound) (s .pre .1) false (λ z. absurd (true≢false (sym z))) _ (unplanned (s .args .monitor .now) MOST-TEMPORALS) (atomsOf (s .args .monitor .now))) (planned-as ((c .before .before) .if1 .taken) ((c .before .before .before .before) .plan-call .ensures)) in ((first-sound (s .pre .0) (s .pre .1) first, s .pre .1, λ z. absurd (true≢false z)), ((search needs, λ z. first-width (s .pre .0) (s .pre .1) first (s .args .state .now) (s .pre .2)), λ z. (founded-then (s .pre .0) (s .pre .1) first, bits-then (s .pre .0) (s .pre .1) first, λ q. stands-then (s .pre .0) (s .pre .1) first)))
 
 commit-requires : tie.Need-commit-requires
 commit-requires c κs = let s = (c .before .before .before .before .before .before .before .before .before .before .before .before .before .before) in let first = planned-from (ahead-none (s .pre .0 .sound) (s .pre .1) false (λ z. absurd (true≢false (sym z))) _ (unplanned (s .args .monitor .now) MOST-TEMPORALS) (atomsOf (s .args .monitor .now))) (planned-as ((c .before .before .before .before .before .before .before) .if1 .taken) ((c .before .before .before .before .before .before .before .before .before) .plan-call .ensures)) in fitting (first-sound (s .pre .0) (s .pre .1) first) (s .pre .1) (second-from (s .pre .0) (s .pre .1) first (planned-as ((c .before .before) .if2 .taken) ((c .before .before .before .before) .plan-call2 .ensures)))

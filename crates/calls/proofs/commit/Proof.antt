@@ -1,6 +1,7 @@
 -- `calls::commit` meets its contract. The invariant: the sets of the slots passed are changed, the others as they were. Assumes nothing.
 use Rattle.calls.proofs.Commits.{written-start, commit-fit, commit-more}
-use Rattle.calls.specs.Private.{setAfter, Written}
+use Rattle.planning.specs.Plan.{setAfter}
+use Rattle.calls.specs.Private.{Written}
 use Rattle.memory.specs.Memory.{temporals}
 use lib.ListN.{getD}
 use mathlib.Core.Path.{_≡_}

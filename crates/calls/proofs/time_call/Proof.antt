@@ -34,13 +34,13 @@ advance-requires : tie.Need-advance-requires
 advance-requires c κs = let s = (c .before .before .before .before .before .before .before .before .before .before) in ((s .pre, in-range (s .pre) (s .args .time) ((c .before .before .before .before .before .before .before .before) .time-number .ensures) ((c .before .before .before .before .before .before .before) .if1 .left)), λ e. absurd (true≢false (sym e)))
 
 returns-3 : tie.Need-returns-3
-returns-3 c = let s = (c .before .before .before .before .before .before .before .before .before .before .before .before) in time-full (s .pre) (s .args .time) ((c .before .before .before .before .before .before .before .before .before .before) .time-number .ensures) ((c .before .before .before .before .before .before .before .before .before) .if1 .left) ((c .before) .advance .ensures) (c .if3 .taken)
+returns-3 c = let s = (c .before .before .before .before .before .before .before .before .before .before .before .before) in time-full (s .pre) (s .args .time) ((c .before .before .before .before .before .before .before .before .before .before) .time-number .ensures) ((c .before .before .before .before .before .before .before .before .before) .if1 .left) ((c .before) .advance .ensures .0) (c .if3 .taken)
 
 renew-requires : tie.Need-renew-requires
-renew-requires c κs = let s = (c .before .before .before .before .before .before .before .before .before .before .before .before .before) in time-due (s .pre) (s .args .time) ((c .before .before .before .before .before .before .before .before .before .before .before) .time-number .ensures) ((c .before .before .before .before .before .before .before .before .before .before) .if1 .left) ((c .before .before) .advance .ensures) ((c .before) .if3 .left) (ap (λ x. eqb x 0) ((c .before .before .before .before .before) .begun .ensures))
+renew-requires c κs = let s = (c .before .before .before .before .before .before .before .before .before .before .before .before .before) in time-due (s .pre) (s .args .time) ((c .before .before .before .before .before .before .before .before .before .before .before) .time-number .ensures) ((c .before .before .before .before .before .before .before .before .before .before) .if1 .left) ((c .before .before) .advance .ensures .0) ((c .before) .if3 .left) (ap (λ x. eqb x 0) ((c .before .before .before .before .before) .begun .ensures))
 
 returns-4 : tie.Need-returns-4
-returns-4 c = let s = (c .before .before .before .before .before .before .before .before .before .before .before .before .before .before) in time-done (s .pre) (s .args .time) ((c .before .before .before .before .before .before .before .before .before .before .before .before) .time-number .ensures) ((c .before .before .before .before .before .before .before .before .before .before .before) .if1 .left) ((c .before .before .before) .advance .ensures) ((c .before .before) .if3 .left) (c .renew .ensures)
+returns-4 c = let s = (c .before .before .before .before .before .before .before .before .before .before .before .before .before .before) in time-done (s .pre) (s .args .time) ((c .before .before .before .before .before .before .before .before .before .before .before .before) .time-number .ensures) ((c .before .before .before .before .before .before .before .before .before .before .before) .if1 .left) ((c .before .before .before) .advance .ensures .0) ((c .before .before) .if3 .left) (c .renew .ensures)
 
 pub time-call-spec : {M : Type 1} → statement M
 time-call-spec =

@@ -7,9 +7,6 @@ use borrow.Author.Needs.{needs}
 use Rattle.loader.proofs.store.Statement.{statement}
 use Rattle.loader.proofs.store.Tie as tie
 
-clear-requires : tie.Need-clear-requires
-clear-requires c κs = search needs
-
 copy-requires : tie.Need-copy-requires
 copy-requires c κs = search needs
 
@@ -24,9 +21,8 @@ copy-requires-3 c κs = search needs
 
 put-rows-requires : tie.Need-put-rows-requires
 put-rows-requires c κs =
-    let s = c .before .before .before .before .before .before .before .before .before .before .before .before .before .before .before .before .before .before .before .before .before .before in
-    let l = s .pre .1 in
-    let k₁ = c .before .before .before .before .before .before .before .before .before .before .before .before .before .before .before .clear .kept in
+    let s = c .before .before .before .before .before .before .before .before .before .before .before .before .before .before .before .before .before .before in
+    let l = s .pre .1 .long in
     let k₂ = c .before .before .before .before .before .before .before .before .before .before .before .copy .kept in
     let k₃ = c .before .before .before .before .before .before .before .copy2 .kept in
     let k₄ = c .before .before .before .copy3 .kept in
@@ -40,15 +36,14 @@ same-length c = search needs
 
 returns : tie.Need-returns
 returns c =
-    let s = c .before .before .before .before .before .before .before .before .before .before .before .before .before .before .before .before .before .before .before .before .before .before .before .before .before .before .before .before .before in
+    let s = c .before .before .before .before .before .before .before .before .before .before .before .before .before .before .before .before .before .before .before .before .before .before .before .before .before in
     let n = c .before .before .before .before .before .before .put-rows .ensures in
-    store-holds (wayIn (s .args .way)) (sectionsOf (s .args .given .now) (s .args .operands .now) (s .args .assumes .now) (s .args .guarantees .now)) (s .pre .0) (s .args .monitor .now) (s .pre .1) (c .before .before .before .before .before .before .before .before .before .before .before .before .before .before .before .before .before .before .before .before .before .before .clear .ensures) (c .before .before .before .before .before .before .before .before .before .before .before .before .before .before .before .before .before .before .copy .ensures) (c .before .before .before .before .before .before .before .before .before .before .before .before .before .before .copy2 .ensures) (c .before .before .before .before .before .before .before .before .before .before .copy3 .ensures) (n .2) (n .0) (n .1) (c .before .before .put-head .ensures)
+    store-holds (wayIn (s .args .way)) (sectionsOf (s .args .given .now) (s .args .operands .now) (s .args .assumes .now) (s .args .guarantees .now)) (s .pre .0) (s .pre .1 .zeros) (c .before .before .before .before .before .before .before .before .before .before .before .before .before .before .before .before .before .before .copy .ensures) (c .before .before .before .before .before .before .before .before .before .before .before .before .before .before .copy2 .ensures) (c .before .before .before .before .before .before .before .before .before .before .copy3 .ensures) (n .2) (n .0) (n .1) (c .before .before .put-head .ensures)
 
 pub store-spec : {M : Type 1} → statement M
 store-spec =
     tie.close
     (tie.spec
-    clear-requires
     copy-requires
     copy-requires-2
     add-copy

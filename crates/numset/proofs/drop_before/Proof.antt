@@ -1,6 +1,6 @@
 -- `numset::drop_before` meets its contract. Assumes nothing.
 use mathlib.Core.Path.{refl, sym, _∙_}
-use Rattle.numset.proofs.Kept.{none-lapses, none-lapsed, some-lapsed}
+use Rattle.numset.proofs.Kept.{none-lapses, none-lapsed}
 use borrow.Author.Needs.{needs}
 use Rattle.numset.proofs.drop_before.Statement.{statement}
 use Rattle.numset.proofs.drop_before.Tie as tie
@@ -8,17 +8,14 @@ use Rattle.numset.proofs.drop_before.Tie as tie
 oldest-lapsed-requires : tie.Need-oldest-lapsed-requires
 oldest-lapsed-requires c κs = search needs
 
-lapsed-requires : tie.Need-lapsed-requires
-lapsed-requires c κs = search needs
-
-drop-oldest-requires : tie.Need-drop-oldest-requires
-drop-oldest-requires c κs = search needs
+drop-lapsed-requires : tie.Need-drop-lapsed-requires
+drop-lapsed-requires c κs = search needs
 
 same-length : tie.Need-same-length
 same-length c = search needs
 
 returns : tie.Need-returns
-returns c = some-lapsed (c .before .before .before .before .lapsed .ensures) (c .before .before .before .before .before .before .before .before .before .before .pre) (c .before .before .drop-oldest .ensures) (c .before .before .drop-oldest .kept .0)
+returns c = search needs
 
 same-length-2 : tie.Need-same-length-2
 same-length-2 c = search needs
@@ -31,8 +28,7 @@ drop-before-spec =
     tie.close
     (tie.spec
     oldest-lapsed-requires
-    lapsed-requires
-    drop-oldest-requires
+    drop-lapsed-requires
     same-length
     returns
     same-length-2

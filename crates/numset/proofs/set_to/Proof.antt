@@ -21,14 +21,14 @@ returns-2 c = sets-full _ (c .before .if1 .left) (c .if2 .taken)
 clear-requires-2 : tie.Need-clear-requires-2
 clear-requires-2 c κs = search needs
 
-join-in-requires : tie.Need-join-in-requires
-join-in-requires c κs = rw (c .before .before .before .clear2 .ensures) (good-none _ (let g = c .before .before .before .before .before .before .before .before .pre .room in omega arith))
+put-requires : tie.Need-put-requires
+put-requires c κs = (rw (c .before .before .before .clear2 .ensures) (good-none _ (let g = c .before .before .before .before .before .before .before .before .pre .room in omega arith)), c .before .before .before .before .before .before .if1 .left)
 
 same-length-2 : tie.Need-same-length-2
 same-length-2 c = search needs
 
 returns-3 : tie.Need-returns-3
-returns-3 c = sets-added _ _ _ (c .before .before .before .before .before .before .before .before .if2 .left) (c .before .before .before .before .before .before .clear2 .ensures) (c .before .before .join-in .ensures .0) (c .before .before .join-in .ensures .1)
+returns-3 c = sets-added _ _ _ (c .before .before .before .before .before .before .before .before .if2 .left) (c .before .before .before .before .before .before .clear2 .ensures) (c .before .before .put .ensures .0) (c .before .before .put .ensures .1)
 
 pub set-to-spec : {M : Type 1} → statement M
 set-to-spec =
@@ -39,6 +39,6 @@ set-to-spec =
     returns
     returns-2
     clear-requires-2
-    join-in-requires
+    put-requires
     same-length-2
     returns-3)

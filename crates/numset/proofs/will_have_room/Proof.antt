@@ -1,6 +1,7 @@
 -- `numset::will_have_room` meets its contract. Assumes nothing.
-use mathlib.Core.Path.{refl, sym, _∙_}
-use Rattle.numset.proofs.Kept.{kept-all, none-lapses, room-made}
+use mathlib.Core.Path.{sym, _∙_}
+use Rattle.numset.proofs.Kept.{room-made}
+use Rattle.numset.proofs.Ahead.{room-same}
 use borrow.Author.Needs.{needs}
 use Rattle.numset.proofs.will_have_room.Statement.{statement}
 use Rattle.numset.proofs.will_have_room.Tie as tie
@@ -15,7 +16,7 @@ has-room-requires : tie.Need-has-room-requires
 has-room-requires c κs = search needs
 
 returns-2 : tie.Need-returns-2
-returns-2 c = rw (kept-all (none-lapses (c .before .before .before .before .pre) (sym (c .before .before .oldest-lapsed .ensures) ∙ (c .before .if1 .left))) refl) (c .has-room .ensures)
+returns-2 c = let s = c .before .before .before .before in room-same _ _ (s .args .t) (s .pre) (sym (c .before .before .oldest-lapsed .ensures) ∙ (c .before .if1 .left)) (c .has-room .ensures)
 
 pub will-have-room-spec : {M : Type 1} → statement M
 will-have-room-spec =

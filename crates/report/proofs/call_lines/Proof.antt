@@ -51,11 +51,8 @@ slice-aggregate-count-up c = search needs
 count-up-requires : tie.Need-count-up-requires Inv-loop μ-loop
 count-up-requires c κs = let l = c .before .before .before .before .before .before .before .before .loop .inv in (l .2, let h = c .before .before .before .before .before .before .before .loop-test .taken in omega (arith, h, l .1))
 
-slice-aggregate-put-call : tie.Need-slice-aggregate-put-call Inv-loop μ-loop
-slice-aggregate-put-call c = search needs
-
 put-call-requires : tie.Need-put-call-requires Inv-loop μ-loop
-put-call-requires c κs = (go-called (c .before .before .before .before .before .before .before .before .before .before .before .before .before .loop .inv .0) _ (c .before .before .before .before .before .before .before .before .before .call .ensures) (c .before .before .before .before .before .before .before .t .given .1) .called .kept, inside (c .before .before .before .before .count-up .ensures))
+put-call-requires c κs = (go-called (c .before .before .before .before .before .before .before .before .before .before .before .before .before .loop .inv .0) _ (c .before .before .before .before .before .before .before .before .before .call .ensures) (c .before .before .before .before .before .before .before .t .given .1) .called .kept, inside (c .before .before .before .before .count-up .ensures), c .before .before .before .before .count-up .ensures .size)
 
 add-done : tie.Need-add-done Inv-loop μ-loop
 add-done c = let h = c .before .before .before .before .before .before .before .before .before .before .before .before .before .before .before .loop-test .taken in let few = c .before .before .before .before .before .before .before .before .before .before .before .before .before .before .before .before .loop .inv .1 in record { fits = omega (arith, h, few) }
@@ -97,7 +94,6 @@ call-lines-spec =
     returns
     slice-aggregate-count-up
     count-up-requires
-    slice-aggregate-put-call
     put-call-requires
     add-done
     loop-less

@@ -26,14 +26,14 @@ loop-holds c = let s = (c .before .before) in let small = s .pre .clock in let e
 until-at-requires : tie.Need-until-at-requires Inv-loop μ-loop
 until-at-requires c κs = let l = (c .before) .loop in let e = l .inv .2 in ((c .before .before .before .before) .pre, omega arith)
 
-sooner-requires : tie.Need-sooner-requires Inv-loop μ-loop
-sooner-requires c κs = search needs
+lesser-requires : tie.Need-lesser-requires Inv-loop μ-loop
+lesser-requires c κs = search needs
 
 returns : tie.Need-returns Inv-loop μ-loop
 returns c = let s = (c .before .before .before .before .before .before .before) in
     let l = (c .before .before .before .before) .loop in
     let n = l .inv .2 in
-    let is = (c .before) .sooner .ensures ∙ ap₂ (λ (a u : ℕ). min a u) (l .inv .3) ((c .before .before) .until-at .ensures) ∙ sym (least-more (s .args .monitor .now) (l .slot)) in
+    let is = (c .before) .lesser .ensures ∙ ap₂ (λ (a u : ℕ). min a u) (l .inv .3) ((c .before .before) .until-at .ensures) ∙ sym (least-more (s .args .monitor .now) (l .slot)) in
     l .inv .1 ∙ until-now (s .pre) (l .slot + 1) (omega arith) (omega (arith, is, l .inv .1, c .if1 .taken))
 
 add-slot : tie.Need-add-slot Inv-loop μ-loop
@@ -46,7 +46,7 @@ loop-again : tie.Need-loop-again Inv-loop μ-loop
 loop-again c = let s = (c .before .before .before .before .before .before .before) in
     let l = (c .before .before .before .before) .loop in
     let n = l .inv .2 in
-    let is = (c .before) .sooner .ensures ∙ ap₂ (λ (a u : ℕ). min a u) (l .inv .3) ((c .before .before) .until-at .ensures) ∙ sym (least-more (s .args .monitor .now) (l .slot)) in
+    let is = (c .before) .lesser .ensures ∙ ap₂ (λ (a u : ℕ). min a u) (l .inv .3) ((c .before .before) .until-at .ensures) ∙ sym (least-more (s .args .monitor .now) (l .slot)) in
     (omega arith, l .inv .1, n, is, omega arith)
 
 returns-2 : tie.Need-returns-2 Inv-loop μ-loop
@@ -62,7 +62,7 @@ least-until-spec =
     temporal-count-requires
     loop-holds
     until-at-requires
-    sooner-requires
+    lesser-requires
     returns
     add-slot
     loop-less

@@ -1,50 +1,42 @@
 -- `report::lines::put_call` meets its contract. Assumes nothing.
-use Rattle.report.proofs.Lasting.{line-accepted, line-refused}
+use native.Mathlib.Omega.{arith}
+use Rattle.report.proofs.Lasting.{as-accepted}
 use borrow.Author.Needs.{needs}
 use Rattle.report.proofs.lines.put_call.Statement.{statement}
 use Rattle.report.proofs.lines.put_call.Tie as tie
 
-put-numbers-requires : tie.Need-put-numbers-requires
-put-numbers-requires c κs = c .before .before .before .pre .1
+before-last-requires : tie.Need-before-last-requires
+before-last-requires c κs = search needs
 
-put-rest-requires : tie.Need-put-rest-requires
-put-rest-requires c κs = c .before .before .before .before .before .before .before .before .pre .0
-
-slice-aggregate-put-bytes : tie.Need-slice-aggregate-put-bytes
-slice-aggregate-put-bytes c = search needs
-
-put-bytes-requires : tie.Need-put-bytes-requires
-put-bytes-requires c κs = search needs
+lay-call-requires : tie.Need-lay-call-requires
+lay-call-requires c κs =
+    let asked = c .before .before in
+    let s = asked .before .before .before .before in
+    (s .pre, omega (arith, asked .before-last .ensures, c .before .if2 .taken))
 
 same-length : tie.Need-same-length
 same-length c = search needs
 
 returns : tie.Need-returns
-returns c = line-accepted _ _ _ ((c .before .before .before .before .before .before .before .before .before .before .before .before) .put-numbers .ensures) ((c .before .before .before .before .before .before .before .before .before) .if1 .taken) ((c .before .before .before .before .before .before .before) .put-rest .ensures) ((c .before .before) .put-bytes .ensures)
+returns c = as-accepted _ _ (c .before .before .before .before .before .before .before .if1 .taken) (c .before .before .lay-call .ensures)
 
-slice-aggregate-put-bytes-2 : tie.Need-slice-aggregate-put-bytes-2
-slice-aggregate-put-bytes-2 c = search needs
-
-put-bytes-requires-2 : tie.Need-put-bytes-requires-2
-put-bytes-requires-2 c κs = search needs
+put-parts-requires : tie.Need-put-parts-requires
+put-parts-requires c κs = let s = c .before .before .before in (s .pre .0, s .pre .1)
 
 same-length-2 : tie.Need-same-length-2
 same-length-2 c = search needs
 
 returns-2 : tie.Need-returns-2
-returns-2 c = line-refused _ _ _ ((c .before .before .before .before .before .before .before .before) .put-numbers .ensures) ((c .before .before .before .before .before) .if1 .left) ((c .before .before) .put-bytes2 .ensures)
+returns-2 c = search needs
 
 pub put-call-spec : {M : Type 1} → statement M
 put-call-spec =
     tie.close
     (tie.spec
-    put-numbers-requires
-    put-rest-requires
-    slice-aggregate-put-bytes
-    put-bytes-requires
+    before-last-requires
+    lay-call-requires
     same-length
     returns
-    slice-aggregate-put-bytes-2
-    put-bytes-requires-2
+    put-parts-requires
     same-length-2
     returns-2)

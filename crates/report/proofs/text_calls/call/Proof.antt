@@ -3,7 +3,7 @@ use mathlib.Core.Path.{_∙_, sym}
 use native.Mathlib.Omega.{arith}
 use Rattle.report.specs.Private.{Turned}
 use Rattle.text_reader.proofs.Taking.{number}
-use Rattle.report.proofs.Turns.{no-kind, other-kind, turned-state, turned-timed}
+use Rattle.report.proofs.Turns.{no-kind, other-kind, turned-kind}
 use borrow.Author.Needs.{needs}
 use Rattle.report.proofs.text_calls.call.Statement.{statement}
 use Rattle.report.proofs.text_calls.call.Tie as tie
@@ -24,21 +24,15 @@ returns : tie.Need-returns
 unfolding Turned
 returns c = let e = c .before .enum-told .given .1 in no-kind _ _ (sym (c .before .before .before .next-short .ensures) ∙ e) (c .number-of .ensures ∙ sym (number e))
 
-state-call-requires : tie.Need-state-call-requires
-state-call-requires c κs = search needs
-
 returns-2 : tie.Need-returns-2
-returns-2 c = turned-state _ _ (sym ((c .before .before .before .before .before .before .before) .next-short .ensures) ∙ (c .before .before .before .before .before) .r .given .1) _ _ _ ((c .before .before .before) .if1 .taken) (c .state-call .ensures)
+unfolding Turned
+returns-2 c = other-kind _ _ (sym (c .before .before .before .before .next-short .ensures) ∙ c .before .before .r .given .1) (c .if1 .taken)
+
+kind-call-requires : tie.Need-kind-call-requires
+kind-call-requires c κs = (c .before .before .before .before .before .before .before .before .pre, omega (arith, c .before .before .if1 .left))
 
 returns-3 : tie.Need-returns-3
-unfolding Turned
-returns-3 c = other-kind _ _ (sym ((c .before .before .before .before .before) .next-short .ensures) ∙ (c .before .before .before) .r .given .1) (c .if2 .taken)
-
-timed-call-requires : tie.Need-timed-call-requires
-timed-call-requires c κs = search needs
-
-returns-4 : tie.Need-returns-4
-returns-4 c = turned-timed _ _ (sym ((c .before .before .before .before .before .before .before .before) .next-short .ensures) ∙ (c .before .before .before .before .before .before) .r .given .1) _ _ _ ((c .before .before .before .before) .if1 .left) (omega (arith, (c .before .before .before) .if2 .left)) (c .timed-call .ensures)
+returns-3 c = turned-kind _ _ (sym (c .before .before .before .before .before .before .before .next-short .ensures) ∙ c .before .before .before .before .before .r .given .1) _ _ _ (c .kind-call .ensures)
 
 pub call-spec : {M : Type 1} → statement M
 call-spec =
@@ -49,8 +43,6 @@ call-spec =
     enum-told
     number-of-requires
     returns
-    state-call-requires
     returns-2
-    returns-3
-    timed-call-requires
-    returns-4)
+    kind-call-requires
+    returns-3)

@@ -1,12 +1,12 @@
--- Where the first digit follows one parting byte and is not 0, `number_here` reads the word; elsewhere `next_word` does.
+-- Where the first digit follows one parting byte and is not 0, `number_here` reads the word; elsewhere `other_word` does.
 use mathlib.Core.Path.{sym, _∙_}
 use native.Mathlib.Omega.{arith}
 use borrow.Author.Needs.{needs}
 use Rattle.text.proofs.words.next_number.Statement.{statement}
 use Rattle.text.proofs.words.next_number.Tie as tie
 
-sub-if2 : tie.Need-sub-if2
-sub-if2 c = search needs
+before-last-requires : tie.Need-before-last-requires
+before-last-requires c κs = search needs
 
 shared-slice-read-parts : tie.Need-shared-slice-read-parts
 shared-slice-read-parts c = search needs
@@ -27,13 +27,13 @@ number-here-requires : tie.Need-number-here-requires
 number-here-requires c κs =
     let v = c .before .before in
     let p = v .before .before in
-    ((omega arith, sym (p .before .parts .ensures) ∙ p .if3 .taken), (v .value .ensures (c .if5 .taken), c .before .if4 .taken, c .if5 .taken))
+    ((omega arith, sym (p .before .parts .ensures) ∙ p .if2 .taken), (v .value .ensures (c .if4 .taken), c .before .if3 .taken, c .if4 .taken))
 
 returns : tie.Need-returns
 returns c = search needs
 
-next-word-requires : tie.Need-next-word-requires
-next-word-requires c κs = search needs
+other-word-requires : tie.Need-other-word-requires
+other-word-requires c κs = search needs
 
 returns-2 : tie.Need-returns-2
 returns-2 c = search needs
@@ -42,7 +42,7 @@ pub next-number-spec : {M : Type 1} → statement M
 next-number-spec =
     tie.close
     (tie.spec
-    sub-if2
+    before-last-requires
     shared-slice-read-parts
     parts-requires
     add-value
@@ -50,5 +50,5 @@ next-number-spec =
     value-requires
     number-here-requires
     returns
-    next-word-requires
+    other-word-requires
     returns-2)

@@ -1,4 +1,4 @@
--- Where the three bytes tell a word of one digit, that is the next word; elsewhere `next_word` reads it.
+-- Where the three bytes tell a word of one digit, that is the next word; elsewhere `other_word` reads it.
 use Rattle.text.proofs.Letters.{next-is-short}
 use mathlib.Core.Path.{sym, _∙_}
 use native.Mathlib.Omega.{arith}
@@ -6,8 +6,8 @@ use borrow.Author.Needs.{needs}
 use Rattle.text.proofs.words.next_short.Statement.{statement}
 use Rattle.text.proofs.words.next_short.Tie as tie
 
-sub-if2 : tie.Need-sub-if2
-sub-if2 c = search needs
+before-last-requires : tie.Need-before-last-requires
+before-last-requires c κs = search needs
 
 add-end : tie.Need-add-end
 add-end c = search needs
@@ -37,10 +37,10 @@ returns : tie.Need-returns
 returns c =
     let short = c .before .before .before in
     let first = short .before .before .before in
-    next-is-short _ _ _ (omega arith) (sym (first .before .parts .ensures) ∙ first .if3 .taken) (sym (short .before .parts2 .ensures) ∙ short .if4 .taken) (c .before .value .ensures (c .if5 .taken)) (c .if5 .taken)
+    next-is-short _ _ _ (omega arith) (sym (first .before .parts .ensures) ∙ first .if2 .taken) (sym (short .before .parts2 .ensures) ∙ short .if3 .taken) (c .before .value .ensures (c .if4 .taken)) (c .if4 .taken)
 
-next-word-requires : tie.Need-next-word-requires
-next-word-requires c κs = search needs
+other-word-requires : tie.Need-other-word-requires
+other-word-requires c κs = search needs
 
 returns-2 : tie.Need-returns-2
 returns-2 c = search needs
@@ -49,7 +49,7 @@ pub next-short-spec : {M : Type 1} → statement M
 next-short-spec =
     tie.close
     (tie.spec
-    sub-if2
+    before-last-requires
     add-end
     shared-slice-read-parts
     parts-requires
@@ -59,5 +59,5 @@ next-short-spec =
     shared-slice-read-value
     value-requires
     returns
-    next-word-requires
+    other-word-requires
     returns-2)

@@ -1,5 +1,5 @@
 -- `text::words::number_here` meets its contract. The loop's invariant stands first. Assumes nothing.
-use Prim.Native.Nat.{_+_, _-_, _≤_, _<_}
+use Prim.Native.Nat.{_+_, _-_, _≤_}
 use mathlib.Core.Path.{sym, _∙_}
 use native.Mathlib.Omega.{arith}
 use Rattle.numbers.specs.Limits.{MAX}
@@ -41,8 +41,8 @@ returns c =
     let asked = l .before .before .pre in
     count-ends _ _ _ (omega arith) (asked .1 .0) (asked .1 .2) _ _ (l .loop .inv .0) (asked .1 .1) (l .loop .inv .2) (omega arith) (asked .0 .1) (sym (c .before .parts .ensures) ∙ c .if2 .taken)
 
-next-word-requires : tie.Need-next-word-requires Inv-loop μ-loop
-next-word-requires c κs = search needs
+other-word-requires : tie.Need-other-word-requires Inv-loop μ-loop
+other-word-requires c κs = search needs
 
 returns-2 : tie.Need-returns-2 Inv-loop μ-loop
 returns-2 c = search needs
@@ -66,8 +66,8 @@ loop-again c =
     let k = count-few (l .loop .inv .0) (omega arith) in
     (count-more (l .loop .inv .0) (omega arith) d (omega arith), omega arith, omega arith)
 
-next-word-requires-2 : tie.Need-next-word-requires-2 Inv-loop μ-loop
-next-word-requires-2 c κs = search needs
+other-word-requires-2 : tie.Need-other-word-requires-2 Inv-loop μ-loop
+other-word-requires-2 c κs = search needs
 
 returns-3 : tie.Need-returns-3 Inv-loop μ-loop
 returns-3 c = search needs
@@ -86,12 +86,12 @@ number-here-spec =
     shared-slice-read-parts
     parts-requires
     returns
-    next-word-requires
+    other-word-requires
     returns-2
     mul-n
     add-n
     add-i-2
     loop-less
     loop-again
-    next-word-requires-2
+    other-word-requires-2
     returns-3)
