@@ -5,7 +5,7 @@ use mathlib.Core.Path.{_≡_, refl, sym, ap, ap₂, subst, _∙_}
 use mathlib.Core.Logic.{⊎-elim}
 use mathlib.Core.Bool.{Bool, true, cond}
 use mathlib.Core.List.{List}
-use lib.ListN.{length, getD, set, length-set}
+use lib.ListN.{getD, set, length-set}
 use lib.Seq.{set-set, set-getD, getD-set-same, getD-set-other}
 use lib.Dec.{eqb, leb}
 use borrow.Author.Tests.{leb-true, lt-leb, eq-eqb, ne-eqb}
@@ -27,7 +27,7 @@ use Rattle.pmtl.proofs.Table.{row-out}
 use Rattle.pmtl.proofs.Calls.{timely}
 use Rattle.pmtl.proofs.Quiet.{Quiet, quiet, moves-on, stamped-on}
 use Rattle.book.specs.Rows.{rowFrom}
-use Rattle.memory.specs.Layout.{ATOMS, SET, VALUES, TOLD, EARLY, SETTLED, MOVES, LOWEST, FULLEST, UNTIL, CLOCK, OWNERS, SIZE}
+use Rattle.memory.specs.Layout.{ATOMS, SET, VALUES, TOLD, EARLY, SETTLED, MOVES, LOWEST, FULLEST, UNTIL, CLOCK, OWNERS}
 use Rattle.memory.specs.Memory.{rowCount, begunWord, clockOf, widthWord, temporals, kindAt, argAt, lowerAt, upperAt, slotAt, ownerAt, setStart, slotWords, atomAt, propertyRow, untilWord, rowOf, rowsOf, bookOf, wayOf, setOf, stateOf, isOne}
 use Rattle.memory.specs.Tables.{COVERS, GONE, NEITHER, standing, valueOf, earlyOf, settledOf, propertyCount, Tables}
 use Rattle.memory.specs.Kept.{BookKept, Kept}
@@ -264,9 +264,6 @@ module _ {m : List ℕ} (kept : Kept m) (t : ℕ) (fine : timeRefusal (stateOf m
           }
 
       -- refused, the clock goes back
-      pub back-long : length m₂ ≡ SIZE
-      back-long = d .kept .sound .book .long
-
       ticked-back : set m′ CLOCK (clockOf m) ≡ m
       ticked-back = set-set m CLOCK t (clockOf m) ∙ set-getD m CLOCK 0
 

@@ -545,17 +545,6 @@ pub fn drop_and_add(set: &mut [u64], t: u64, lower: u64, upper: u64) -> u64
     join_in(set, lower, upper)
 }
 
-// Whether there is room to add `lower ..= upper` once the runs that end before `t` are dropped: one that is dropped makes it.
-pub fn will_have_room(set: &[u64], t: u64, lower: u64, upper: u64) -> bool
-    requires { ⌜ Good (now set) ⌝ }
-    ensures { λ r. ⌜ r ≡ fits (length (now (set .entry))) (union lower upper (kept t (runs (now (set .entry))))) ⌝ }
-{
-    if oldest_lapsed(set, t) {
-        return true;
-    }
-    has_room(set, lower, upper)
-}
-
 // Whether `t` is one of `lower ..= upper`.
 pub fn inside(lower: u64, upper: u64, t: u64) -> bool
     ensures { λ r. ⌜ r ≡ within lower upper t ⌝ }

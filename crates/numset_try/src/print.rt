@@ -153,7 +153,8 @@ pub fn ask_room_from(set: &[u64], t: u64, lower: u64, upper: u64)
     instant(t);
     text(b" has room for ");
     interval(lower, upper);
-    answer(numset::will_have_room(set, t, lower, upper));
+    let ahead = numset::look_ahead(set, t, lower, upper);
+    answer(ahead.room);
 }
 
 // The number of runs, with the first and the last.
