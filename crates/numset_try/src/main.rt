@@ -14,7 +14,6 @@ use print::added;
 use print::ask;
 use print::ask_cover;
 use print::ask_room;
-use print::ask_room_from;
 use print::ask_value;
 use print::clear;
 use print::drop_before;
@@ -254,8 +253,6 @@ fn room_again(set: &mut [u64])
 {
     text(b"room again\n");
     fill(set);
-    ask_room_from(set, 0, 128, 128);
-    ask_room_from(set, 1, 128, 128);
     drop_of_many(set, 0);
     drop_of_many(set, 1);
     add_to_many(set, 128, 128);

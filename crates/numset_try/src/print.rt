@@ -146,17 +146,6 @@ pub fn ask_room(set: &[u64], lower: u64, upper: u64)
     answer(numset::has_room(set, lower, upper));
 }
 
-pub fn ask_room_from(set: &[u64], t: u64, lower: u64, upper: u64)
-    requires { ⌜ Good (now set) ⌝ }
-{
-    text(b"  once dropped before ");
-    instant(t);
-    text(b" has room for ");
-    interval(lower, upper);
-    let ahead = numset::look_ahead(set, t, lower, upper);
-    answer(ahead.room);
-}
-
 // The number of runs, with the first and the last.
 pub fn many(set: &[u64])
     requires { ⌜ Good (now set) ⌝ }
