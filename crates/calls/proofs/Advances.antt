@@ -36,7 +36,7 @@ use Rattle.memory.specs.Kept.{Sound, Awaited, Kept}
 use Rattle.memory.specs.Alike.{Alike, SameLedger}
 use Rattle.memory.proofs.Rows.{rows-length}
 use Rattle.memory.proofs.Ledger.{ledger-self}
-use Rattle.memory.proofs.Alike.{alike-on, alike-filled, alike-sound, alike-set, alike-rows, alike-state}
+use Rattle.memory.proofs.Alike.{alike-self, alike-on, alike-filled, alike-sound, alike-set, alike-rows, alike-state}
 use Rattle.memory.proofs.Stepped.{Stepped, kept-step, step-book, rows-of-same, kind-same, slot-same, width-same, way-same, temporals-same, assumes-same, guarantees-same, property-same}
 use Rattle.row_answers.specs.Told.{earlyTold}
 use Rattle.row_answers.proofs.Told.{told-early, told-settled, early-same, settled-same}
@@ -448,7 +448,7 @@ module _
       pub renewed-none : Alike m₂ m₂ × Tables m₂ × SameLedger m₂ m₂ × Awaited m₂
       renewed-none =
           let d = due {first = false} (sym (ap (λ (w : ℕ). eqb w 0) (only .begun))) in (
-            record { long = refl; below = λ i h. refl },
+            alike-self m₂,
             record {
               valued = d .valued;
               told = told₂;

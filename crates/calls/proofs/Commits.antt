@@ -10,7 +10,7 @@ use lib.Seq.{getD-append-add, getD-take, getD-drop, length-take-le, take-at, dro
 use borrow.Author.Tests.{ltb-true}
 use borrow.Rule.Slice.PartMut.{putMid, same-len-mid}
 use Rattle.numset.specs.Runs.{Runs, SET-WORDS, fits, kept}
-use Rattle.ring.specs.Ring.{turnOf, ringed, Rolling, rolled, turnAfter}
+use Rattle.ring.specs.Ring.{ringed, Rolling, rolled, turnAfter}
 use Rattle.ring.proofs.Rolls.{rolled-length}
 use Rattle.lists.proofs.Tests.{lt-or-ge}
 use Rattle.pmtl.specs.Book.{Range, start, stop}

@@ -9,7 +9,7 @@ use lib.Seq.{set-getD}
 use lib.Dec.{eqb}
 use borrow.Author.Tests.{eqb-true}
 use Rattle.numbers.specs.Limits.{LAST-TIME, MOST-TEMPORALS}
-use Rattle.numset.specs.Runs.{Runs, kept}
+use Rattle.numset.specs.Runs.{kept}
 use Rattle.ring.specs.Ring.{ringed, rolled, turnAfter}
 use Rattle.ring.proofs.Rolls.{rolls-again}
 use Rattle.ring.proofs.Turns.{turn-still}

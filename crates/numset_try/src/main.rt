@@ -22,8 +22,6 @@ use print::drop_value;
 use print::many;
 use print::set_to;
 use show::text;
-ghost use Prim.Native.Nat.{_<_};
-ghost use lib.ListN.{length};
 ghost use Rattle.numset.specs.Runs.{Good};
 
 // As many runs as a whole set has room for.

@@ -5,7 +5,6 @@ use show::instant;
 use show::interval;
 use show::runs;
 use show::text;
-ghost use Prim.Native.Nat.{_<_, _≤_};
 ghost use Rattle.numset.specs.Runs.{Good};
 
 fn answer(yes: bool) {

@@ -11,9 +11,8 @@ use lib.Dec.{ltb}
 use borrow.Author.Tests.{lt-ltb, le-ltb, lt-leb, le-leb}
 use Rattle.lists.specs.Lists.{filledFrom}
 use Rattle.lists.proofs.Tests.{lt-or-ge, or-left, or-right, or-no}
-use Rattle.lists.proofs.Parts.{part-length}
 use Rattle.lists.proofs.Filled.{filledFrom-at, filledFrom-more}
-use Rattle.numset.specs.Runs.{Runs, runs, has, fits, SET-WORDS}
+use Rattle.numset.specs.Runs.{Runs, has, fits, SET-WORDS}
 use Rattle.ring.specs.Ring.{ringed, Rolling}
 use Rattle.pmtl.specs.Answer.{bitOf}
 use Rattle.pmtl.specs.Book.{Range, Row, Rows, rowAt, mapRow, Below, start, stop, some}
@@ -23,8 +22,8 @@ use Rattle.numbers.specs.Limits.{LAST-TIME, MOST-RUNS}
 use Rattle.pmtl.specs.Calls.{crowded}
 use Rattle.pmtl.proofs.Table.{mapRow-local}
 use Rattle.pmtl.proofs.Answers.{value-fix, set-fix-by, step-sets-by, step-now-by}
-use Rattle.memory.specs.Layout.{ROWS, ROW, OWNERS, SET, VALUES, SIZE}
-use Rattle.memory.specs.Memory.{rowCount, clockOf, temporals, kindAt, slotAt, ownerAt, setStart, slotWords, rowOf, rowsOf, isOne, rangeAt}
+use Rattle.memory.specs.Layout.{ROWS, ROW, OWNERS, VALUES}
+use Rattle.memory.specs.Memory.{rowCount, clockOf, temporals, kindAt, slotAt, ownerAt, slotWords, rowOf, rowsOf, isOne, rangeAt}
 use Rattle.memory.specs.Kept.{BookKept, Sound, Kept}
 use Rattle.memory.specs.Alike.{Alike}
 use Rattle.memory.proofs.Rows.{rows-length, row-at, kept-ordered}
@@ -322,9 +321,6 @@ pub planned-over : {m : List ℕ} {spans spans′ : Bool} {st : State} {c : ℕ}
 planned-over {m} {spans} {spans′} {st} {c} {atoms} {m′} {modes} {room} e p = subst (λ (s : Bool). Planned m (renewOver m s) st c atoms m′ room modes) e p
 
 -- ---- one row, as its plan is made
-pub set-long : (m : List ℕ) (j : ℕ) → length m ≡ SIZE → j < 32 → length (slotWords m j) ≡ SET
-set-long m j e h = part-length (setStart j) SET m (omega arith)
-
 module _ {m : List ℕ} {c j r : ℕ} (slot : Slot m c j r) where
   abbrev book : BookKept m
   book = slot .timely .sound .book
