@@ -15,8 +15,10 @@ use Rattle.lists.proofs.Tests.{either, lt-or-ge, fails-by}
 use Rattle.lists.proofs.Listed.{listed-length, listed-at, listed-agree}
 use Rattle.lists.proofs.Parts.{word-at, part-same}
 use Rattle.lists.proofs.Filled.{filledFrom-length, filledFrom-at, filledFrom-before, filledFrom-after}
-use Rattle.numset.specs.Runs.{Runs, runs, Good, fits, pack}
-use Rattle.numset.proofs.Packs.{runs-pack, good-pack}
+use Rattle.numset.specs.Runs.{Runs, SET-WORDS, fits}
+use Rattle.ring.specs.Ring.{turnOf, ringed, Rolling, rolled, turnAfter}
+use Rattle.ring.proofs.Rolls.{rolled-turn, ringed-rolled, rolling}
+use Rattle.ring.proofs.Turns.{turn-small}
 use Rattle.pmtl.specs.declared.Answer.{Answer}
 use Rattle.pmtl.specs.declared.Answer.the-variants.{Open}
 use Rattle.pmtl.specs.Answer.{bitOf, digitOf}
@@ -34,7 +36,7 @@ use Rattle.memory.specs.Kept.{Sound, Awaited, Kept}
 use Rattle.memory.specs.Alike.{Alike, SameLedger}
 use Rattle.memory.proofs.Rows.{rows-length}
 use Rattle.memory.proofs.Ledger.{ledger-self}
-use Rattle.memory.proofs.Alike.{alike-on, alike-filled, alike-sound, alike-set, alike-rows, alike-state}
+use Rattle.memory.proofs.Alike.{alike-self, alike-on, alike-filled, alike-sound, alike-set, alike-rows, alike-state}
 use Rattle.memory.proofs.Stepped.{Stepped, kept-step, step-book, rows-of-same, kind-same, slot-same, width-same, way-same, temporals-same, assumes-same, guarantees-same, property-same}
 use Rattle.row_answers.specs.Told.{earlyTold}
 use Rattle.row_answers.proofs.Told.{told-early, told-settled, early-same, settled-same}
@@ -44,6 +46,7 @@ use Rattle.tables.proofs.Reach.{news-asked}
 use Rattle.set_change.specs.Change.{changed, countedFrom}
 use Rattle.set_change.proofs.Changes.{changed-under}
 use Rattle.planning.specs.Plan.{snapOf, stepOf, ownRenew, renewOver, countsFrom, ahead, setAfter, valueAfter, Planned}
+use Rattle.calls.specs.Called.{Turned}
 use Rattle.calls.specs.Private.{OnlyValues, Bytes, timeStep, clocked, Written, Atoms, Moved, Tried, TriedBoth, Fitting, Asked, Due, Advanced}
 use Rattle.planning.proofs.Rules.{set-of-slot, set-of-none}
 use Rattle.planning.proofs.Ahead.{ahead-one}
@@ -139,8 +142,8 @@ module _ {m : List ℕ} {renew : Renew} {st : State} {c : ℕ} {atoms m₁ modes
       let o : ownerAt m₁ j ≡ ownerAt m j = alike .below (OWNERS + j) (omega arith) in
       let range : rangeAt m₁ (ownerAt m j) ≡ rangeAt m (ownerAt m j) =
       ap₂ (λ (l u : ℕ). record { lower = l; upper = u }) (alike .below (ROWS + ROW * ownerAt m j + 2) (omega arith)) (alike .below (ROWS + ROW * ownerAt m j + 3) (omega arith)) in
-      ap₂ (λ (g : Range) (ws : List ℕ). changed mode (start g (countsFrom m₁ c mode)) (stop g c) c (runs ws)) (ap (rangeAt m₁) o ∙ range) (alike-set sound alike j (omega arith))
-      ∙ ap (λ (before : ℕ). changed mode (start (rangeAt m (ownerAt m j)) (countedFrom (min (before + 1) c) c mode)) (stop (rangeAt m (ownerAt m j)) c) c (runs (slotWords m j))) (alike .below 2 (omega arith))
+      ap₂ (λ (g : Range) (ws : List ℕ). changed mode (start g (countsFrom m₁ c mode)) (stop g c) c (ringed ws)) (ap (rangeAt m₁) o ∙ range) (alike-set sound alike j (omega arith))
+      ∙ ap (λ (before : ℕ). changed mode (start (rangeAt m (ownerAt m j)) (countedFrom (min (before + 1) c) c mode)) (stop (rangeAt m (ownerAt m j)) c) c (ringed (slotWords m j))) (alike .below 2 (omega arith))
 
   pub set-planned : (j : ℕ) → j < temporals m → setAfter m₁ c (getD modes j 0) j ≡ setAt (stepOf m renew st c atoms) (ownerAt m j)
   set-planned j h = after-same (getD modes j 0) j h ∙ planned .sets refl j h
@@ -149,28 +152,28 @@ module _ {m : List ℕ} {renew : Renew} {st : State} {c : ℕ} {atoms m₁ modes
   fitting =
       record {
         timely = record { sound = sound₁; clock = small };
-        room = rw slots-same (λ j h. ap (fits SET) (set-planned j h) ∙ fits-each m (sound .book) renew st c atoms roomy j h);
+        room = rw slots-same (λ j h. ap (λ (s : Runs). fits SET-WORDS s) (set-planned j h) ∙ fits-each m (sound .book) renew st c atoms roomy j h);
       }
 
   abbrev after : ℕ → Runs
   after j = setAfter m₁ c (getD modes j 0) j
 
-  module _ {m₂ : List ℕ} (w : Written m₁ (λ j. setAfter m₁ c (getD modes j 0) j) (temporals m₁) m₂) where
+  module _ {m₂ : List ℕ} (w : Written m₁ c (λ j. setAfter m₁ c (getD modes j 0) j) (temporals m₁) m₂) where
     clocked-set : (j : ℕ) → j < 32 → slotWords (clocked m₂ c) j ≡ slotWords m₂ j
     clocked-set j lt =
         part-same (setStart j) SET m₂ (clocked m₂ c) (let l = w .long in omega arith) (clocked-length m₂ c) (λ i p. clocked-other m₂ c (setStart j + i) (omega arith) (omega arith))
 
-    set-new : (j : ℕ) → j < temporals m → slotWords (clocked m₂ c) j ≡ pack SET (after j)
+    set-new : (j : ℕ) → j < temporals m → slotWords (clocked m₂ c) j ≡ rolled (turnAfter c (slotWords m₁ j)) (after j)
     set-new j lt = let f = sound .book .temporal-few in clocked-set j (omega arith) ∙ w .new j (rw slots-same lt)
 
-    after-good : (j : ℕ) → j < temporals m → Good (pack SET (after j))
+    after-good : (j : ℕ) → j < temporals m → Rolling (rolled (turnAfter c (slotWords m₁ j)) (after j))
     after-good j lt =
         let f = sound .book .temporal-few in
         let b = sound₁ .book in
         let l : j < temporals m₁ = rw slots-same lt in
         let g : Range = rangeAt m₁ (ownerAt m₁ j) in
-        good-pack SET (after j) (room-is (after j) (fitting .room j l))
-        (changed-under (2 ^ 64 + 1) (getD modes j 0) (start g (countsFrom m₁ c (getD modes j 0))) (stop g c) c (runs (slotWords m₁ j)) (sound₁ .sets j (omega arith) .apart)
+        rolling (turnAfter c (slotWords m₁ j)) (after j) (turn-small (slotWords m₁ j) c) (room-is (after j) (fitting .room j l))
+        (changed-under (2 ^ 64 + 1) (getD modes j 0) (start g (countsFrom m₁ c (getD modes j 0))) (stop g c) c (ringed (slotWords m₁ j)) (sound₁ .sets j (omega arith) .good .apart)
         (stop-fits g c small (b .rows (ownerAt m₁ j) (b .owned j l) .upper)))
 
     value-word : (r : ℕ) → r < rowCount m → valueAt (clocked m₂ c) r ≡ valueAfter m renew st c atoms r
@@ -187,7 +190,7 @@ module _ {m : List ℕ} {renew : Renew} {st : State} {c : ℕ} {atoms m₁ modes
           begun = clocked-begun m₂ c (w .long);
           clock = clocked-clock m₂ c (w .long);
           below = λ i p q lt. clocked-other m₂ c i p q ∙ w .below i lt ∙ alike .below i (omega arith);
-          new = λ j lt. set-new j lt ∙ ap (pack SET) (set-planned j lt);
+          new = λ j lt. let f = sound .book .temporal-few in set-new j lt ∙ ap₂ (λ (w : List ℕ) (s : Runs). rolled (turnAfter c w) s) (alike-set sound alike j (omega arith)) (set-planned j lt);
           good = λ j lt. rw (set-new j lt) (after-good j lt);
           old = λ j p q. clocked-set j q ∙ w .old j (rw slots-same p) q ∙ alike-set sound alike j q;
           values = value-word;
@@ -264,8 +267,10 @@ module _
         let j : ℕ = slotAt m r in
         let lt : slotAt m r < temporals m = row .slot k in
         set-of-slot m₂ r (rw ek k)
-        ∙ ap (λ (i : ℕ). runs (slotWords m₂ i)) es
-        ∙ ap runs (atoms-set j (let f = kept .sound .book .temporal-few in omega arith) ∙ v .new j lt) ∙ runs-pack SET (setAt (stepOf m (ownRenew st) st c atoms) (ownerAt m j))
+        ∙ ap (λ (i : ℕ). ringed (slotWords m₂ i)) es
+        ∙ ap (λ (w : List ℕ). ringed w) (atoms-set j (let f = kept .sound .book .temporal-few in omega arith) ∙ v .new j lt)
+        ∙ ringed-rolled (turnAfter c (slotWords m j)) (setAt (stepOf m (ownRenew st) st c atoms) (ownerAt m j)) (turn-small (slotWords m j) c)
+        (room-is (setAt (stepOf m (ownRenew st) st c atoms) (ownerAt m j)) (fits-each m book (ownRenew st) st c atoms roomy j lt))
         ∙ ap (setAt (stepOf m (ownRenew st) st c atoms)) (row .owner k))
         (lt-or-ge (kindAt m r) 7)
 
@@ -297,6 +302,16 @@ module _
         let n = kept .sound .book .narrow in
         a .above i (omega arith) ∙ v .beyond i h
 
+    -- each ring goes on by what lapsed
+    turned-now : Turned m m₂
+    turned-now = record {
+      turns = λ j h₂.
+          let f = kept .sound .book .temporal-few in
+          let h : j < temporals m = let e = temporals-same m m₂ (kept .sound) stepped in omega arith in
+          ap (λ (w : List ℕ). turnOf w) (atoms-set j (omega arith) ∙ v .new j h) ∙ rolled-turn (turnAfter c (slotWords m j)) (setAt (stepOf m (ownRenew st) st c atoms) (ownerAt m j))
+          ∙ ap (λ (x : ℕ). turnAfter x (slotWords m j)) (sym clock-now);
+    }
+
     pub played : {ns : List Snap} → Leads m ns st c atoms → Advanced m ns m₂ 0
     played leads =
         let e = leads ∙ one-played m st c atoms roomy in
@@ -304,6 +319,7 @@ module _
           number = sym (ap (λ (o : Outcome). o .number) e);
           state = state-after ∙ sym (ap (λ (o : Outcome). o .state) e);
           book = step-book m m₂ (kept .sound) stepped;
+          turned = λ z. turned-now;
           refused = λ ne. absurd (ne refl);
           ledger = record { words = λ i h. let rows = kept .sound .book .few in beyond-now i (omega arith) };
         }
@@ -396,8 +412,8 @@ module _
           (λ (k : 7 ≤ kindAt m r).
           let inside = kept .sound .book .rows r p .slot k in
           set-of-slot m₂ r (rw ek k)
-          ∙ ap (λ (j : ℕ). runs (slotWords m₂ j)) (slot-same m m₂ (kept .sound) stepped r (omega arith))
-          ∙ ap runs (set-stays (slotAt m r) (omega arith)) ∙ sym (set-of-slot m r k))
+          ∙ ap (λ (j : ℕ). ringed (slotWords m₂ j)) (slot-same m m₂ (kept .sound) stepped r (omega arith))
+          ∙ ap (λ (w : List ℕ). ringed w) (set-stays (slotAt m r) (omega arith)) ∙ sym (set-of-slot m r k))
           (lt-or-ge (kindAt m r) 7)
 
       sets-same : stateOf m₂ .sets ≡ stateOf m .sets
@@ -411,7 +427,7 @@ module _
           record {
             right = rw (temporals-same m m₂ (kept .sound) stepped) (λ j h.
                 beyond-now (TOLD + j) (omega arith) ∙ kept .tables .told .right j h
-                ∙ sym (ap₂ (λ (x : ℕ) (ws : List ℕ). standing x (runs ws)) clock-stays (set-stays j (omega arith))));
+                ∙ sym (ap₂ (λ (x : ℕ) (ws : List ℕ). standing x (ringed ws)) clock-stays (set-stays j (omega arith))));
           }
 
       counts₂ : Counts m₂
@@ -432,7 +448,7 @@ module _
       pub renewed-none : Alike m₂ m₂ × Tables m₂ × SameLedger m₂ m₂ × Awaited m₂
       renewed-none =
           let d = due {first = false} (sym (ap (λ (w : ℕ). eqb w 0) (only .begun))) in (
-            record { long = refl; below = λ i h. refl },
+            alike-self m₂,
             record {
               valued = d .valued;
               told = told₂;
@@ -452,7 +468,7 @@ module _
 unmoved : {m : List ℕ} (st : State) (c : ℕ) (atoms : List ℕ) {ns : List Snap} → Leads m ns st c atoms → crowded (stepOf m (ownRenew st) st c atoms) ≡ true → Advanced m ns m 11
 unmoved {m} st c atoms leads e =
     let q = leads ∙ none-played m st c atoms e in
-    record { number = sym (ap (λ (o : Outcome). o .number) q); state = sym (ap (λ (o : Outcome). o .state) q); book = refl; refused = λ ne. refl; ledger = ledger-self m }
+    record { number = sym (ap (λ (o : Outcome). o .number) q); state = sym (ap (λ (o : Outcome). o .state) q); book = refl; turned = λ z. absurd (let e : _≡_ {A = ℕ} 11 0 = z in omega arith); refused = λ ne. refl; ledger = ledger-self m }
 
 -- ---- a call that was tried
 module _ {m : List ℕ} {st : State} {c : ℕ} {atoms m₁ : List ℕ} {r : ℕ} (tried : Tried m (ownRenew st) st c atoms m₁ r) where
@@ -551,7 +567,9 @@ module _ {m m₁ : List ℕ} (sound : Sound m) (alike : Alike m m₁) where
         begun = v .begun;
         clock = v .clock;
         below = λ i p q lt. v .below i p q lt ∙ alike .below i (omega arith);
-        new = λ j lt. v .new j (rw slots-as lt) ∙ ap₂ (λ (s : State) (o : ℕ). pack SET (setAt s o)) same (owner-as j lt);
+        new = λ j lt.
+            v .new j (rw slots-as lt) ∙ ap₂ (λ (s : State) (o : ℕ). rolled (turnAfter c (slotWords m₁ j)) (setAt s o)) same (owner-as j lt)
+            ∙ ap (λ (w : List ℕ). rolled (turnAfter c w) (setAt (stepOf m renew st c atoms) (ownerAt m j))) (alike-set sound alike j (omega arith));
         good = λ j lt. v .good j (rw slots-as lt);
         old = λ j p q. v .old j (rw slots-as p) q ∙ alike-set sound alike j q;
         values = λ r h. v .values r (rw rows-as h) ∙ ap₂ (λ (b : Rows) (s : State). bitOf (value b s r)) (alike-rows sound alike) same;
@@ -590,7 +608,7 @@ module _ {m : List ℕ} {c : ℕ} {old m₁ modes₁ : List ℕ} (kept : Kept m)
       set-planned (kept .sound) small first j l ∙ ap (setAt between) (sym (owner-as (kept .sound) first-alike j l))) new) p
 
   pub both-room : {new m₂ m₃ m₄ modes₂ : List ℕ} → Planned m₁ (ownRenew between) between c new m₂ true modes₂
-      → Written m₂ (λ j. setAfter m₂ c (getD modes₂ j 0) j) (temporals m₂) m₃ → m₄ ≡ clocked m₃ c → TriedBoth m c old new m₄ 0
+      → Written m₂ c (λ j. setAfter m₂ c (getD modes₂ j 0) j) (temporals m₂) m₃ → m₄ ≡ clocked m₃ c → TriedBoth m c old new m₄ 0
   both-room {new} p w e =
       let same = same-step (kept .sound) first-alike (ownRenew between) between c new in
       record {

@@ -9,9 +9,10 @@ use lib.ListN.{length, getD, take, drop, List·getD-append}
 use lib.Seq.{getD-append-add, getD-take, getD-drop, length-take-le, take-at, drop-at}
 use borrow.Author.Tests.{ltb-true}
 use borrow.Rule.Slice.PartMut.{putMid, same-len-mid}
-use Rattle.numset.specs.Runs.{Runs, runs, Good, fits, pack, kept}
+use Rattle.numset.specs.Runs.{Runs, SET-WORDS, fits, kept}
+use Rattle.ring.specs.Ring.{ringed, Rolling, rolled, turnAfter}
+use Rattle.ring.proofs.Rolls.{rolled-length}
 use Rattle.lists.proofs.Tests.{lt-or-ge}
-use Rattle.numset.proofs.Packs.{length-pack}
 use Rattle.pmtl.specs.Book.{Range, start, stop}
 use Rattle.memory.specs.Layout.{ROWS, ROW, OWNERS, SET, SIZE}
 use Rattle.lists.specs.Lists.{part}
@@ -19,7 +20,6 @@ use Rattle.memory.specs.Memory.{clockOf, temporals, lowerAt, upperAt, ownerAt, 
 use Rattle.lists.proofs.Parts.{word-at, part-length, part-same}
 use Rattle.set_change.specs.Change.{changed, countedFrom}
 use Rattle.set_change.proofs.Changes.{changed-0}
-use Rattle.planning.proofs.Plans.{set-long}
 use Rattle.planning.specs.Plan.{countsFrom, setAfter}
 use Rattle.calls.specs.Private.{Held, Roomy, Fit, Fitting, Written}
 
@@ -58,68 +58,66 @@ pub put-as : (a e : ℕ) (m : List ℕ) {ys zs : List ℕ} → e ≡ a + SET →
 put-as a e m h q = let d : e - a ≡ SET = omega arith in ap₂ (λ (k : ℕ) (x : List ℕ). putMid a k m x) d q
 
 -- ---- one set
-pub room-is : (s : Runs) → fits SET s ≡ true → 2 * length s < SET
-room-is s e = ltb-true (2 * length s) SET e
+pub room-is : (s : Runs) → fits SET-WORDS s ≡ true → 2 * length s < SET-WORDS
+room-is s e = ltb-true (2 * length s) SET-WORDS e
 
 module _ {m : List ℕ} {mode s t c j : ℕ} (f : Roomy m mode s t c j) {p : List ℕ} (e : p ≡ slotWords m j) where
-  set-size : length (slotWords m j) ≡ SET
-  set-size = set-long m j (f .long) (f .inside)
-
-  pub roomy-good : Good p
+  pub roomy-good : Rolling p
   roomy-good = rw e (f .good)
 
-  pub roomy-room : fits (length p) (changed mode s t c (runs p)) ≡ true
-  roomy-room = rw (e, set-size) (f .room)
+  pub roomy-room : fits SET-WORDS (changed mode s t c (ringed p)) ≡ true
+  roomy-room = rw e (f .room)
 
-  pub roomy-done : {ys : List ℕ} → ys ≡ pack (length p) (changed mode s t c (runs p)) → ys ≡ pack SET (changed mode s t c (runs (slotWords m j)))
-  roomy-done h = h ∙ rw (e, set-size)
+  pub roomy-done : {ys : List ℕ} → ys ≡ rolled (turnAfter c p) (changed mode s t c (ringed p)) → ys ≡ rolled (turnAfter c (slotWords m j)) (changed mode s t c (ringed (slotWords m j)))
+  roomy-done h = h ∙ ap (λ (w : List ℕ). rolled (turnAfter c w) (changed mode s t c (ringed w))) e
 
 module _ {m : List ℕ} {j : ℕ} (f : Held m j) {p : List ℕ} (e : p ≡ slotWords m j) where
-  pub held-good : Good p
+  pub held-good : Rolling p
   held-good = rw e (f .good)
 
-  pub held-done : (c : ℕ) {ys : List ℕ} → ys ≡ pack (length p) (kept c (runs p)) → ys ≡ pack SET (kept c (runs (slotWords m j)))
-  held-done c h = h ∙ rw (e, set-long m j (f .long) (f .inside))
+  pub held-done : (c : ℕ) {ys : List ℕ} → ys ≡ rolled (turnAfter c p) (kept c (ringed p)) → ys ≡ rolled (turnAfter c (slotWords m j)) (kept c (ringed (slotWords m j)))
+  held-done c h = h ∙ ap (λ (w : List ℕ). rolled (turnAfter c w) (kept c (ringed w))) e
 
 module _ {m : List ℕ} {c mode j : ℕ} (f : Fit m c mode j) where
   pub fit-held : Held m j
   fit-held = record { long = f .bounded .long; inside = f .inside; good = f .good }
 
   -- where the set stays and nothing is added
-  pub commit-stays : {m′ : List ℕ} → mode ≡ 0 → m′ ≡ putMid (setStart j) SET m (pack SET (kept c (runs (slotWords m j)))) → m′ ≡ putMid (setStart j) SET m (pack SET (setAfter m c mode j))
+  pub commit-stays : {m′ : List ℕ} → mode ≡ 0 → m′ ≡ putMid (setStart j) SET m (rolled (turnAfter c (slotWords m j)) (kept c (ringed (slotWords m j)))) → m′ ≡ putMid (setStart j) SET m (rolled (turnAfter c (slotWords m j)) (setAfter m c mode j))
   commit-stays e h =
       let g : Range = rangeAt m (ownerAt m j) in
-      h ∙ sym (ap (λ (s : Runs). putMid (setStart j) SET m (pack SET s)) (changed-0 (start g (countsFrom m c mode)) (stop g c) c (runs (slotWords m j)) mode e))
+      h ∙ sym (ap (λ (s : Runs). putMid (setStart j) SET m (rolled (turnAfter c (slotWords m j)) s)) (changed-0 (start g (countsFrom m c mode)) (stop g c) c (ringed (slotWords m j)) mode e))
 
   module _ {s t : ℕ} (es : s ≡ start (rangeAt m (ownerAt m j)) (countsFrom m c mode)) (et : t ≡ stop (rangeAt m (ownerAt m j)) c) where
     pub fit-roomy : Roomy m mode s t c j
     fit-roomy = record { long = f .bounded .long; inside = f .inside; good = f .good; room = rw (es, et) (f .room) }
 
-    pub fit-done : {m′ : List ℕ} → m′ ≡ putMid (setStart j) SET m (pack SET (changed mode s t c (runs (slotWords m j)))) → m′ ≡ putMid (setStart j) SET m (pack SET (setAfter m c mode j))
+    pub fit-done : {m′ : List ℕ} → m′ ≡ putMid (setStart j) SET m (rolled (turnAfter c (slotWords m j)) (changed mode s t c (ringed (slotWords m j)))) → m′ ≡ putMid (setStart j) SET m (rolled (turnAfter c (slotWords m j)) (setAfter m c mode j))
     fit-done h = h ∙ rw (es, et)
 
 -- ---- one after the other
-pub written-start : (m : List ℕ) (f : ℕ → Runs) → length m ≡ SIZE → Written m f 0 m
-written-start m f e = record { long = e; below = λ i h. refl; new = λ j h. absurd (omega arith); old = λ j h l. refl; beyond = λ i h. refl }
+pub written-start : (m : List ℕ) (c : ℕ) (f : ℕ → Runs) → length m ≡ SIZE → Written m c f 0 m
+written-start m c f e = record { long = e; below = λ i h. refl; new = λ j h. absurd (omega arith); old = λ j h l. refl; beyond = λ i h. refl }
 
-written-more : {m m₁ m₂ : List ℕ} {f : ℕ → Runs} {n : ℕ} → Written m f n m₁ → n < 32 → 2 * length (f n) < SET → m₂ ≡ putMid (setStart n) SET m₁ (pack SET (f n)) → Written m f (n + 1) m₂
-written-more {m} {m₁} {m₂} {f} {n} w h fit e =
+written-more : {m m₁ m₂ : List ℕ} {c : ℕ} {f : ℕ → Runs} {n : ℕ} → Written m c f n m₁ → n < 32 → m₂ ≡ putMid (setStart n) SET m₁ (rolled (turnAfter c (slotWords m n)) (f n)) → Written m c f (n + 1) m₂
+written-more {m} {m₁} {m₂} {c} {f} {n} w h e =
+    let new : List ℕ = rolled (turnAfter c (slotWords m n)) (f n) in
     let hb : setStart n + SET ≤ length m₁ = let l = w .long in omega arith in
-    let hk : length (pack SET (f n)) ≡ SET = length-pack SET (f n) fit in
+    let hk : length new ≡ SET = rolled-length (turnAfter c (slotWords m n)) (f n) in
     let l = w .long in
     rw e
     (record {
-      long = put-length (setStart n) SET m₁ (pack SET (f n)) hb hk ∙ w .long;
-      below = λ i lt. put-below (setStart n) SET m₁ (pack SET (f n)) hb hk i (omega arith) ∙ w .below i lt;
+      long = put-length (setStart n) SET m₁ new hb hk ∙ w .long;
+      below = λ i lt. put-below (setStart n) SET m₁ new hb hk i (omega arith) ∙ w .below i lt;
       new = λ j lt.
           ⊎-elim
-          (λ (p : j < n). put-under (setStart n) SET m₁ (pack SET (f n)) hb hk (setStart j) SET (omega arith) ∙ w .new j p)
-          (λ (p : n ≤ j). let d : j ≡ n = omega arith in rw d (put-here (setStart n) SET m₁ (pack SET (f n)) hb hk)) (lt-or-ge j n);
-      old = λ j le lt. put-over (setStart n) SET m₁ (pack SET (f n)) hb hk (setStart j) SET (omega arith) (omega arith) ∙ w .old j (omega arith) lt;
-      beyond = λ i le. put-above (setStart n) SET m₁ (pack SET (f n)) hb hk i (omega arith) ∙ w .beyond i le;
+          (λ (p : j < n). put-under (setStart n) SET m₁ new hb hk (setStart j) SET (omega arith) ∙ w .new j p)
+          (λ (p : n ≤ j). let d : j ≡ n = omega arith in rw d (put-here (setStart n) SET m₁ new hb hk)) (lt-or-ge j n);
+      old = λ j le lt. put-over (setStart n) SET m₁ new hb hk (setStart j) SET (omega arith) (omega arith) ∙ w .old j (omega arith) lt;
+      beyond = λ i le. put-above (setStart n) SET m₁ new hb hk i (omega arith) ∙ w .beyond i le;
     })
 
-module _ {m : List ℕ} {c : ℕ} {modes : List ℕ} (fitting : Fitting m c modes) {n : ℕ} (h : n < temporals m) {m₁ : List ℕ} (w : Written m (λ j. setAfter m c (getD modes j 0) j) n m₁) where
+module _ {m : List ℕ} {c : ℕ} {modes : List ℕ} (fitting : Fitting m c modes) {n : ℕ} (h : n < temporals m) {m₁ : List ℕ} (w : Written m c (λ j. setAfter m c (getD modes j 0) j) n m₁) where
   under : n < 32
   under = omega (arith, fitting .timely .sound .book .temporal-few)
 
@@ -146,8 +144,8 @@ module _ {m : List ℕ} {c : ℕ} {modes : List ℕ} (fitting : Fitting m c mode
 
   after-same : (mode : ℕ) → setAfter m₁ c mode n ≡ setAfter m c mode n
   after-same mode =
-      ap₂ (λ (g : Range) (s : Runs). changed mode (start g (countsFrom m₁ c mode)) (stop g c) c s) range-same (ap runs set-same)
-      ∙ ap (λ (before : ℕ). changed mode (start (rangeAt m (ownerAt m n)) (countedFrom (min (before + 1) c) c mode)) (stop (rangeAt m (ownerAt m n)) c) c (runs (slotWords m n))) clock-same
+      ap₂ (λ (g : Range) (s : Runs). changed mode (start g (countsFrom m₁ c mode)) (stop g c) c s) range-same (ap (λ (x : List ℕ). ringed x) set-same)
+      ∙ ap (λ (before : ℕ). changed mode (start (rangeAt m (ownerAt m n)) (countedFrom (min (before + 1) c) c mode)) (stop (rangeAt m (ownerAt m n)) c) c (ringed (slotWords m n))) clock-same
 
   pub commit-fit : Fit m₁ c (getD modes n 0) n
   commit-fit =
@@ -157,9 +155,9 @@ module _ {m : List ℕ} {c : ℕ} {modes : List ℕ} (fitting : Fitting m c mode
         inside = under;
         bounded = rw owner-same (record { long = w .long; inside = owner-small; clock = t .clock; lower = rw lower-same (row .lower); upper = rw upper-same (row .upper) });
         good = rw set-same (t .sound .sets n under);
-        room = ap (fits SET) (after-same (getD modes n 0)) ∙ fitting .room n h;
+        room = ap (λ (s : Runs). fits SET-WORDS s) (after-same (getD modes n 0)) ∙ fitting .room n h;
       }
 
-  pub commit-more : {m₂ : List ℕ} → m₂ ≡ putMid (setStart n) SET m₁ (pack SET (setAfter m₁ c (getD modes n 0) n)) → Written m (λ j. setAfter m c (getD modes j 0) j) (n + 1) m₂
+  pub commit-more : {m₂ : List ℕ} → m₂ ≡ putMid (setStart n) SET m₁ (rolled (turnAfter c (slotWords m₁ n)) (setAfter m₁ c (getD modes n 0) n)) → Written m c (λ j. setAfter m c (getD modes j 0) j) (n + 1) m₂
   commit-more e =
-      written-more w under (room-is (setAfter m c (getD modes n 0) n) (fitting .room n h)) (e ∙ ap (λ (s : Runs). putMid (setStart n) SET m₁ (pack SET s)) (after-same (getD modes n 0)))
+      written-more w under (e ∙ ap₂ (λ (x : List ℕ) (s : Runs). putMid (setStart n) SET m₁ (rolled (turnAfter c x) s)) set-same (after-same (getD modes n 0)))

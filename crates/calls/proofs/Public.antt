@@ -19,19 +19,21 @@ use Rattle.pmtl.specs.Calls.Call.{time, state, stamped}
 use Rattle.pmtl.specs.Again.{SaysAgain}
 use Rattle.pmtl.proofs.Answers.{step-way-by}
 use Rattle.pmtl.proofs.Calls.{timely, well-stated}
+use Rattle.ring.specs.Ring.{turnOf, turnAfter}
 use Rattle.memory.specs.Layout.{SIZE}
-use Rattle.memory.specs.Memory.{begunWord, clockOf, widthWord, atomAt, rowsOf, bookOf, stateOf, ledgerOf, atomsOf}
+use Rattle.memory.specs.Memory.{begunWord, clockOf, widthWord, temporals, slotWords, atomAt, rowsOf, bookOf, stateOf, ledgerOf, atomsOf}
 use Rattle.memory.specs.Tables.{propertyCount, Tables}
 use Rattle.memory.specs.Kept.{BookKept, Sound, LedgerKept, Awaited, Kept}
 use Rattle.memory.specs.Alike.{Alike, SameLedger}
-use Rattle.memory.proofs.Alike.{alike-sound, alike-book, alike-state}
+use Rattle.memory.proofs.Alike.{alike-sound, alike-set, alike-book, alike-state}
 use Rattle.memory.proofs.Ledger.{ledger-self, ledger-on, ledger-same, ledger-kept}
 use Rattle.memory.proofs.Properties.{properties-length}
 use Rattle.planning.specs.Plan.{snapOf, ownRenew}
 use Rattle.calls.specs.Private.{AtomsStand, OnlyValues, Bytes, timeStep, Atoms, Moved, Tried, TriedBoth, Due, Done, Advanced}
 use Rattle.notes.specs.Noting.{numbered, CallNoted}
-use Rattle.calls.specs.Called.{Called}
+use Rattle.calls.specs.Called.{Turned, Called}
 use Rattle.calls.proofs.Resting.{rests-after, unmoved-by}
+use Rattle.calls.proofs.Stood.{turned-still}
 use Rattle.planning.proofs.Plans.{some-hit}
 use Rattle.planning.proofs.Atoms.{bits-listed, old-same, old-atoms}
 use Rattle.calls.proofs.Heads.{old-bytes}
@@ -42,7 +44,7 @@ called-refused : {m : List ℕ} {k : Call} {n : ℕ} → Kept m → refusal (row
 unfolding call bookOf
 called-refused {m} {k} {n} kept e ne =
     let q = ne-eqb n 0 ne in
-    record { number = sym (rw (e, q) e); state = sym (rw (e, q)); book = refl; refused = λ z. refl; ledger = ledger-self m; kept = kept }
+    record { number = sym (rw (e, q) e); state = sym (rw (e, q)); book = refl; turned = λ z. absurd (ne z); refused = λ z. refl; ledger = ledger-self m; kept = kept }
 
 -- what the words of a memory owe, apart from that its monitor rests
 abbrev Right : List ℕ → Type 0
@@ -60,19 +62,21 @@ called-played {m} {m′} {k} {r} kept e en a right =
       number = a .number ∙ ap (λ (ns : List Snap). play (rowsOf m) (stateOf m) (stateOf m) ns .number) en ∙ sym (rw e);
       state = state;
       book = a .book;
+      turned = a .turned;
       refused = a .refused;
       ledger = a .ledger;
       kept = record { sound = right .0; tables = right .1; ledger = right .2; rests = rests-after kept m′ k (ap (λ (x : Book). x .rows) (a .book)) state; awaited = right .3 };
     }
 
 -- a call that says again what stands there
-called-again : {m : List ℕ} → Kept m → stateOf m .begun ≡ true → (k : Call) → refusal (rowsOf m) (stateOf m .now) k ≡ 0 → SaysAgain (stateOf m .now) k → Done k m m 0
-unfolding bookOf
-called-again {m} kept begun k fine again = let e = unmoved-by kept begun k fine again in
+called-again : {m : List ℕ} → Kept m → begunWord m ≡ 1 → (k : Call) → refusal (rowsOf m) (stateOf m .now) k ≡ 0 → SaysAgain (stateOf m .now) k → Done k m m 0
+unfolding bookOf stateOf
+called-again {m} kept begun k fine again = let e = unmoved-by kept (rw begun) k fine again in
     record {
       number = sym (ap (λ (o : Outcome). o .number) e);
       state = sym (ap (λ (o : Outcome). o .state) e);
       book = refl;
+      turned = λ z. turned-still kept begun m (λ j h. refl);
       refused = λ z. refl;
       ledger = ledger-self m;
       kept = kept;
@@ -81,6 +85,15 @@ called-again {m} kept begun k fine again = let e = unmoved-by kept begun k fine 
 -- memories with the same book have as many properties
 same-count : {m m′ : List ℕ} → BookKept m → BookKept m′ → bookOf m′ ≡ bookOf m → propertyCount m′ ≡ propertyCount m
 same-count {m} {m′} kept kept′ same = sym (properties-length m′ kept′) ∙ ap (λ (b : Book). length (properties b)) same ∙ properties-length m kept
+
+-- and memories with the same words before the tables have the same rings
+turned-alike : {m m₁ m₂ : List ℕ} → Turned m m₁ → Sound m₁ → Alike m₁ m₂ → Turned m m₂
+turned-alike {m} {m₁} {m₂} t sound alike = record {
+  turns = λ j h.
+      let few = sound .book .temporal-few in
+      let slots : temporals m₂ ≡ temporals m₁ = alike .below 4 (omega arith) in
+      ap (λ (w : List ℕ). turnOf w) (alike-set sound alike j (omega arith)) ∙ t .turns j (omega arith) ∙ ap (λ (c : ℕ). turnAfter c (slotWords m j)) (sym (alike .below 2 (omega arith)));
+}
 
 -- a call that was accepted, once what is due was told and asked
 pub advanced-renewed : {m m₁ m₂ : List ℕ} {ns : List Snap} → Kept m → Advanced m ns m₁ 0 → Sound m₁ → Alike m₁ m₂ × Tables m₂ × SameLedger m₁ m₂ × Awaited m₂ → Advanced m ns m₂ 0 × Right m₂
@@ -92,6 +105,7 @@ advanced-renewed {m} {m₁} {m₂} kept a sound t =
         number = a .number;
         state = alike-state sound (t .0) ∙ a .state;
         book = book;
+        turned = λ z. turned-alike (a .turned z) sound (t .0);
         refused = λ ne. absurd (ne refl);
         ledger = same;
       },
@@ -200,7 +214,7 @@ module _ {m : List ℕ} (kept : Kept m) (s : List ℕ) {wrong : ℕ} (ew : wrong
     pub state-stands : AtomsStand m s → Done (state s) m m 0
     unfolding refusal stateOf
     state-stands there =
-        called-again kept (rw (there .begun)) (state s) (sym ew ∙ right)
+        called-again kept (there .begun) (state s) (sym ew ∙ right)
         (bits-listed (atomAt m) s (widthWord m) (new-bytes .long) (λ i h. sym (there .same i (omega (arith, new-bytes .long)))))
 
     module _ {clock : ℕ} (ec : clock ≡ clockOf m) where
@@ -281,7 +295,7 @@ module _ {m : List ℕ} (kept : Kept m) (t : ℕ) (s : List ℕ) {late : ℕ} (e
 
       none-between : crowded between ≡ true → Advanced m snaps m 11
       unfolding play
-      none-between e = record { number = sym (rw (e, play)); state = sym (rw (e, play)); book = refl; refused = λ ne. refl; ledger = ledger-self m }
+      none-between e = record { number = sym (rw (e, play)); state = sym (rw (e, play)); book = refl; turned = λ z. absurd (let e : _≡_ {A = ℕ} 11 0 = z in omega arith); refused = λ ne. refl; ledger = ledger-self m }
 
       module _ {m₁ : List ℕ} {r : ℕ} (tried : TriedBoth m t (atomsOf m) s m₁ r) where
         pub stamped-full : (r ≡ 0 → ⊥) → Done (stamped t s) m m₁ r
@@ -321,6 +335,7 @@ done-noted {k} {m} {m₁} {m₂} {r} kept d n =
       state = n .state ∙ d .state;
       book = n .book ∙ d .book;
       ledger = n .ledger ∙ ap₂ (λ (b : Book) (x : Outcome). next b x (ledgerOf m₁)) (d .book) left ∙ ap (next (bookOf m) o) (ledger-same (same-count (kept .sound .book) (d .kept .sound .book) (d .book)) (d .ledger));
+      turned = λ z. turned-alike (d .turned z) (d .kept .sound) (n .alike);
       refused = λ ne. n .refused ne ∙ ap numbered (d .refused ne);
       kept = n .kept;
     }

@@ -15,7 +15,7 @@ use Rattle.lists.specs.Lists.{listed}
 use Rattle.lists.proofs.Tests.{lt-or-ge}
 use Rattle.lists.proofs.Listed.{listed-agree}
 use Rattle.lists.proofs.Parts.{part-same}
-use Rattle.numset.specs.Runs.{runs}
+use Rattle.ring.specs.Ring.{ringed, turnAfter}
 use Rattle.pmtl.specs.Answer.{bitOf, digitOf}
 use Rattle.pmtl.specs.Book.{Rows, rowAt}
 use Rattle.pmtl.specs.Monitor.{State, fullest, value}
@@ -39,6 +39,7 @@ use Rattle.memory.proofs.Stepped.{Stepped, rows-of-same, step-book, kept-step, 
 use Rattle.tables.proofs.Puts.{few-properties}
 use Rattle.calls.specs.Private.{QuietAt, ticked, Done}
 use Rattle.calls.proofs.Resting.{left, rests-after}
+use Rattle.calls.proofs.Stood.{turned-still}
 
 -- ---- as the code finds it
 pub quiet-until : {m : List ℕ} {t until : ℕ} → begunWord m ≡ 1 → until ≡ untilWord m → leb t until ≡ true → QuietAt m t
@@ -156,14 +157,14 @@ module _ {m : List ℕ} (kept : Kept m) (t : ℕ) (fine : timeRefusal (stateOf m
   settled-same : (r : ℕ) → settledOf m′ r ≡ settledOf m r
   settled-same r = ap₂ (λ (b : Rows) (st : State). settled b st r) ticked-rows ticked-state ∙ calm .settled-is r
 
-  standing-same : (j : ℕ) → j < temporals m → standing (clockOf m′) (runs (slotWords m′ j)) ≡ standing (clockOf m) (runs (slotWords m j))
+  standing-same : (j : ℕ) → j < temporals m → standing (clockOf m′) (ringed (slotWords m′ j)) ≡ standing (clockOf m) (ringed (slotWords m j))
   unfolding standing stateOf
   standing-same j h =
       let few = kept .sound .book .temporal-few in
       let own = owner-set m (kept .sound) j h in
       let c = rw own at (calm .covers-is (ownerAt m j)) in
       let g = rw own at (calm .gone-is (ownerAt m j)) in
-      ap₂ (λ (x : ℕ) (ws : List ℕ). standing x (runs ws)) clock-is (slot-words j (omega arith))
+      ap₂ (λ (x : ℕ) (ws : List ℕ). standing x (ringed ws)) clock-is (slot-words j (omega arith))
       ∙ ap₂ (λ (x y : Bool). cond x COVERS (cond y GONE NEITHER)) c g
 
   property-count : propertyCount m′ ≡ propertyCount m
@@ -225,6 +226,7 @@ module _ {m : List ℕ} (kept : Kept m) (t : ℕ) (fine : timeRefusal (stateOf m
     number = sym (ap (λ (o : Outcome). o .number) on-time);
     state = ticked-by;
     book = step-book m m′ (kept .sound) stepped;
+    turned = λ z. turned-still ticked-kept (begun-same ∙ at .begun) m slot-words;
     refused = λ ne. absurd (ne refl);
     ledger = ledger-other;
     kept = ticked-kept;
@@ -258,6 +260,11 @@ module _ {m : List ℕ} (kept : Kept m) (t : ℕ) (fine : timeRefusal (stateOf m
             number = sym (ap (λ (o : Outcome). o .number) as-stated ∙ zero-is);
             state = d .state ∙ sym (ap (λ (o : Outcome). o .state) as-stated ∙ rw (eq-eqb (left-over .number) 0 zero-is));
             book = d .book ∙ step-book m m′ (kept .sound) stepped;
+            turned = λ e. record {
+              turns = λ j h.
+                  let few = d .kept .sound .book .temporal-few in
+                  d .turned z .turns j h ∙ ap (λ (w : List ℕ). turnAfter (clockOf m₂) w) (slot-words j (omega arith));
+            };
             refused = λ ne. absurd (ne refl);
             ledger = ledger-on ledger-other (d .ledger);
             kept = d .kept;
@@ -276,6 +283,7 @@ module _ {m : List ℕ} (kept : Kept m) (t : ℕ) (fine : timeRefusal (stateOf m
             number = number-is ∙ sym (ap (λ (o : Outcome). o .number) as-stated);
             state = sym (ap (λ (o : Outcome). o .state) as-stated ∙ rw (ne-eqb (left-over .number) 0 not-zero));
             book = refl;
+            turned = λ z. absurd (ne z);
             refused = λ z. refl;
             ledger = ledger-self m;
             kept = kept;

@@ -5,35 +5,32 @@ use mathlib.Core.Logic.{⊎-elim}
 use mathlib.Core.Bool.{true, false, not}
 use mathlib.Core.List.{List, []}
 use native.Mathlib.Omega.{arith}
-use lib.ListN.{length, getD}
+use lib.ListN.{length}
 use lib.Dec.{ltb}
 use borrow.Author.Tests.{lt-ltb}
 use Rattle.numbers.specs.Limits.{MOST-RUNS}
 use Rattle.numbers.specs.Refusals.{ACCEPTED}
 use Rattle.lists.proofs.Tests.{lt-or-ge}
 use Rattle.lists.proofs.Listed.{listed-length}
-use Rattle.numset.specs.Runs.{Runs, runs, fits}
-use Rattle.numset.proofs.Words.{length-runs}
+use Rattle.numset.specs.Runs.{Runs, SET-WORDS, fits}
+use Rattle.ring.specs.Ring.{ringed}
+use Rattle.ring.proofs.Again.{held-few}
 use Rattle.pmtl.specs.Monitor.{setAt}
 use Rattle.pmtl.specs.Calls.{Call, refusal, crowded, call}
 use Rattle.pmtl.specs.Again.{SaysAgain, unchanged, Rests}
 use Rattle.pmtl.proofs.Doubled.{Left, call-left, says-again}
-use Rattle.memory.specs.Layout.{SET}
 use Rattle.memory.specs.Memory.{rowCount, temporals, kindAt, slotAt, ownerAt, slotWords, rowsOf, stateOf, setOf}
 use Rattle.memory.specs.Kept.{Kept}
 use Rattle.memory.proofs.Rows.{kept-ordered}
 use Rattle.memory.proofs.Sets.{owner-set, no-set, set-canonical}
 use Rattle.planning.proofs.Plans.{some-none, crowds}
-use Rattle.planning.proofs.Plans.{set-long}
 
 module _ {m : List ℕ} (kept : Kept m) where
   -- each set of a kept memory fits its words
-  pub fits-now : (j : ℕ) → j < temporals m → fits SET (setAt (stateOf m) (ownerAt m j)) ≡ true
+  pub fits-now : (j : ℕ) → j < temporals m → fits SET-WORDS (setAt (stateOf m) (ownerAt m j)) ≡ true
   fits-now j h =
       let few = kept .sound .book .temporal-few in
-      let good = kept .sound .sets j (omega arith) in
-      let long = set-long m j (kept .sound .book .long) (omega arith) in
-      rw (owner-set m (kept .sound) j h) (lt-ltb (2 * length (runs (slotWords m j))) SET (rw (length-runs (slotWords m j) (getD (slotWords m j) 0 0)) (omega (arith, good .room, long))))
+      rw (owner-set m (kept .sound) j h) (lt-ltb (2 * length (ringed (slotWords m j))) SET-WORDS (held-few (slotWords m j) (kept .sound .sets j (omega arith))))
 
   -- so none is crowded
   room : crowded (stateOf m) ≡ false
@@ -44,7 +41,7 @@ module _ {m : List ℕ} (kept : Kept m) where
       ⊎-elim (λ (k : kindAt m r < 7). ap (λ (s : Runs). ltb MOST-RUNS (length s)) (no-set m (kept .sound) r (λ _. k)))
       (λ (k : 7 ≤ kindAt m r).
       let row = kept .sound .book .rows r h in
-      crowds (setAt (stateOf m) r) ∙ ap not (subst (λ o. fits SET (setAt (stateOf m) o) ≡ true) (row .owner k) (fits-now (slotAt m r) (row .slot k))))
+      crowds (setAt (stateOf m) r) ∙ ap not (subst (λ o. fits SET-WORDS (setAt (stateOf m) o) ≡ true) (row .owner k) (fits-now (slotAt m r) (row .slot k))))
       (lt-or-ge (kindAt m r) 7)
 
   pub left : Left (rowsOf m) (stateOf m)

@@ -9,11 +9,13 @@ use lib.Seq.{set-getD}
 use lib.Dec.{eqb}
 use borrow.Author.Tests.{eqb-true}
 use Rattle.numbers.specs.Limits.{LAST-TIME, MOST-TEMPORALS}
-use Rattle.numset.specs.Runs.{runs, kept, pack}
-use Rattle.numset.proofs.Packs.{packed}
+use Rattle.numset.specs.Runs.{kept}
+use Rattle.ring.specs.Ring.{ringed, rolled, turnAfter}
+use Rattle.ring.proofs.Rolls.{rolls-again}
+use Rattle.ring.proofs.Turns.{turn-still}
 use Rattle.pmtl.specs.Sets.{Renew}
 use Rattle.pmtl.specs.Monitor.{State, setAt}
-use Rattle.memory.specs.Layout.{SET, VALUES}
+use Rattle.memory.specs.Layout.{VALUES}
 use Rattle.memory.specs.Memory.{begunWord, clockOf, temporals, ownerAt, slotWords, stateOf}
 use Rattle.memory.specs.Kept.{Sound, Kept}
 use Rattle.memory.specs.Alike.{Alike}
@@ -21,7 +23,6 @@ use Rattle.memory.proofs.Sets.{owner-set}
 use Rattle.memory.proofs.Alike.{alike-filled, alike-set}
 use Rattle.set_change.specs.Change.{changed}
 use Rattle.planning.specs.Plan.{setAfter, valueAfter, Planned}
-use Rattle.planning.proofs.Plans.{set-long}
 use Rattle.calls.specs.Private.{clocked, NoneOver, SetsStay, OnlyValues, Written, Tried}
 use Rattle.calls.proofs.Advances.{planned-sound, tried-room}
 use Rattle.calls.proofs.Stood.{rests-here}
@@ -43,23 +44,24 @@ module _ {m : List ℕ} {renew : Renew} {st : State} {c : ℕ} {atoms m₁ modes
   begun-before = sym (alike .below 1 (omega arith)) ∙ stay .begun
 
   -- no run is over
-  set-kept : (j : ℕ) → j < temporals m → kept c (runs (slotWords m₁ j)) ≡ runs (slotWords m₁ j)
+  set-kept : (j : ℕ) → j < temporals m → kept c (ringed (slotWords m₁ j)) ≡ ringed (slotWords m₁ j)
   set-kept j h =
       let few = held .sound .book .temporal-few in
-      let same : runs (slotWords m₁ j) ≡ setAt (stateOf m) (ownerAt m j) = ap runs (alike-set (held .sound) alike j (omega arith)) ∙ sym (owner-set m (held .sound) j h) in
+      let same : ringed (slotWords m₁ j) ≡ setAt (stateOf m) (ownerAt m j) = ap (λ (w : List ℕ). ringed w) (alike-set (held .sound) alike j (omega arith)) ∙ sym (owner-set m (held .sound) j h) in
       ap (kept c) same ∙ rests-here held here begun-before (ownerAt m j) ∙ sym same
 
-  set-there : (j : ℕ) → j < temporals m₁ → slotWords m₁ j ≡ pack SET (setAfter m₁ c (getD modes j 0) j)
+  set-there : (j : ℕ) → j < temporals m₁ → slotWords m₁ j ≡ rolled (turnAfter c (slotWords m₁ j)) (setAfter m₁ c (getD modes j 0) j)
   unfolding changed
   set-there j h₁ =
       let few = held .sound .book .temporal-few in
       let slots : temporals m₁ ≡ temporals m = alike .below 4 (omega arith) in
       let h : j < temporals m = omega arith in
-      packed (slotWords m₁ j) (sound₁ .sets j (omega arith))
-      ∙ ap₂ pack (set-long m₁ j (sound₁ .book .long) (omega arith)) (sym (set-kept j h))
-      ∙ ap (λ (k : ℕ). pack SET (setAfter m₁ c k j)) (sym (stay .none j (omega arith)))
+      let ring = sound₁ .sets j (omega arith) in
+      rolls-again (slotWords m₁ j) ring
+      ∙ ap₂ rolled (turn-still (slotWords m₁ j) c (ring .turn) (set-kept j h)) (sym (set-kept j h))
+      ∙ ap (λ (k : ℕ). rolled (turnAfter c (slotWords m₁ j)) (setAfter m₁ c k j)) (sym (stay .none j (omega arith)))
 
-  as-written : Written m₁ (λ j. setAfter m₁ c (getD modes j 0) j) (temporals m₁) m₁
+  as-written : Written m₁ c (λ j. setAfter m₁ c (getD modes j 0) j) (temporals m₁) m₁
   as-written = record { long = sound₁ .book .long; below = λ i h. refl; new = set-there; old = λ j p q. refl; beyond = λ i h. refl }
 
   as-clocked : m₁ ≡ clocked m₁ c

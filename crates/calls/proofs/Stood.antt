@@ -8,7 +8,9 @@ use borrow.Author.Tests.{eq-eqb}
 use Rattle.numbers.specs.Limits.{MAX, LAST-TIME}
 use Rattle.lists.specs.Lists.{filledFrom}
 use Rattle.lists.proofs.Filled.{filledFrom-at}
-use Rattle.numset.specs.Runs.{Runs, kept, fits}
+use Rattle.numset.specs.Runs.{Runs, SET-WORDS, kept, fits}
+use Rattle.ring.specs.Ring.{ringed, turnAfter}
+use Rattle.ring.proofs.Turns.{turn-still}
 use Rattle.pmtl.specs.Answer.{bitOf}
 use Rattle.pmtl.specs.Book.{Range, Rows}
 use Rattle.pmtl.specs.Kept.{AllRuns, NoneBefore}
@@ -18,8 +20,8 @@ use Rattle.pmtl.proofs.EachRun.{renewed-none-before, lasted-none-before, none-b
 use Rattle.pmtl.proofs.Renewed.{rule-any}
 use Rattle.pmtl.proofs.Answers.{set-made-by, step-now-by}
 use Rattle.pmtl.proofs.Doubled.{step-again}
-use Rattle.memory.specs.Layout.{SET, VALUES, LOWEST}
-use Rattle.memory.specs.Memory.{rowCount, begunWord, clockOf, temporals, ownerAt, valueAt, rowsOf, isOne, stateOf}
+use Rattle.memory.specs.Layout.{VALUES, LOWEST}
+use Rattle.memory.specs.Memory.{rowCount, begunWord, clockOf, temporals, ownerAt, slotWords, valueAt, rowsOf, isOne, stateOf}
 use Rattle.memory.specs.Tables.{valueOf, Founded}
 use Rattle.memory.specs.Kept.{Kept}
 use Rattle.memory.specs.Alike.{Alike}
@@ -30,6 +32,7 @@ use Rattle.memory.proofs.Alike.{alike-rows}
 use Rattle.set_change.specs.Change.{changed}
 use Rattle.planning.specs.Plan.{snapOf, ownRenew, setAfter, Unplanned, valueAfter, Planned, Bits, Stands}
 use Rattle.planning.proofs.Plans.{fits-each}
+use Rattle.calls.specs.Called.{Turned}
 use Rattle.calls.specs.Private.{timeStep}
 use Rattle.calls.proofs.Resting.{fits-now}
 use Rattle.calls.proofs.Advances.{first-alike, first-beyond, set-planned, owner-as, slots-as}
@@ -68,6 +71,16 @@ module _ {m : List ℕ} (held : Kept m) where
   pub rests-here : {c : ℕ} → c ≡ clockOf m → begunWord m ≡ 1 → (r : ℕ) → kept c (setAt (stateOf m) r) ≡ setAt (stateOf m) r
   unfolding stateOf
   rests-here ec begun r = ap (λ (x : ℕ). kept x (setAt (stateOf m) r)) ec ∙ rests-kept (rowsOf m) (stateOf m) (let small = held .sound .clock in omega arith) (rests-now begun) r
+
+  -- so where the sets are those of a memory before, their rings begin where they began
+  pub turned-still : begunWord m ≡ 1 → (before : List ℕ) → ((j : ℕ) → j < 32 → slotWords m j ≡ slotWords before j) → Turned before m
+  turned-still begun before words = record {
+    turns = λ j h.
+        let few = held .sound .book .temporal-few in
+        let own : ringed (slotWords m j) ≡ setAt (stateOf m) (ownerAt m j) = sym (owner-set m (held .sound) j h) in
+        turn-still (slotWords m j) (clockOf m) (held .sound .sets j (omega arith) .turn) (ap (kept (clockOf m)) own ∙ rests-here refl begun (ownerAt m j) ∙ sym own)
+        ∙ ap (λ (w : List ℕ). turnAfter (clockOf m) w) (words j (omega arith));
+  }
 
   pub stands-now : {c : ℕ} → c ≡ clockOf m → (modes : List ℕ) → Unplanned m modes → begunWord m ≡ 1 → Stands m c modes
   unfolding stateOf changed
@@ -127,6 +140,6 @@ module _ {m : List ℕ} {c : ℕ} {old m₁ modes₁ : List ℕ} (held : Kept m)
             set-planned (held .sound) small first j l ∙ ap (setAt between) (sym (owner-as (held .sound) alike j l));
         room = λ j h.
             let l : j < temporals m = rw (← slots-as (held .sound) alike) h in
-            ap (λ (o : ℕ). fits SET (setAt between o)) (owner-as (held .sound) alike j l) ∙ fits-each m b (ownRenew (stateOf m)) (stateOf m) c old (first .fits) j l;
+            ap (λ (o : ℕ). fits SET-WORDS (setAt between o)) (owner-as (held .sound) alike j l) ∙ fits-each m b (ownRenew (stateOf m)) (stateOf m) c old (first .fits) j l;
         rests = rw (rows-same, now) (step-again (rowsOf m) (kept-ordered b) (stateOf m) (set-canonical m (held .sound)) (snapOf c old) (omega arith));
       }

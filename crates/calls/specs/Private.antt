@@ -6,17 +6,19 @@ use mathlib.Core.List.{List}
 use lib.ListN.{length, getD, set}
 use Rattle.numbers.specs.Limits.{MOST-TEMPORALS}
 use Rattle.numbers.specs.Refusals.{ACCEPTED, NO-ROOM}
-use Rattle.numset.specs.Runs.{Runs, runs, Good, fits, pack}
+use Rattle.numset.specs.Runs.{Runs, SET-WORDS, fits}
+use Rattle.ring.specs.Ring.{ringed, Rolling, rolled, turnAfter}
 use Rattle.pmtl.specs.Sets.{Renew}
 use Rattle.pmtl.specs.Monitor.{Snap, State, setAt}
 use Rattle.pmtl.specs.Calls.{Call, crowded, play, call}
-use Rattle.memory.specs.Layout.{ATOMS, SETS, SET, VALUES, SIZE, BEGUN, CLOCK}
+use Rattle.memory.specs.Layout.{ATOMS, SETS, VALUES, SIZE, BEGUN, CLOCK}
 use Rattle.memory.specs.Memory.{rowCount, begunWord, clockOf, temporals, ownerAt, slotWords, valueAt, earlyAt, settledAt, untilWord, rowsOf, bookOf, stateOf}
 use Rattle.memory.specs.Tables.{propertyCount, Valued, Moving, Founded, Unused}
 use Rattle.memory.specs.Kept.{Sound, Kept}
 use Rattle.memory.specs.Alike.{Alike, SameLedger}
 use Rattle.tables.specs.Puts.{earlyDigit, settledDigit}
 use Rattle.set_change.specs.Change.{changed}
+use Rattle.calls.specs.Called.{Turned}
 use Rattle.planning.specs.Plan.{stepOf, ownRenew, setAfter, valueAfter, Bounded, Timely}
 
 -- bytes that can be a call's atoms
@@ -24,11 +26,11 @@ pub record Bytes (atoms : List ℕ) (width : ℕ) : Type 0 where
   pub long : length atoms ≡ width
   pub bits : (i : ℕ) → i < width → getD atoms i 0 ≤ 1
 
--- m′ is m with the sets of the slots below n as f says
-pub record Written (m : List ℕ) (f : ℕ → Runs) (n : ℕ) (m′ : List ℕ) : Type 0 where
+-- m′ is m with the sets of the slots below n as f says, and without what ended before c
+pub record Written (m : List ℕ) (c : ℕ) (f : ℕ → Runs) (n : ℕ) (m′ : List ℕ) : Type 0 where
   pub long : length m′ ≡ SIZE
   pub below : (i : ℕ) → i < SETS → getD m′ i 0 ≡ getD m i 0
-  pub new : (j : ℕ) → j < n → slotWords m′ j ≡ pack SET (f j)
+  pub new : (j : ℕ) → j < n → slotWords m′ j ≡ rolled (turnAfter c (slotWords m j)) (f j)
   pub old : (j : ℕ) → n ≤ j → j < MOST-TEMPORALS → slotWords m′ j ≡ slotWords m j
   pub beyond : (i : ℕ) → VALUES ≤ i → getD m′ i 0 ≡ getD m i 0
 
@@ -63,8 +65,8 @@ pub record Moved (m : List ℕ) (renew : Renew) (st : State) (c : ℕ) (atoms m�
   pub begun : begunWord m′ ≡ 1
   pub clock : clockOf m′ ≡ c
   pub below : (i : ℕ) → (i ≡ BEGUN → ⊥) → (i ≡ CLOCK → ⊥) → i < SETS → getD m′ i 0 ≡ getD m i 0
-  pub new : (j : ℕ) → j < temporals m → slotWords m′ j ≡ pack SET (setAt (stepOf m renew st c atoms) (ownerAt m j))
-  pub good : (j : ℕ) → j < temporals m → Good (slotWords m′ j)
+  pub new : (j : ℕ) → j < temporals m → slotWords m′ j ≡ rolled (turnAfter c (slotWords m j)) (setAt (stepOf m renew st c atoms) (ownerAt m j))
+  pub good : (j : ℕ) → j < temporals m → Rolling (slotWords m′ j)
   pub old : (j : ℕ) → temporals m ≤ j → j < MOST-TEMPORALS → slotWords m′ j ≡ slotWords m j
   pub values : (r : ℕ) → r < rowCount m → valueAt m′ r ≡ valueAfter m renew st c atoms r
   pub beyond : (i : ℕ) → VALUES + rowCount m ≤ i → getD m′ i 0 ≡ getD m i 0
@@ -103,25 +105,25 @@ pub record TriedBoth (m : List ℕ) (c : ℕ) (old new m′ : List ℕ) (r : ℕ
 pub record Held (m : List ℕ) (j : ℕ) : Type 0 where
   pub long : length m ≡ SIZE
   pub inside : j < MOST-TEMPORALS
-  pub good : Good (slotWords m j)
+  pub good : Rolling (slotWords m j)
 
 -- words whose set of slot j has room for a change by a start and a stop at clock c
 pub record Roomy (m : List ℕ) (mode s t c j : ℕ) : Type 0 where
   pub long : length m ≡ SIZE
   pub inside : j < MOST-TEMPORALS
-  pub good : Good (slotWords m j)
-  pub room : fits SET (changed mode s t c (runs (slotWords m j))) ≡ true
+  pub good : Rolling (slotWords m j)
+  pub room : fits SET-WORDS (changed mode s t c (ringed (slotWords m j))) ≡ true
 
 -- a slot whose set has room for a change, and modes that every set has room for
 pub record Fit (m : List ℕ) (c mode j : ℕ) : Type 0 where
   pub inside : j < MOST-TEMPORALS
   pub bounded : Bounded m c (ownerAt m j)
-  pub good : Good (slotWords m j)
-  pub room : fits SET (setAfter m c mode j) ≡ true
+  pub good : Rolling (slotWords m j)
+  pub room : fits SET-WORDS (setAfter m c mode j) ≡ true
 
 pub record Fitting (m : List ℕ) (c : ℕ) (modes : List ℕ) : Type 0 where
   pub timely : Timely m c
-  pub room : (j : ℕ) → j < temporals m → fits SET (setAfter m c (getD modes j 0) j) ≡ true
+  pub room : (j : ℕ) → j < temporals m → fits SET-WORDS (setAfter m c (getD modes j 0) j) ≡ true
 
 -- ---- the digits that stand in a memory are right for what was told; those of settled, where it is not the first accepted call
 pub record Asked (m : List ℕ) (first : Bool) : Type 0 where
@@ -142,6 +144,7 @@ pub record Done (k : Call) (m m′ : List ℕ) (r : ℕ) : Type 0 where
   pub number : r ≡ call (bookOf m .rows) (stateOf m) k .number
   pub state : stateOf m′ ≡ call (bookOf m .rows) (stateOf m) k .state
   pub book : bookOf m′ ≡ bookOf m
+  pub turned : r ≡ 0 → Turned m m′
   pub refused : (r ≡ 0 → ⊥) → m′ ≡ m
   pub ledger : SameLedger m m′
   pub kept : Kept m′
@@ -151,5 +154,6 @@ pub record Advanced (m : List ℕ) (ns : List Snap) (m′ : List ℕ) (r : ℕ) 
   pub number : r ≡ play (rowsOf m) (stateOf m) (stateOf m) ns .number
   pub state : stateOf m′ ≡ play (rowsOf m) (stateOf m) (stateOf m) ns .state
   pub book : bookOf m′ ≡ bookOf m
+  pub turned : r ≡ 0 → Turned m m′
   pub refused : (r ≡ 0 → ⊥) → m′ ≡ m
   pub ledger : SameLedger m m′

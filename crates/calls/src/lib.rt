@@ -6,7 +6,8 @@ ghost use Prim.Native.Nat.{_≤_, max};
 ghost use lib.ListN.{length, getD};
 ghost use lib.Dec.{ltb};
 ghost use borrow.Rule.Slice.PartMut.{putMid};
-ghost use Rattle.numset.specs.Runs.{kept, pack, runs};
+ghost use Rattle.numset.specs.Runs.{kept};
+ghost use Rattle.ring.specs.Ring.{ringed, rolled, turnAfter};
 ghost use Rattle.pmtl.specs.Book.{some};
 ghost use Rattle.pmtl.specs.Monitor.{fullest};
 ghost use Rattle.pmtl.specs.Calls.{Call, timeRefusal, stateRefusal};
@@ -41,7 +42,7 @@ use planning::stop_of;
 // Changes the set of a slot among a monitor's words, by a range's start and stop and the clock. No part can be taken of an array.
 fn change_set(words: &mut [u64], slot: usize, mode: u8, start: u64, stop: u64, clock: u64)
     requires { ⌜ Roomy (now words) mode start stop clock slot ⌝ }
-    ensures { λ _. ⌜ now (words .exit) ≡ putMid (setStart slot) SET (now (words .entry)) (pack SET (changed mode start stop clock (runs (slotWords (now (words .entry)) slot)))) ⌝ }
+    ensures { λ _. ⌜ now (words .exit) ≡ putMid (setStart slot) SET (now (words .entry)) (rolled (turnAfter clock (slotWords (now (words .entry)) slot)) (changed mode start stop clock (ringed (slotWords (now (words .entry)) slot)))) ⌝ }
 {
     let from = memory::SETS + memory::SET * slot;
     let to = from + memory::SET;
@@ -51,17 +52,17 @@ fn change_set(words: &mut [u64], slot: usize, mode: u8, start: u64, stop: u64, c
 // Drops from the set of a slot what ended before the clock: all that is left to do where the set stays and nothing is added.
 fn drop_from(words: &mut [u64], slot: usize, clock: u64)
     requires { ⌜ Held (now words) slot ⌝ }
-    ensures { λ _. ⌜ now (words .exit) ≡ putMid (setStart slot) SET (now (words .entry)) (pack SET (kept clock (runs (slotWords (now (words .entry)) slot)))) ⌝ }
+    ensures { λ _. ⌜ now (words .exit) ≡ putMid (setStart slot) SET (now (words .entry)) (rolled (turnAfter clock (slotWords (now (words .entry)) slot)) (kept clock (ringed (slotWords (now (words .entry)) slot)))) ⌝ }
 {
     let from = memory::SETS + memory::SET * slot;
     let to = from + memory::SET;
-    numset::drop_before(&mut words[from..to], clock);
+    ring::drop_before(&mut words[from..to], clock);
 }
 
 // Changes one set. One that stays loses what ended before the clock, so no slot is passed over.
 fn commit_slot(monitor: &mut [u64; SIZE], clock: u64, slot: usize, mode: u8)
     requires { ⌜ Fit (now monitor) clock mode slot ⌝ }
-    ensures { λ _. ⌜ now (monitor .exit) ≡ putMid (setStart slot) SET (now (monitor .entry)) (pack SET (setAfter (now (monitor .entry)) clock mode slot)) ⌝ }
+    ensures { λ _. ⌜ now (monitor .exit) ≡ putMid (setStart slot) SET (now (monitor .entry)) (rolled (turnAfter clock (slotWords (now (monitor .entry)) slot)) (setAfter (now (monitor .entry)) clock mode slot)) ⌝ }
 {
     if mode == set_change::STAYS {
         drop_from(monitor, slot, clock);
@@ -76,7 +77,7 @@ fn commit_slot(monitor: &mut [u64; SIZE], clock: u64, slot: usize, mode: u8)
 // Changes the sets as planned.
 fn commit(monitor: &mut [u64; SIZE], clock: u64, modes: &[u8; MOST_TEMPORALS])
     requires { ⌜ Fitting (now monitor) clock (now modes) ⌝ }
-    ensures { λ _. ⌜ Written (now (monitor .entry)) (λ j. setAfter (now (monitor .entry)) clock (getD (now (modes .entry)) j 0) j) (temporals (now (monitor .entry))) (now (monitor .exit)) ⌝ }
+    ensures { λ _. ⌜ Written (now (monitor .entry)) clock (λ j. setAfter (now (monitor .entry)) clock (getD (now (modes .entry)) j 0) j) (temporals (now (monitor .entry))) (now (monitor .exit)) ⌝ }
 {
     let count = memory::temporal_count(monitor);
     let mut slot = 0;

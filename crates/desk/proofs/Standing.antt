@@ -7,24 +7,27 @@ use mathlib.Core.List.{List, [], _∷_}
 use lib.ListN.{length, getD, set, take, drop, replicate, length-replicate}
 use lib.Seq.{sets, length-sets, take-nil, take-set-lt, getD-take}
 use lib.Dec.{eqb}
-use borrow.Author.Tests.{lt-ltb, le-ltb}
+use borrow.Author.Tests.{lt-ltb, le-ltb, eqb-true}
 use Rattle.numbers.specs.Limits.{MOST-KITS}
 use Rattle.numbers.specs.Refusals.{ACCEPTED, UNKNOWN-BARCODE}
 use Rattle.lists.specs.Lists.{listed, part}
 use Rattle.pmtl.specs.declared.Answer.{Answer}
 use Rattle.pmtl.specs.Answer.{isFalse}
 use Rattle.pmtl.specs.Book.{Rows, Book}
-use Rattle.pmtl.specs.Monitor.{State, initial}
+use Rattle.pmtl.specs.Monitor.{State, initial, stepBy}
 use Rattle.pmtl.specs.Calls.{Call, stamped, state, Outcome, call}
-use Rattle.pmtl.proofs.Calls.{refused-stays}
+use Rattle.pmtl.proofs.Calls.{refused-stays, steps, call-accepts, accepts-call}
 use Rattle.ledger.specs.Ledger.{blankLedger, next, ledgerFrom}
-use Rattle.memory.specs.Memory.{bookOf, stateOf, ledgerOf}
+use Rattle.ring.specs.Ring.{turnAfter}
+use Rattle.memory.specs.Memory.{begunWord, clockOf, slotWords, bookOf, stateOf, ledgerOf}
 use Rattle.memory.specs.Kept.{Kept}
+use Rattle.memory.proofs.Same.{same-temporals}
 use Rattle.book.specs.declared.loading.Loading.the-variants.{Strict}
 use Rattle.book.specs.Judging.{Loaded}
 use Rattle.book.specs.Loading.{loadedBy}
 use Rattle.loader.specs.Loading.{Loads}
-use Rattle.calls.specs.Called.{Called}
+use Rattle.calls.specs.Called.{Turned, Called}
+use Rattle.calls.proofs.Stood.{turned-still}
 use Rattle.trees.proofs.Built.{take-sets}
 use Rattle.desk_rules.specs.Scans.{Kit, Scan, codes, windows, openNumber, deskOf, Fine}
 use Rattle.desk_rules.specs.Rows.{deskRows, deskBook}
@@ -85,6 +88,7 @@ set-up kits fine words w end m r e p l =
     record {
       book = l .book ∙ ap (λ (x : Loaded). x .book) said;
       state = l .state ∙ ap (λ (x : Loaded). initial (x .book .rows)) said;
+      turns = l .turns;
       ledger = l .ledger ∙ ap (λ (x : Loaded). blankLedger (x .book)) said;
       kept = l .kept;
     }
@@ -106,7 +110,7 @@ opened kits table m r desk e n t s =
       ledger = s .ledger ∙ ap (λ ks. blankLedger (deskBook (windows ks))) e;
       kept = s .kept;
     } in
-    record { number = n; after = after; stands = record { kits = kits; scans = []; after = after } }
+    record { number = n; after = after; turns = s .turns; stands = record { kits = kits; scans = []; after = after } }
 
 pub opened-none : (words : List ℕ) (n : ℕ) (table m : List ℕ) (r : ℕ) → r ≡ openNumber (kitsIn words n) → ¬ (r ≡ 0) → table ≡ tableOf (kitsIn words 0)
     → SetUp (kitsIn words 0) m → Opens (kitsIn words n) table m r
@@ -135,6 +139,30 @@ off-is width bytes h e = e ∙ take-zeros width MOST-BARCODES h
 on-is : (width place : ℕ) (bytes : List ℕ) → width ≤ MOST-BARCODES → place < width → bytes ≡ take width (set (replicate MOST-BARCODES 0) place 1) → bytes ≡ oneOn width place
 on-is width place bytes h l e = e ∙ take-set-lt width (replicate MOST-BARCODES 0) place 1 l ∙ ap (λ (xs : List ℕ). set xs place 1) (take-zeros width MOST-BARCODES h)
 
+-- ---- a stamped call and a state call at its clock: the second finds nothing that lapsed
+stamped-begun : (b : Rows) (st : State) (t : ℕ) (bytes : List ℕ) → call b st (stamped t bytes) .number ≡ 0 → call b st (stamped t bytes) .state .begun ≡ true
+unfolding steps stepBy
+stamped-begun b st t bytes e = ap (λ (o : Outcome). o .state .begun) (accepts-call b st (stamped t bytes) (call-accepts b st (stamped t bytes) e))
+
+state-clock : (b : Rows) (st : State) (bytes : List ℕ) → call b st (state bytes) .number ≡ 0 → call b st (state bytes) .state .now .clock ≡ st .now .clock
+unfolding steps stepBy
+state-clock b st bytes e = ap (λ (o : Outcome). o .state .now .clock) (accepts-call b st (state bytes) (call-accepts b st (state bytes) e))
+
+turned-on : (m m₁ m₂ : List ℕ) (t : ℕ) (on off : List ℕ) (r q : ℕ) → Called (stamped t on) m m₁ r → r ≡ 0 → Called (state off) m₁ m₂ q → q ≡ 0 → Turned m m₂
+unfolding stateOf
+turned-on m m₁ m₂ t on off r q c z d y =
+    let begun : begunWord m₁ ≡ 1 = eqb-true (begunWord m₁) 1 (ap (λ (st : State). st .begun) (c .state) ∙ stamped-begun (bookOf m .rows) (stateOf m) t on (sym (c .number) ∙ z)) in
+    let clock : clockOf m₂ ≡ clockOf m₁ = ap (λ (st : State). st .now .clock) (d .state) ∙ state-clock (bookOf m₁ .rows) (stateOf m₁) off (sym (d .number) ∙ y) in
+    let slots = same-temporals m₂ m₁ (d .kept .sound) (c .kept .sound) (d .book) in
+    record {
+      turns = λ j h.
+          d .turned y .turns j h
+          ∙ ap (λ (x : ℕ). turnAfter x (slotWords m₁ j)) clock
+          ∙ sym (turned-still (c .kept) begun m₁ (λ i l. refl) .turns j (omega arith))
+          ∙ c .turned z .turns j (omega arith)
+          ∙ ap (λ (x : ℕ). turnAfter x (slotWords m j)) (sym clock);
+    }
+
 module _ (m : List ℕ) (t width place : ℕ) (ready : Ready m t width place) (here : place < width) where
   abbrev b : Rows
   b = bookOf m .rows
@@ -155,6 +183,7 @@ module _ (m : List ℕ) (t width place : ℕ) (ready : Ready m t width place) (h
         number = k ∙ sym (ap (λ (x : Outcome). x .number) o);
         state = c .state ∙ ap (λ (x : Outcome). x .state) made ∙ refused-stays b (stateOf m) (stamped t (oneOn width place)) out ∙ sym (ap (λ (x : Outcome). x .state) o);
         book = c .book;
+        turned = λ z. absurd (n z);
         ledger = c .ledger ∙ ap (λ (x : Outcome). next (bookOf m) x (ledgerOf m)) made ∙ sym (one-counted (bookOf m) width (stateOf m) (ledgerOf m) t place out);
         unknown = λ z. absurd (omega (arith, call-small b (stateOf m) (stamped t (oneOn width place))));
         refused = λ h known. c .refused h;
@@ -180,6 +209,7 @@ module _ (m : List ℕ) (t width place : ℕ) (ready : Ready m t width place) (h
         number = zero ∙ sym (ap (λ (x : Outcome). x .number) o);
         state = d .state ∙ ap (λ (x : Outcome). x .state) second ∙ sym (ap (λ (x : Outcome). x .state) o);
         book = d .book ∙ c .book;
+        turned = λ h. turned-on m m₁ m₂ t on off r q c z d zero;
         ledger = d .ledger ∙ rw (second, c .book, j) (sym (both-counted (bookOf m) width (stateOf m) (ledgerOf m) t place (sym k ∙ z)));
         unknown = λ h. absurd (omega (arith, zero));
         refused = λ n known. absurd (n zero);
@@ -211,7 +241,7 @@ scanned-unknown m t width place h k =
     UNKNOWN-BARCODE
     (rw (le-ltb place width h, scannedAt))
     (sym (unknown-calls (bookOf m .rows) width (stateOf m) t place h))
-    (record { number = refl; state = refl; book = refl; ledger = refl; unknown = λ e. refl; refused = λ n known. absurd (known refl); kept = k })
+    (record { number = refl; state = refl; book = refl; turned = λ z. absurd (let e : _≡_ {A = ℕ} UNKNOWN-BARCODE 0 = z in omega arith); ledger = refl; unknown = λ e. refl; refused = λ n known. absurd (known refl); kept = k })
 
 -- ---- a scan at a desk
 place-inside : (c : ℕ) (xs : List ℕ) → placeOf c xs ≤ length xs

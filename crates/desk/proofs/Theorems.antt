@@ -1,18 +1,21 @@
 -- What opening a desk and scanning at it promise, over any kits and any list of scans, the newest first, refused ones among them: the statement of the
 -- desk, in its own terms, of the answers and slips that the code hands back. `deskOf kits` is the desk: where the kits are refused it has none.
 -- Nothing is assumed.
-use Prim.Native.Nat.{ℕ, _<_}
+use Prim.Native.Nat.{ℕ, _≤_, _<_}
 use native.Mathlib.Omega.{arith}
-use mathlib.Core.Path.{_≡_, refl, sym, ap, _∙_}
-use mathlib.Core.Logic.{_↔_}
+use mathlib.Core.Path.{_≡_, refl, sym, ap, subst, _∙_}
+use mathlib.Core.Logic.{_↔_, ⊎-elim}
 use mathlib.Core.Bool.{Bool, true, false, cond, not}
 use mathlib.Core.List.{List}
 use lib.ListN.{length}
 use borrow.Author.Tests.{not-false}
-use Rattle.lists.proofs.Tests.{fails-by, not-no}
+use Rattle.lists.proofs.Tests.{lt-or-ge, fails-by, not-no}
 use Rattle.pmtl.specs.declared.Answer.the-variants.{False, Open}
 use Rattle.numbers.specs.Refusals.{ACCEPTED, UNKNOWN-BARCODE}
-use Rattle.memory.proofs.Same.{same-words}
+use Rattle.pmtl.specs.Calls.{Call, Outcome}
+use Rattle.ring.specs.Ring.{turnAfter}
+use Rattle.memory.specs.Memory.{slotWords}
+use Rattle.memory.proofs.Same.{same-temporals, same-words, clock-in}
 use Rattle.notes.specs.Noting.{numbered}
 use Rattle.property_answers.specs.Verdict.{verdictOf}
 use Rattle.desk_rules.specs.Scans.{Kit, kitAt, Scan, deskOf, stopped, scanNumber, taken}
@@ -21,8 +24,9 @@ use Rattle.desk_rules.proofs.Words.{stopped-iff}
 use Rattle.desk_rules.proofs.Places.{codes-length}
 use Rattle.desk_rules.proofs.Theorems.{Few, few-numbers, scan-number as number-in-desk-terms}
 use Rattle.desk.specs.declared.Scanned.{Scanned}
-use Rattle.desk.specs.Standing.{kitCount, Stands, Scans, slipFor, kitOf}
+use Rattle.desk.specs.Standing.{kitCount, Stands, Leaves, Scans, slipFor, kitOf}
 use Rattle.desk.specs.Made.{Made}
+use Rattle.desk.specs.Made.Made.{opens, scans}
 use Rattle.desk.proofs.Standing.{after-codes, after-count}
 use Rattle.desk.proofs.Holding.{made-after, value-is, settled-is}
 
@@ -85,18 +89,47 @@ module _ {kits : List Kit} {es : List Scan} {table m : List ℕ} (made : Made ki
     refused-changes-nothing-else = s .leaves .refused
 
 -- ---- what is allowed for one input coincides
--- kits opened and any list of scans leave one table and one memory
-pub made-unique : {kits : List Kit} {es : List Scan} {table table′ m m′ : List ℕ} → Made kits es table m → Made kits es table′ m′ → (table ≡ table′) × (m ≡ m′)
-made-unique {m = m} {m′} made made′ =
-    let a = made-after made in
-    let b = made-after made′ in
-    (a .barcodes ∙ sym (b .barcodes), same-words m m′ (a .kept) (b .kept) (a .book ∙ sym (b .book)) (a .state ∙ sym (b .state)) (a .ledger ∙ sym (b .ledger)))
-
 -- a scan at a desk has one answer and leaves one memory
+leaves-unique : {o : Outcome} {ks : List Call} (m m₁ m₂ : List ℕ) (r q : ℕ) → Leaves o ks m m₁ r → Leaves o ks m m₂ q → m₁ ≡ m₂
+leaves-unique m m₁ m₂ r q x y =
+    let number : r ≡ q = x .number ∙ sym (y .number) in
+    let book = x .book ∙ sym (y .book) in
+    let state = x .state ∙ sym (y .state) in
+    ⊎-elim
+    (λ (z : r < 1).
+    let slots = same-temporals m₁ m₂ (x .kept .sound) (y .kept .sound) book in
+    same-words m₁ m₂ (x .kept) (y .kept) book state
+    (λ j h.
+    x .turned (omega arith) .turns j h ∙ ap (λ (c : ℕ). turnAfter c (slotWords m j)) (clock-in m₁ m₂ state) ∙ sym (y .turned (omega arith) .turns j (omega arith)))
+    (x .ledger ∙ sym (y .ledger)))
+    (λ (z : 1 ≤ r).
+    ⊎-elim
+    (λ (known : r < UNKNOWN-BARCODE). x .refused (omega arith) (omega arith) ∙ sym (y .refused (omega arith) (omega arith)))
+    (λ (over : UNKNOWN-BARCODE ≤ r).
+    ⊎-elim
+    (λ (more : UNKNOWN-BARCODE < r). x .refused (omega arith) (omega arith) ∙ sym (y .refused (omega arith) (omega arith)))
+    (λ (unknown : r ≤ UNKNOWN-BARCODE). x .unknown (omega arith) ∙ sym (y .unknown (omega arith)))
+    (lt-or-ge UNKNOWN-BARCODE r))
+    (lt-or-ge r UNKNOWN-BARCODE))
+    (lt-or-ge r 1)
+
 pub scan-unique : {e : Scan} {table m m₁ m₂ : List ℕ} {r q : Scanned} → Scans e table m m₁ r → Scans e table m m₂ q → (r .number ≡ q .number) × (r .slip ≡ q .slip) × (m₁ ≡ m₂)
-scan-unique {e} {table} {m} {m₁} {m₂} s t =
+scan-unique {e} {table} {m} {m₁} {m₂} {r} {q} s t =
     let x = s .leaves in
     let y = t .leaves in
-    let same : m₁ ≡ m₂ = same-words m₁ m₂ (x .kept) (y .kept) (x .book ∙ sym (y .book)) (x .state ∙ sym (y .state)) (x .ledger ∙ sym (y .ledger)) in
+    let same = leaves-unique m m₁ m₂ (r .number) (q .number) x y in
     let kit = kitOf table e in
     (x .number ∙ sym (y .number), s .slip ∙ ap (λ m′. slipFor kit (verdictOf m kit .settled) (verdictOf m′ kit .settled)) same ∙ sym (t .slip), same)
+
+-- kits opened and any list of scans leave one table and one memory
+pub made-unique : {kits : List Kit} {es : List Scan} {table table′ m m′ : List ℕ} → Made kits es table m → Made kits es table′ m′ → (table ≡ table′) × (m ≡ m′)
+made-unique {m = m} {m′} (opens o) (opens p) =
+    let a = o .after in
+    let b = p .after in
+    let few = a .kept .sound .book .temporal-few in (
+      a .barcodes ∙ sym (b .barcodes),
+      same-words m m′ (a .kept) (b .kept) (a .book ∙ sym (b .book)) (a .state ∙ sym (b .state)) (λ j h. o .turns j (omega arith) ∙ sym (p .turns j (omega arith))) (a .ledger ∙ sym (b .ledger)),
+    )
+made-unique {table = table} {table′} {m} {m′} (scans e made s) (scans _ {m = n} {r = q} made′ t) =
+    let before = made-unique made made′ in
+    (before .0, scan-unique s (subst (λ (x : List ℕ). Scans e table x m′ q) (sym (before .1)) (subst (λ (x : List ℕ). Scans e x n m′ q) (sym (before .0)) t)) .2)

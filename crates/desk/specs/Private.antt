@@ -1,14 +1,14 @@
 -- What the desk's own functions owe each other. Definitions only.
-use Prim.Native.Nat.{ℕ, _+_, _*_, _≤_}
+use Prim.Native.Nat.{ℕ, _+_, _*_, _≤_, _<_}
 use mathlib.Core.Path.{_≡_}
 use mathlib.Core.List.{List}
 use lib.ListN.{length, take}
-use Rattle.numbers.specs.Limits.{ROW-WORDS, MOST-KITS}
+use Rattle.numbers.specs.Limits.{ROW-WORDS, MOST-KITS, MOST-TEMPORALS}
 use Rattle.numbers.specs.Refusals.{ACCEPTED}
 use Rattle.pmtl.specs.Monitor.{initial}
 use Rattle.pmtl.specs.Calls.{stamped, state, call}
 use Rattle.ledger.specs.Ledger.{blankLedger}
-use Rattle.memory.specs.Memory.{bookOf, stateOf, ledgerOf}
+use Rattle.memory.specs.Memory.{turnAt, bookOf, stateOf, ledgerOf}
 use Rattle.memory.specs.Kept.{Kept}
 use Rattle.desk_rules.specs.Scans.{Kit, windows}
 use Rattle.desk_rules.specs.Rows.{KIT-ROWS, KIT-OPERANDS, deskRows, deskBook}
@@ -28,10 +28,11 @@ pub record BookPut (ws m : List ℕ) (end : ℕ) : Type 0 where
   pub inside : end ≤ length m
   pub are : take end m ≡ bookWords ws
 
--- the memory holds a fresh monitor of the book of a desk of kits, and a blank ledger
+-- the memory holds a fresh monitor of the book of a desk of kits, whose rings begin at their first places, and a blank ledger
 pub record SetUp (kits : List Kit) (m : List ℕ) : Type 0 where
   pub book : bookOf m ≡ deskBook (windows kits)
   pub state : stateOf m ≡ initial (deskRows (windows kits))
+  pub turns : (j : ℕ) → j < MOST-TEMPORALS → turnAt m j ≡ 0
   pub ledger : ledgerOf m ≡ blankLedger (deskBook (windows kits))
   pub kept : Kept m
 

@@ -1,19 +1,21 @@
 -- What a desk's memory holds, and what opening it and scanning at it owe. Definitions only.
-use Prim.Native.Nat.{ℕ, _+_, _/_}
+use Prim.Native.Nat.{ℕ, _+_, _/_, _<_}
 use mathlib.Core.Path.{_≡_}
 use mathlib.Core.Bool.{cond}
 use mathlib.Core.List.{List, [], _∷_}
 use lib.ListN.{length, getD, replicate}
 use lib.Seq.{sets}
+use Rattle.numbers.specs.Limits.{MOST-TEMPORALS}
 use Rattle.numbers.specs.Refusals.{ACCEPTED, UNKNOWN-BARCODE}
 use Rattle.lists.specs.Lists.{part}
 use Rattle.pmtl.specs.declared.Answer.{Answer}
 use Rattle.pmtl.specs.Answer.{isFalse}
 use Rattle.pmtl.specs.Calls.{Call, Outcome}
 use Rattle.ledger.specs.Ledger.{ledgerFrom}
-use Rattle.memory.specs.Memory.{bookOf, stateOf, ledgerOf}
+use Rattle.memory.specs.Memory.{turnAt, bookOf, stateOf, ledgerOf}
 use Rattle.memory.specs.Kept.{Kept}
 use Rattle.notes.specs.Noting.{numbered}
+use Rattle.calls.specs.Called.{Turned}
 use Rattle.property_answers.specs.Verdict.{verdictOf}
 use Rattle.desk_rules.specs.Scans.{Kit, Scan, codes, windows, openNumber, deskOf}
 use Rattle.desk_rules.specs.Rows.{KIT-ATOMS, deskBook}
@@ -56,10 +58,11 @@ pub record Stands (table m : List ℕ) : Type 0 where
   pub after : After kits scans table m
 
 -- ---- what is owed
--- opening a desk of kits handed back r: the desk has had no scan; a refused one has no kit
+-- opening a desk of kits handed back r: the desk has had no scan, and its monitor's rings begin at their first places; a refused one has no kit
 pub record Opens (kits : List Kit) (table m : List ℕ) (r : ℕ) : Type 0 where
   pub number : r ≡ openNumber kits
   pub after : After kits [] table m
+  pub turns : (j : ℕ) → j < MOST-TEMPORALS → turnAt m j ≡ 0
   pub stands : Stands table m
 
 -- where a scan has this outcome and makes these calls, it handed back r and left m′ of m; an unknown barcode changed nothing, and what else is refused is
@@ -69,6 +72,7 @@ pub record Leaves (o : Outcome) (calls : List Call) (m m′ : List ℕ) (r : ℕ
   pub state : stateOf m′ ≡ o .state
   pub book : bookOf m′ ≡ bookOf m
   pub ledger : ledgerOf m′ ≡ ledgerFrom (bookOf m) (stateOf m) (ledgerOf m) calls
+  pub turned : r ≡ ACCEPTED → Turned m m′
   pub unknown : r ≡ UNKNOWN-BARCODE → m′ ≡ m
   pub refused : (r ≡ ACCEPTED → ⊥) → (r ≡ UNKNOWN-BARCODE → ⊥) → m′ ≡ numbered m
   pub kept : Kept m′

@@ -13,10 +13,12 @@ use Rattle.pmtl.specs.Monitor.{setAt, fullest, value}
 use Rattle.pmtl.specs.Early.{early}
 use Rattle.pmtl.specs.Settled.{settled}
 use Rattle.pmtl.specs.Calls.{Call, call, afterIn}
+use Rattle.pmtl.specs.Kept.{NoneBefore}
 use Rattle.pmtl.specs.Meaning.{instants, meaning}
 use Rattle.pmtl.specs.Past.{run, held, SomeCall, SinceCall}
 use Rattle.pmtl.specs.Strict.{Strict}
 use Rattle.pmtl.proofs.Calls.{trail}
+use Rattle.pmtl.proofs.Kept as keeps
 use Rattle.pmtl.proofs.Theorems as plain
 use Rattle.pmtl.proofs.Strict as strictly
 use Rattle.lasts.specs.Flat.{Fit}
@@ -45,6 +47,11 @@ pub sets-are-instants : (way : Way) (b : Rows) → Fit way b → (calls : List C
     → has (setAt (afterIn way b calls) r) t ≡ instants (mapRow (meaning b) (rowAt b r)) (historyIn way b calls) t
 sets-are-instants ordinary b fit calls r t = plain.sets-are-instants b (fit .ordered) calls r t
 sets-are-instants lasting b fit calls r t = lasts.sets-are-instants b (fit .taken refl) calls r t
+
+-- and no run that ends before it
+pub no-older-run : (way : Way) (b : Rows) → Fit way b → (calls : List Call) (r : ℕ) → NoneBefore (afterIn way b calls .now .clock) (setAt (afterIn way b calls) r)
+no-older-run ordinary b fit calls r = keeps.no-older-run b calls r
+no-older-run lasting b fit calls r = lasts.no-older-run b (fit .taken refl) calls r
 
 -- DEMAND 2: a row's value is what the row means on the history of the way
 pub demand-2 : (way : Way) (b : Rows) → Fit way b → (calls : List Call) (r : ℕ) → value b (afterIn way b calls) r ≡ meaning b r (historyIn way b calls)

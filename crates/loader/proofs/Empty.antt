@@ -1,11 +1,12 @@
 -- A memory of zeros but for the word of its way is sound, and holds the empty book and its first state in that way. Assumes nothing.
 use Prim.Native.Nat.{ℕ, _+_, _≤_, _<_}
-use mathlib.Core.Path.{_≡_, _∙_}
+use mathlib.Core.Path.{_≡_, ap, _∙_}
 use mathlib.Core.List.{List, []}
 use native.Mathlib.Omega.{arith}
 use lib.ListN.{length, getD, set, replicate, length-set, length-replicate}
 use lib.Seq.{getD-set-same, getD-set-other}
-use Rattle.numset.proofs.Packs.{good-zeros}
+use Rattle.ring.specs.Ring.{turnOf}
+use Rattle.ring.proofs.Again.{zeros-ring}
 use Rattle.pmtl.specs.Book.{emptyBook, widthOf}
 use Rattle.pmtl.specs.Sets.{Way, ordinary, lasting}
 use Rattle.pmtl.specs.Monitor.{initialIn}
@@ -87,7 +88,7 @@ module _ (way : Way) (m : List ℕ) (long : length m ≡ SIZE) (word : wayWord m
         begun = omega (arith, head 1 (omega arith));
         clock = omega (arith, head 2 (omega arith));
         atoms = λ i h. absurd (omega (arith, head 3 (omega arith)));
-        sets = λ j h. rw (no-sets j h) (good-zeros SET (omega arith));
+        sets = λ j h. rw (no-sets j h) zeros-ring;
       }
 
   empty-unused : Unused m
@@ -102,7 +103,7 @@ module _ (way : Way) (m : List ℕ) (long : length m ≡ SIZE) (word : wayWord m
   empty-state = rw (way-read way m word, head 0 (omega arith), head 1 (omega arith), head 2 (omega arith), head 3 (omega arith), listed)
 
   empty-holds : Holds way emptyBook m
-  empty-holds = record { book = empty-book; state = empty-state; sound = empty-sound; unused = empty-unused; blank = λ i h. rest i (omega arith) }
+  empty-holds = record { book = empty-book; state = empty-state; sound = empty-sound; unused = empty-unused; turns = λ j h. ap turnOf (no-sets j h); blank = λ i h. rest i (omega arith) }
 
 -- ---- what `store_empty` writes
 pub emptied-holds : (way : Way) (m : List ℕ) {m₁ : List ℕ} {word : ℕ} → length m ≡ SIZE → m₁ ≡ replicate (length m) 0 → word ≡ wordFor way → Holds way emptyBook (set m₁ 7 word)

@@ -9,9 +9,9 @@ use native.Mathlib.Nat.{add-zero}
 use lib.ListN.{length, getD, drop, replicate, length-append, length-drop, List·getD-append, List·getD-eq-default}
 use lib.Seq.{getD-drop, getD-append-add}
 use borrow.Author.Tests.{le-leb, lt-leb, eq-eqb}
-use Rattle.numset.specs.Runs.{runs, runsTo}
 use Rattle.lists.proofs.Tests.{lt-or-ge}
-use Rattle.numset.proofs.Packs.{good-zeros}
+use Rattle.ring.specs.Ring.{turnOf}
+use Rattle.ring.proofs.Again.{zeros-ring, zeros-runs}
 use Rattle.pmtl.specs.Book.{widthOf}
 use Rattle.pmtl.specs.Sets.{Way}
 use Rattle.pmtl.specs.Monitor.{initialIn}
@@ -52,10 +52,6 @@ module _ (s : Sections) (ok : Accepted s) where
       let e : i ≡ length (s .assumes) + k = omega arith in
       rw (e, getD-append-add (s .assumes) (s .guarantees) k 0) (guarantee-below s (ok .good) k (omega arith)))
       (lt-or-ge i (length (s .assumes)))
-
-runs-zeros : (n : ℕ) → runs (replicate (suc n) 0) ≡ []
-unfolding runsTo
-runs-zeros n = refl
 
 module _ (way : Way) (s : Sections) (m : List ℕ) (ok : Accepted s) (st : Stands way s m) where
   few : rowsIn s ≤ 128
@@ -178,7 +174,7 @@ module _ (way : Way) (s : Sections) (m : List ℕ) (ok : Accepted s) (st : Stand
       (λ k.
       let q = slot-fits (s .rows) r (rowsIn s) h k in
       let t = room in
-      rw (le-leb 7 (kindIn (s .rows) r) k, slot-some r h k, no-sets (temporalsIn (s .rows) r) (omega arith)) (runs-zeros 128))
+      rw (le-leb 7 (kindIn (s .rows) r) k, slot-some r h k, no-sets (temporalsIn (s .rows) r) (omega arith)) zeros-runs)
       (lt-or-ge (kindIn (s .rows) r) 7))
 
   holds-state : stateOf m ≡ initialIn way (bookIn s .rows)
@@ -267,7 +263,7 @@ module _ (way : Way) (s : Sections) (m : List ℕ) (ok : Accepted s) (st : Stand
           begun = omega (arith, st .begun);
           clock = omega (arith, st .clock);
           atoms = λ i h. omega (arith, st .width, st .atom i (omega (arith, st .width)));
-          sets = λ j h. rw (no-sets j h) (good-zeros SET (omega arith));
+          sets = λ j h. rw (no-sets j h) zeros-ring;
         };
         unused = record {
           values = λ r p q. zero-from (VALUES + r) (omega arith);
@@ -277,6 +273,7 @@ module _ (way : Way) (s : Sections) (m : List ℕ) (ok : Accepted s) (st : Stand
           moves = λ r p q. zero-from (MOVES + r) (omega arith);
           lowest = λ r p q. zero-from (LOWEST + r) (omega arith);
         };
+        turns = λ j h. ap turnOf (no-sets j h);
         blank = λ i h. zero-from i (omega arith);
       }
 

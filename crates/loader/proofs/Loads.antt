@@ -7,13 +7,14 @@ use lib.ListN.{getD}
 use Rattle.pmtl.specs.Book.{Book, emptyBook}
 use Rattle.pmtl.specs.Sets.{Way}
 use Rattle.pmtl.specs.Monitor.{State, initialIn}
+use Rattle.ring.specs.Ring.{turnOf}
 use Rattle.pmtl.specs.Again.{Rests}
 use Rattle.memory.specs.Layout.{LEDGER}
 use Rattle.memory.specs.Memory.{rowsOf, bookOf, wayOf, stateOf}
 use Rattle.memory.specs.Kept.{Sound, Awaited}
 use Rattle.memory.specs.Tables.{Tables}
 use Rattle.memory.specs.Alike.{Alike, SameLedger}
-use Rattle.memory.proofs.Alike.{alike-sound, alike-book, alike-state}
+use Rattle.memory.proofs.Alike.{alike-sound, alike-book, alike-set, alike-state}
 use Rattle.ledger.specs.Ledger.{blankLedger}
 use Rattle.book.specs.declared.loading.Loading.{Loading}
 use Rattle.book.specs.Judging.{Loaded, bookIn, loaded}
@@ -75,6 +76,7 @@ worked way {m′ = m′} h alike tables same awaited words is eb er =
       number = rw is er;
       book = rw is (worked-book h alike ∙ eb);
       state = rw is (worked-state h alike ∙ ap (λ (x : Book). initialIn (wayIn way) (x .rows)) eb);
+      turns = λ j p. ap turnOf (alike-set (h .sound) alike j p) ∙ h .turns j p;
       ledger = rw is (ledger-blank (sound .book) blank ∙ ap blankLedger (worked-book h alike ∙ eb));
       kept = record { sound = sound; tables = tables; ledger = kept-blank (sound .book) blank; rests = worked-rests h alike; awaited = awaited };
     }

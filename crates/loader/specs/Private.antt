@@ -12,7 +12,7 @@ use Rattle.pmtl.specs.Monitor.{initialIn}
 use Rattle.memory.specs.Layout.{ROWS, ROW, OPERANDS, PROPERTIES, OWNERS, SIZE, ASSUMES, GUARANTEES, ROW-COUNT, TEMPORALS, WIDTH, WAY, LEDGER}
 use Rattle.book.specs.Rows.{temporal, ATOM}
 use Rattle.lists.specs.Lists.{put}
-use Rattle.memory.specs.Memory.{bookOf, stateOf}
+use Rattle.memory.specs.Memory.{turnAt, bookOf, stateOf}
 use Rattle.numbers.specs.Limits.{ROW-WORDS, MOST-OPERANDS, MOST-ROWS, MOST-TEMPORALS}
 use Rattle.book.specs.Reading.{Sections}
 use Rattle.book.specs.Judging.{kindIn, argIn, lowerIn, upperIn, rowsIn, temporalsIn, startIn, argGood, judged, loaded}
@@ -98,6 +98,7 @@ pub record Holds (way : Way) (b : Book) (m : List ℕ) : Type 0 where
   pub state : stateOf m ≡ initialIn way (b .rows)
   pub sound : Sound m
   pub unused : Unused m
+  pub turns : (j : ℕ) → j < MOST-TEMPORALS → turnAt m j ≡ 0
   pub blank : (i : ℕ) → LEDGER ≤ i → getD m i 0 ≡ 0
 
 -- that of words, accepted or refused as far as the words alone tell, and the number that is handed back

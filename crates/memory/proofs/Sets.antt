@@ -6,8 +6,9 @@ use mathlib.Core.Path.{_≡_, ap, subst, _∙_}
 use mathlib.Core.Bool.{cond}
 use mathlib.Core.List.{List, []}
 use borrow.Author.Tests.{le-leb, lt-leb}
-use Rattle.numset.specs.Runs.{runs, Canonical}
+use Rattle.numset.specs.Runs.{Canonical}
 use Rattle.numset.proofs.Laws.{good-canonical}
+use Rattle.ring.specs.Ring.{ringed}
 use Rattle.pmtl.specs.Monitor.{setAt}
 use Rattle.lists.proofs.Listed.{listed-at, listed-out}
 use Rattle.memory.specs.Memory.{rowCount, temporals, kindAt, slotAt, ownerAt, slotWords, setOf, stateOf}
@@ -15,12 +16,12 @@ use Rattle.memory.specs.Kept.{Sound}
 
 module _ (m : List ℕ) (kept : Sound m) where
   -- a temporal row's
-  pub owner-set : (j : ℕ) → j < temporals m → setAt (stateOf m) (ownerAt m j) ≡ runs (slotWords m j)
+  pub owner-set : (j : ℕ) → j < temporals m → setAt (stateOf m) (ownerAt m j) ≡ ringed (slotWords m j)
   unfolding stateOf setOf
   owner-set j h =
       listed-at (setOf m) [] (rowCount m) (ownerAt m j) (kept .book .owned j h)
-      ∙ ap (λ b. cond b (runs (slotWords m (slotAt m (ownerAt m j)))) []) (le-leb 7 (kindAt m (ownerAt m j)) (kept .book .temporals-are j h))
-      ∙ ap (λ s. runs (slotWords m s)) (kept .book .slots j h)
+      ∙ ap (λ b. cond b (ringed (slotWords m (slotAt m (ownerAt m j)))) []) (le-leb 7 (kindAt m (ownerAt m j)) (kept .book .temporals-are j h))
+      ∙ ap (λ s. ringed (slotWords m s)) (kept .book .slots j h)
 
   -- any other row has none
   pub no-set : (r : ℕ) → (r < rowCount m → kindAt m r < 7) → setAt (stateOf m) r ≡ []
@@ -28,7 +29,7 @@ module _ (m : List ℕ) (kept : Sound m) where
   no-set r plain = go (decLt r (rowCount m))
     where
       go : Dec (r < rowCount m) → setAt (stateOf m) r ≡ []
-      go (yes h) = listed-at (setOf m) [] (rowCount m) r h ∙ ap (λ b. cond b (runs (slotWords m (slotAt m r))) []) (lt-leb 7 (kindAt m r) (plain h))
+      go (yes h) = listed-at (setOf m) [] (rowCount m) r h ∙ ap (λ b. cond b (ringed (slotWords m (slotAt m r))) []) (lt-leb 7 (kindAt m r) (plain h))
       go (no h) = listed-out (setOf m) [] (rowCount m) r (omega arith)
 
   -- each is canonical
@@ -42,6 +43,6 @@ module _ (m : List ℕ) (kept : Sound m) where
           let inside = row .slot k in
           let few = kept .book .temporal-few in
           subst (λ o. Canonical (setAt (stateOf m) o)) (row .owner k)
-          (rw (owner-set (slotAt m r) inside) (good-canonical (kept .sets (slotAt m r) (omega arith))))
+          (rw (owner-set (slotAt m r) inside) (good-canonical (kept .sets (slotAt m r) (omega arith) .good)))
       go (yes h) (no k) = rw (no-set r (λ _. omega arith)) tt
       go (no h) k = rw (no-set r (λ h′. absurd (h h′))) tt

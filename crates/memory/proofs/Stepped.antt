@@ -5,7 +5,7 @@ use mathlib.Core.Logic.{_⊎_, inl, inr}
 use mathlib.Core.List.{List}
 use native.Mathlib.Omega.{arith}
 use lib.ListN.{length, getD}
-use Rattle.numset.specs.Runs.{Good}
+use Rattle.ring.specs.Ring.{Rolling}
 use Rattle.lists.proofs.Tests.{lt-or-ge}
 use Rattle.numbers.specs.Limits.{LAST-TIME}
 use Rattle.pmtl.specs.Book.{widthOf}
@@ -26,7 +26,7 @@ pub record Stepped (m m′ : List ℕ) : Type 0 where
   pub begun : begunWord m′ ≤ 1
   pub clock : clockOf m′ ≤ LAST-TIME
   pub atoms : (i : ℕ) → i < widthWord m → getD m′ (ATOMS + i) 0 ≤ 1
-  pub sets : (j : ℕ) → j < temporals m → Good (slotWords m′ j)
+  pub sets : (j : ℕ) → j < temporals m → Rolling (slotWords m′ j)
 
 module _ (m m′ : List ℕ) (kept : Sound m) (step : Stepped m m′) where
   few : rowCount m ≤ 128
@@ -188,7 +188,7 @@ module _ (m m′ : List ℕ) (kept : Sound m) (step : Stepped m m′) where
         sets-rest = rw temporals-same (λ j p h. step .sets-same j p h ∙ t .sets-rest j p h);
       }
 
-  set-kept : (j : ℕ) → j < 32 → (j < temporals m) ⊎ (temporals m ≤ j) → Good (slotWords m′ j)
+  set-kept : (j : ℕ) → j < 32 → (j < temporals m) ⊎ (temporals m ≤ j) → Rolling (slotWords m′ j)
   set-kept j h (inl p) = step .sets j p
   set-kept j h (inr p) = rw (step .sets-same j p h) (kept .sets j h)
 

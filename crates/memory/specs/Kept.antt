@@ -5,7 +5,7 @@ use mathlib.Core.Bool.{true}
 use mathlib.Core.List.{List}
 use lib.ListN.{length, getD, replicate}
 use Rattle.numbers.specs.Limits.{MAX, LAST-TIME, MOST-ROWS, MOST-OPERANDS, MOST-ASSUMES, MOST-GUARANTEES, MOST-PROPERTIES, MOST-TEMPORALS, MOST-ATOMS}
-use Rattle.numset.specs.Runs.{Good}
+use Rattle.ring.specs.Ring.{Rolling}
 use Rattle.pmtl.specs.Book.{widthOf}
 use Rattle.pmtl.specs.Again.{Rests}
 use Rattle.pmtl.specs.Quiet.{quietUntil}
@@ -80,7 +80,7 @@ pub record Sound (m : List ℕ) : Type 0 where
   pub begun : begunWord m ≤ 1
   pub clock : clockOf m ≤ LAST-TIME
   pub atoms : (i : ℕ) → i < widthWord m → atomAt m i ≤ 1
-  pub sets : (j : ℕ) → j < MOST-TEMPORALS → Good (slotWords m j)
+  pub sets : (j : ℕ) → j < MOST-TEMPORALS → Rolling (slotWords m j)
 
 -- the ledger: numbers that can stand there, and words not in use are 0
 pub record LedgerKept (m : List ℕ) : Type 0 where

@@ -1,7 +1,7 @@
 -- Where things stand in a monitor's memory: each part begins where the one before it ends. The code has the same names. Definitions only.
 use Prim.Native.Nat.{ℕ, _+_, _*_}
 use Rattle.numbers.specs.Limits.{MOST-ROWS, MOST-OPERANDS, MOST-PROPERTIES, MOST-TEMPORALS, MOST-ATOMS}
-use Rattle.numset.specs.Runs.{SET-WORDS}
+use Rattle.ring.specs.Ring.{RING-WORDS}
 
 -- the head, a word for each: how many rows; whether a call was accepted; the clock; the largest atom plus 1; how many temporal rows, assumes,
 -- guarantees; the way of monitoring
@@ -39,7 +39,7 @@ ROW = 6
 
 -- words of a set
 abbrev pub SET : ℕ
-SET = SET-WORDS
+SET = RING-WORDS
 
 -- the rows
 abbrev pub ROWS : ℕ

@@ -6,7 +6,8 @@ use lib.ListN.{getD, take, drop}
 use lib.Dec.{eqb}
 use Rattle.numbers.specs.Limits.{MOST-OPERANDS}
 use Rattle.lists.specs.Lists.{listed, part}
-use Rattle.numset.specs.Runs.{Runs, runs}
+use Rattle.numset.specs.Runs.{Runs}
+use Rattle.ring.specs.Ring.{turnOf, ringed}
 use Rattle.pmtl.specs.Book.{Range, Row, Rows, Book}
 use Rattle.pmtl.specs.Sets.{Way, ordinary, lasting}
 use Rattle.pmtl.specs.Monitor.{State}
@@ -96,6 +97,10 @@ setStart j = SETS + SET * j
 abbrev pub slotWords : List ℕ → ℕ → List ℕ
 slotWords m j = part (setStart j) SET m
 
+-- where the oldest run of set j stands in its ring
+abbrev pub turnAt : List ℕ → ℕ → ℕ
+turnAt m j = turnOf (slotWords m j)
+
 -- ---- the tables: a row's value, what was told of a set, the digits of a property's early and settled answer
 abbrev pub valueAt : List ℕ → ℕ → ℕ
 valueAt m r = getD m (VALUES + r) 0
@@ -160,7 +165,7 @@ unfoldable pub wayOf : List ℕ → Way
 wayOf m = cond (isOne (wayWord m)) lasting ordinary
 
 unfoldable pub setOf : List ℕ → ℕ → Runs
-setOf m r = cond (temporal (kindAt m r)) (runs (slotWords m (slotAt m r))) []
+setOf m r = cond (temporal (kindAt m r)) (ringed (slotWords m (slotAt m r))) []
 
 unfoldable pub stateOf : List ℕ → State
 stateOf m = record {

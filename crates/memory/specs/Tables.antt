@@ -4,7 +4,8 @@ use mathlib.Core.Path.{_≡_}
 use mathlib.Core.Bool.{Bool, cond}
 use mathlib.Core.List.{List}
 use Rattle.numbers.specs.Limits.{MOST-ROWS, MOST-PROPERTIES, MOST-TEMPORALS}
-use Rattle.numset.specs.Runs.{Runs, runs, covers}
+use Rattle.numset.specs.Runs.{Runs, covers}
+use Rattle.ring.specs.Ring.{ringed}
 use Rattle.pmtl.specs.declared.Answer.{Answer}
 use Rattle.pmtl.specs.Answer.{bitOf, digitOf}
 use Rattle.pmtl.specs.Book.{moves, lowest}
@@ -47,7 +48,7 @@ pub record Valued (m : List ℕ) : Type 0 where
 
 -- of each set it was told what is so
 pub record Told (m : List ℕ) : Type 0 where
-  pub right : (j : ℕ) → j < temporals m → toldAt m j ≡ standing (clockOf m) (runs (slotWords m j))
+  pub right : (j : ℕ) → j < temporals m → toldAt m j ≡ standing (clockOf m) (ringed (slotWords m j))
 
 -- each property's digits are those of its answers
 pub record Answered (m : List ℕ) : Type 0 where

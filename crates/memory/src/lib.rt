@@ -52,7 +52,7 @@ pub const START: usize = 4;
 pub const SLOT: usize = 5;
 
 // A set's words.
-pub const SET: usize = numset::SET_WORDS;
+pub const SET: usize = ring::RING_WORDS;
 
 // The parts, each from where the one before it ends: rows, operands, properties, atoms, the rows that the sets belong to, sets.
 pub const ROWS: usize = HEAD;

@@ -186,6 +186,7 @@ module _ {m : List ℕ} (kept : Kept m) where
         let bounds = next-counts (bookOf m) (outcome r) (ledgerOf m) (rw count (kept .ledger .bounds)) in
         record {
           ledger = is;
+          alike = alike;
           state = alike-state (kept .sound) alike;
           book = alike-book (kept .sound) alike;
           refused = refused;

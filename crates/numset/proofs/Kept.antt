@@ -1,22 +1,21 @@
 -- What is kept of a set from an instant on, and what it takes to drop the rest. Assumes nothing.
-use Prim.Native.Nat.{ℕ, zero, suc, _+_, _*_, _-_, _^_, _≤_, _<_, min, max}
+use Prim.Native.Nat.{ℕ, zero, suc, _+_, _*_, _-_, _^_, _≤_, _<_}
 use mathlib.Core.Path.{_≡_, refl, sym, ap, _∙_, subst}
 use mathlib.Core.Logic.{⊎-elim}
-use mathlib.Core.Bool.{Bool, true, false, _||_}
+use mathlib.Core.Bool.{Bool, false, _||_}
 use mathlib.Core.List.{List, [], _∷_}
 use native.Mathlib.Omega.{arith}
-use lib.ListN.{length, getD, set, length-set}
+use lib.ListN.{length, getD, set}
 use lib.Seq.{getD-set-other}
 use lib.Dec.{ltb}
-use borrow.Author.Tests.{lt-ltb, le-ltb, ltb-true, ltb-false}
-use Rattle.numset.specs.Runs.{run, Runs, Under, Canonical, within, has, lo, hi, runsTo, runs, Good, kept, insert, union, fits, pack}
-use Rattle.numset.specs.Private.{Shifted, Cleared, oldestLapsed, Lapsed, Dropped, withRun}
-use Rattle.lists.proofs.Tests.{lt-or-ge, and-left, and-right}
+use borrow.Author.Tests.{lt-ltb, le-ltb, ltb-false}
+use Rattle.numset.specs.Runs.{run, Runs, Under, Canonical, within, has, lo, hi, runsTo, runs, Good, kept, pack}
+use Rattle.numset.specs.Private.{Shifted, Cleared, oldestLapsed, Lapsed, Dropped}
+use Rattle.lists.proofs.Tests.{lt-or-ge}
 use Rattle.numset.proofs.Laws.{outside-below, under-mono, canonical, topOf, under-topOf}
-use Rattle.numset.proofs.Union.{insert-over, insert-past, insert-join, union-none, union-some, union-has}
 use Rattle.numset.proofs.Words.{at, runs-suc, length-runs}
 use Rattle.numset.proofs.Packs.{packed, good-pack}
-use Rattle.numset.proofs.Moves.{put-here, cleared-none, cleared-more, cleared-eq}
+use Rattle.numset.proofs.Moves.{put-here}
 
 -- ---- one run: it goes if it ends before t, else it stays
 module _ (t l u : ℕ) (rs : Runs) where
@@ -50,10 +49,6 @@ kept-has t i (run l u ∷ rs) h =
     (λ p. rw (kept-in t l u rs p) (ap (λ (x : Bool). within l u i || x) (kept-has t i rs h)))
     (lt-or-ge u t)
 
--- and with an interval added t itself, where it is in the one or the other
-pub joined-has : (l u t : ℕ) (rs : Runs) → Canonical rs → has (union l u (kept t rs)) t ≡ within l u t || has rs t
-joined-has l u t rs w = union-has l u (kept t rs) t (kept-canonical t rs w) ∙ rw (kept-has t t rs (omega arith))
-
 -- there are not more of them
 pub kept-length : (t : ℕ) (rs : Runs) → length (kept t rs) ≤ length rs
 unfolding kept
@@ -64,23 +59,6 @@ kept-length t (run l u ∷ rs) =
     (λ p. rw (kept-out t l u rs p) (omega arith))
     (λ p. rw (kept-in t l u rs p) (omega arith))
     (lt-or-ge u t)
-
--- ---- an interval adds at most one run
-insert-length : (l u : ℕ) (rs : Runs) → length (insert l u rs) ≤ suc (length rs)
-unfolding insert
-insert-length l u [] = omega arith
-insert-length l u (run a b ∷ rs) =
-    let k = insert-length l u rs in
-    ⊎-elim
-    (λ p. rw (insert-over l u a b rs p) (omega arith))
-    (λ p. ⊎-elim
-    (λ q. rw (insert-past l u a b rs p q) (omega arith))
-    (λ q. let j = insert-length (min l a) (max u b) rs in rw (insert-join l u a b rs p q) (omega arith))
-    (lt-or-ge (b + 1) l))
-    (lt-or-ge (u + 1) a)
-
-pub union-length : (l u : ℕ) (rs : Runs) → length (union l u rs) ≤ suc (length rs)
-union-length l u rs = ⊎-elim (λ p. rw (union-none l u rs p) (omega arith)) (λ p. rw (union-some l u rs p) (insert-length l u rs)) (lt-or-ge u l)
 
 -- ---- upper ends rise
 pub upper-below : (top : ℕ) (m : List ℕ) (n j : ℕ) → Under top (runsTo m n) → j < n → hi m j + 1 < top
@@ -139,12 +117,6 @@ module _ (m : List ℕ) (t : ℕ) where
   unfolding oldestLapsed
   oldest-is h = rw (lt-ltb 0 (getD m 0 0) h)
 
--- where it lapsed, the look goes on behind it
-pub lapsing-first : {m : List ℕ} {t : ℕ} → oldestLapsed m t ≡ true → Lapsing m t 1
-unfolding oldestLapsed
-lapsing-first {m} {t} e =
-    lapsing-more (lapsing-start m t) (ltb-true 0 (getD m 0 0) (and-left _ (ltb (hi m 0) t) e)) (ltb-true (hi m 0) t (and-right (ltb 0 (getD m 0 0)) _ e))
-
 -- where it did not, none did
 pub none-lapses : {m : List ℕ} {t : ℕ} → Good m → oldestLapsed m t ≡ false → Lapsed m t 0
 none-lapses {m} {t} g e =
@@ -152,28 +124,6 @@ none-lapses {m} {t} g e =
     (λ h. lapsing-stop (lapsing-start m t) g (ltb-false _ _ (oldest-is m t h ∙ e)))
     (λ h. lapsing-end (lapsing-start m t) h)
     (lt-or-ge 0 (getD m 0 0))
-
--- where it lapsed, there are fewer left
-fewer-left : (t : ℕ) (m : List ℕ) (i : ℕ) → hi m 0 < t → length (kept t (runsTo m (suc i))) ≤ i
-unfolding runsTo
-fewer-left t m zero h = rw (kept-out t (lo m 0) (hi m 0) (runsTo m 0) h) (kept-length t (runsTo m 0))
-fewer-left t m (suc i) h =
-    let k = fewer-left t m i h in
-    ⊎-elim
-    (λ p. rw (kept-out t (lo m (suc i)) (hi m (suc i)) (runsTo m (suc i)) p) (omega arith))
-    (λ p. rw (kept-in t (lo m (suc i)) (hi m (suc i)) (runsTo m (suc i)) p) (omega arith))
-    (lt-or-ge (hi m (suc i)) t)
-
--- and so there is room
-pub room-made : (m : List ℕ) (t l u : ℕ) → Good m → oldestLapsed m t ≡ true → true ≡ fits (length m) (union l u (kept t (runs m)))
-unfolding oldestLapsed
-room-made m t l u g e =
-    let h : 0 < getD m 0 0 = ltb-true 0 (getD m 0 0) (and-left _ (ltb (hi m 0) t) e) in
-    let n : getD m 0 0 ≡ suc (getD m 0 0 - 1) = omega arith in
-    let a = fewer-left t m (getD m 0 0 - 1) (ltb-true (hi m 0) t (and-right (ltb 0 (getD m 0 0)) _ e)) in
-    let b = union-length l u (kept t (runs m)) in
-    let c : length (kept t (runs m)) ≤ getD m 0 0 - 1 = rw (ap (runsTo m) n) a in
-    sym (lt-ltb (2 * length (union l u (kept t (runs m)))) (length m) (omega (arith, g .room)))
 
 -- ---- what is kept where the k oldest runs lapsed
 module _ {m : List ℕ} {t k : ℕ} (w : Lapsed m t k) where
@@ -204,7 +154,7 @@ module _ {m : List ℕ} {t k : ℕ} (w : Lapsed m t k) where
     pub kept-all : kept t (runs m) ≡ runs m
     kept-all = all-to (getD m 0 0) (omega arith)
 
--- ---- what the stores of `drop_oldest` and `drop_before` leave
+-- ---- what the stores of `drop_oldest` leave
 pub dropped : {m m₁ m₂ m′ : List ℕ} {k : ℕ} → Shifted m m₁ (2 * k + 1) 1 (2 * (getD m 0 0 - k)) → Cleared m₁ m₂ (2 * (getD m 0 0 - k) + 1) (2 * getD m 0 0 + 1)
     → m′ ≡ set m₂ 0 (getD m 0 0 - k) → Good m → 0 < length m₂ → Dropped m m′ k (getD m 0 0)
 dropped {m} {m₁} {m₂} {m′} {k} w v q g r =
@@ -218,16 +168,6 @@ dropped {m} {m₁} {m₂} {m′} {k} w v q g r =
           ∙ ⊎-elim (λ x. v .zeros i (omega arith) x) (λ x. v .above i x ∙ w .above i (omega arith) ∙ g .rest i (omega arith)) (lt-or-ge i (2 * n + 1));
     })
 
--- and those of `drop_one`: the words of one run are wiped by two stores
-pub dropped-one : {m m₁ m′ : List ℕ} → Shifted m m₁ 3 1 (2 * (getD m 0 0 - 1)) → m′ ≡ withRun m₁ (getD m 0 0 - 1) 0 0 (getD m 0 0 - 1)
-    → Good m → 0 < getD m 0 0 → length m₁ ≡ length m → Dropped m m′ 1 (getD m 0 0)
-dropped-one {m} {m₁} w q g h e =
-    let s = getD m 0 0 - 1 in
-    let r = g .room in
-    let lower = cleared-more m₁ m₁ (2 * s + 1) (2 * s + 1) (cleared-none m₁ (2 * s + 1)) (omega arith) (omega arith) in
-    let both = cleared-more m₁ (set m₁ (2 * s + 1) 0) (2 * s + 1) (2 * s + 2) (cleared-eq lower (omega arith)) (omega arith) (simp length-set (omega arith)) in
-    dropped w (cleared-eq both (omega arith)) q g (simp length-set (omega arith))
-
 module _ {m : List ℕ} {t k : ℕ} (w : Lapsed m t k) (g : Good m) where
   pub none-lapsed : k ≡ 0 → m ≡ pack (length m) (kept t (runs m))
   none-lapsed z = packed m g ∙ ap (pack (length m)) (sym (kept-all w z))
@@ -236,7 +176,7 @@ module _ {m : List ℕ} {t k : ℕ} (w : Lapsed m t k) (g : Good m) where
     runs-left : runs m′ ≡ kept t (runs m)
     runs-left = ap (runsTo m′) (z .count) ∙ kept-moved w z (getD m 0 0 - k) (getD m 0 0) (omega (arith, w .few)) (omega arith)
 
-    pub good-left : Good m′
+    good-left : Good m′
     good-left =
         record {
           room = rw (z .count, e) (let r = g .room in omega arith);

@@ -7,12 +7,9 @@ pub mod Packs
 pub mod Looking
 pub mod Moves
 pub mod Kept
-pub mod Oldest
-pub mod Ahead
 pub mod Walk
 pub mod Place
 pub mod Newest
-pub mod Rolls
 pub mod Last
 pub mod Changes
 pub mod Resets

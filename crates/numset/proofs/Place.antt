@@ -75,19 +75,6 @@ module _ {m m₁ m₂ m′ : List ℕ} {s e l u : ℕ} where
             ∙ ⊎-elim (λ x. v .zeros k (omega arith) x) (λ x. v .above k (omega arith) ∙ w .above k (omega arith) ∙ g .rest k (omega arith)) (lt-or-ge k (2 * n + 1));
       })
 
--- the same words as a run that was wiped from them, and as one that was put there
-pub place-again : (m : List ℕ) {d m′ : List ℕ} (s l u n : ℕ) → d ≡ withRun m s 0 0 s → m′ ≡ withRun m s l u n → n ≡ s + 1 → 2 * s + 2 < length m → ((k : ℕ) → 2 * s + 2 < k → getD m k 0 ≡ 0) → Replaced d m′ s s s l u
-place-again m s l u n p q e r z =
-    rw (p, q)
-    (record {
-      count = stored-count m s l u n r ∙ omega arith;
-      below = λ k h x. stored-below m s l u n r k h x ∙ sym (stored-below m s 0 0 s r k h x);
-      lower = stored-lower m s l u n r;
-      upper = stored-upper m s l u n r;
-      moved = λ j h. absurd (omega arith);
-      zeros = λ k h. stored-above m s l u n r k (omega arith) ∙ z k (omega arith);
-    })
-
 -- ---- the runs
 module _ {m : List ℕ} {s e l u low up : ℕ} (x : Spanned m l u s e low up) where
   insert-step : (d i : ℕ) → i ≡ e + d + 1 → e + d < getD m 0 0 → insert l u (runsTo m i) ≡ run (lo m (e + d)) (hi m (e + d)) ∷ insert l u (runsTo m (e + d))

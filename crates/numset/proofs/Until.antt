@@ -1,15 +1,12 @@
 -- Up to when a set neither begins nor ends: until then the clock meets the same of it, and it keeps what it has. Assumes nothing.
-use Prim.Native.Nat.{ℕ, zero, suc, _-_, _≤_, _<_}
+use Prim.Native.Nat.{ℕ, _-_, _≤_, _<_}
 use native.Mathlib.Omega.{arith}
 use mathlib.Core.Path.{_≡_, refl, sym, ap, _∙_}
 use mathlib.Core.Logic.{⊎-elim}
-use mathlib.Core.Bool.{cond}
-use mathlib.Core.List.{List, [], _∷_}
-use lib.Dec.{ltb}
+use mathlib.Core.List.{[], _∷_}
 use borrow.Author.Tests.{lt-ltb, le-ltb, le-leb}
-use Rattle.numbers.specs.Limits.{MAX}
 use Rattle.lists.proofs.Tests.{lt-or-ge}
-use Rattle.numset.specs.Runs.{Run, run, Runs, has, covers, kept, Under, Canonical, lo, hi, runsTo}
+use Rattle.numset.specs.Runs.{Run, run, Runs, has, covers, kept, Under, Canonical}
 use Rattle.numset.specs.Until.{restsUntil}
 use Rattle.numset.proofs.Laws.{canonical-older, newest-in, older-same}
 use Rattle.numset.proofs.Covering.{covers-late}
@@ -81,21 +78,3 @@ module _ (c t : ℕ) (up : c ≤ t) where
       (λ p. begun t l u (omega arith) ∙ sym (begun c l u p))
       (lt-or-ge c l)
   until-again (run l u ∷ r ∷ rs) h = until-again (r ∷ rs) h
-
--- ---- the words: the oldest run decides
-pub until-none : (m : List ℕ) (c n : ℕ) → n ≡ 0 → MAX ≡ restsUntil c (runsTo m n)
-unfolding runsTo restsUntil
-until-none m c n e = rw e refl
-
-pub until-oldest : (m : List ℕ) (c n : ℕ) → 0 < n → cond (ltb c (lo m 0)) (lo m 0 - 1) (hi m 0) ≡ restsUntil c (runsTo m n)
-unfolding runsTo restsUntil
-until-oldest m c zero h = absurd (omega arith)
-until-oldest m c (suc zero) h = refl
-until-oldest m c (suc (suc j)) h = until-oldest m c (suc j) (omega arith)
-
-module _ (m : List ℕ) (c n : ℕ) (h : 0 < n) where
-  pub until-begins : c < lo m 0 → lo m 0 - 1 ≡ restsUntil c (runsTo m n)
-  until-begins p = rw (lt-ltb c (lo m 0) p) at (until-oldest m c n h)
-
-  pub until-ends : lo m 0 ≤ c → hi m 0 ≡ restsUntil c (runsTo m n)
-  until-ends p = rw (le-ltb c (lo m 0) p) at (until-oldest m c n h)

@@ -49,10 +49,6 @@ pub record Spanned (m : List ℕ) (l u s e low up : ℕ) : Type 0 where
 unfoldable pub oldestLapsed : List ℕ → ℕ → Bool
 oldestLapsed m t = ltb 0 (getD m 0 0) && ltb (hi m 0) t
 
--- of two runs or more the oldest alone ends before t
-unfoldable pub oneLapsed : List ℕ → ℕ → Bool
-oneLapsed m t = ltb 1 (getD m 0 0) && (ltb (hi m 0) t && leb t (hi m 1))
-
 -- the k oldest runs are those that end before t
 pub record Lapsed (m : List ℕ) (t k : ℕ) : Type 0 where
   pub few : k ≤ getD m 0 0
@@ -68,10 +64,6 @@ pub record Dropped (m m′ : List ℕ) (k n : ℕ) : Type 0 where
 -- there is a newest run, it begins at or before l, and l is at most next to its end
 unfoldable pub takesIn : List ℕ → ℕ → Bool
 takesIn m l = ltb 0 (getD m 0 0) && (leb (lo m (getD m 0 0 - 1)) l && leb (l - hi m (getD m 0 0 - 1)) 1)
-
--- l ..= u is not empty, and begins past the newest run and what is next to it
-unfoldable pub followsNewest : List ℕ → ℕ → ℕ → Bool
-followsNewest m l u = leb l u && ltb 1 (l - hi m (getD m 0 0 - 1))
 
 -- m with the run l ..= u as run s, and n as the number of runs
 abbrev pub withRun : List ℕ → ℕ → ℕ → ℕ → ℕ → List ℕ

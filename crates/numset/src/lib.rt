@@ -3,15 +3,16 @@
 // Word 0 is the number of runs. Run `j`, counted from the oldest (the lowest), is words 2 * j + 1 and 2 * j + 2:
 // its lower and its upper end, both in the set. Words not in use are 0, so that a set has one form only.
 // The slice's length decides how many runs there is room for.
+//
+// A monitor's sets stand in rings (the crate `ring`), which come here only for what belongs between their runs.
 ghost use mathlib.Core.Path.{_≡_};
 ghost use mathlib.Core.Bool.{true, false};
 ghost use mathlib.Core.List.{[]};
 ghost use mathlib.Core.Logic.{_↔_};
 ghost use Prim.Native.Nat.{_+_, _*_, _-_, _<_, _≤_, min, max};
 ghost use lib.ListN.{length, getD, replicate};
-ghost use Rattle.numset.specs.Runs.{Good, Covers, emptyNumber, runs, within, has, lo, hi, kept, union, fits, pack, keptWords, addNumber, addWords, addCount, setToNumber, setToWords};
-ghost use Rattle.numset.specs.Until.{restsUntil};
-ghost use Rattle.numset.specs.Private.{Shifted, Cleared, Replaced, Ended, Spanned, oldestLapsed, oneLapsed, Lapsed, Dropped, takesIn, followsNewest, withRun};
+ghost use Rattle.numset.specs.Runs.{Good, Covers, emptyNumber, runs, has, lo, hi, kept, union, fits, pack, keptWords, addNumber, addWords, addCount, setToNumber, setToWords};
+ghost use Rattle.numset.specs.Private.{Shifted, Cleared, Replaced, Ended, Spanned, oldestLapsed, Lapsed, Dropped, takesIn, withRun};
 
 mod by_value; // by_value.rt: a set of 64 runs by value
 
@@ -24,9 +25,6 @@ use numbers::NO_ROOM;
 
 // The words of a set of one run.
 const ONE_RUN: usize = 3;
-
-// Where the second run begins.
-const SECOND: usize = 3;
 
 // The gap between the ends of two neighbours: runs that are no further apart are one run.
 const ADJACENT: u64 = 1;
@@ -47,8 +45,8 @@ fn upper_at(set: &[u64], j: usize) -> u64
     set[2 * j + 2]
 }
 
-// Whether `t` is in the set. The newest run comes first, since the clock mostly meets the last runs; and the first from
-// there that begins at or before `t` decides, since every older run ends before that one begins.
+// Whether `t` is in the set. The newest run comes first, since where instants come in order the last runs are asked for most; and the
+// first from there that begins at or before `t` decides, since every older run ends before that one begins.
 pub fn contains(set: &[u64], t: u64) -> bool
     requires { ⌜ Good (now set) ⌝ }
     ensures { λ r. ⌜ r ≡ has (runs (now (set .entry))) t ⌝ }
@@ -190,8 +188,8 @@ fn join(set: &[u64], end: usize, lower: u64, upper: u64) -> Span
     }
 }
 
-// The runs that `lower ..= upper` joins. The newest run is looked at first: what follows it, as most of what a clock adds anew,
-// takes no search.
+// The runs that `lower ..= upper` joins. The newest run is looked at first: what follows it, as where intervals come in order, takes no
+// search.
 fn find_span(set: &[u64], lower: u64, upper: u64) -> Span
     requires { ⌜ Good (now set) ⌝ }
     requires { ⌜ lower ≤ upper ⌝ }
@@ -300,8 +298,8 @@ fn put(set: &mut [u64], lower: u64, upper: u64) -> u64
     ACCEPTED
 }
 
-// Adds `lower ..= upper`, in place. The answer is 0, or 11 where there is no room: then the set is as it was. Nearly all that a clock
-// adds is taken in by the newest run, so that is tried first.
+// Adds `lower ..= upper`, in place. The answer is 0, or 11 where there is no room: then the set is as it was. The newest run is asked
+// first whether it takes it in, since then no other is looked at.
 fn join_in(set: &mut [u64], lower: u64, upper: u64) -> u64
     requires { ⌜ Good (now set) ⌝ }
     ensures { λ r. ⌜ (r ≡ addNumber (now (set .entry)) lower upper) × (now (set .exit) ≡ addWords (now (set .entry)) lower upper) ⌝ }
@@ -384,84 +382,12 @@ fn lapsed(set: &[u64], t: u64) -> usize
     run
 }
 
-// Whether `t` is in the set, where the oldest run does not end before it: that run decides, since every newer one begins later still.
-fn oldest_has(set: &[u64], t: u64) -> bool
-    requires { ⌜ Good (now set) ⌝ }
-    requires { ⌜ oldestLapsed (now set) t ≡ false ⌝ }
-    ensures { λ r. ⌜ r ≡ has (runs (now (set .entry))) t ⌝ }
-{
-    if set[0] == 0 {
-        return false;
-    }
-    lower_at(set, 0) <= t
-}
-
-// Whether `t` is in the set, where the oldest run ends before it: the first of the others that does not decides.
-fn newer_has(set: &[u64], t: u64) -> bool
-    requires { ⌜ Good (now set) ⌝ }
-    requires { ⌜ oldestLapsed (now set) t ≡ true ⌝ }
-    ensures { λ r. ⌜ r ≡ has (runs (now (set .entry))) t ⌝ }
-{
-    let n = set[0] as usize;
-    let mut run = 1;
-    while run < n {
-        if upper_at(set, run) < t {
-            run += 1;
-        } else {
-            return lower_at(set, run) <= t;
-        }
-    }
-    false
-}
-
-// Whether `t` is in the set, as `contains` says, but the oldest run first: for a clock, which ends few runs at a time and may have
-// many ahead of it. The first run that does not end before `t` decides.
-pub fn contains_from_oldest(set: &[u64], t: u64) -> bool
-    requires { ⌜ Good (now set) ⌝ }
-    ensures { λ r. ⌜ r ≡ has (runs (now (set .entry))) t ⌝ }
-{
-    if oldest_lapsed(set, t) {
-        return newer_has(set, t);
-    }
-    oldest_has(set, t)
-}
-
-// Drops the oldest run. The others move by a distance that is known beforehand, of which the compiler makes one move.
-fn drop_one(set: &mut [u64])
-    requires { ⌜ Good (now set) ⌝ }
-    requires { ⌜ 0 < getD (now set) 0 0 ⌝ }
-    ensures { λ _. ⌜ Dropped (now (set .entry)) (now (set .exit)) 1 (getD (now (set .entry)) 0 0) ⌝ }
-{
-    let left = set[0] as usize - 1;
-    move_down(set, SECOND, 1, 2 * left);
-    store(set, left, 0, 0, left);
-}
-
-// Up to when, from `t` on, no run begins or ends, where none ended before `t`: the oldest decides, since every newer one begins later.
-pub fn rests_until(set: &[u64], t: u64) -> u64
-    requires { ⌜ Good (now set) ⌝ }
-    ensures { λ r. ⌜ r ≡ restsUntil t (runs (now (set .entry))) ⌝ }
-{
-    if set[0] == 0 {
-        return MAX;
-    }
-    let lower = lower_at(set, 0);
-    if t < lower {
-        return lower - 1;
-    }
-    upper_at(set, 0)
-}
-
 // Drops the `count` oldest runs; what is left moves once, and the words that become free are wiped.
 fn drop_oldest(set: &mut [u64], count: usize)
     requires { ⌜ Good (now set) ⌝ }
     requires { ⌜ count ≤ getD (now set) 0 0 ⌝ }
     ensures { λ _. ⌜ Dropped (now (set .entry)) (now (set .exit)) count (getD (now (set .entry)) 0 0) ⌝ }
 {
-    if count == 1 {
-        drop_one(set);
-        return;
-    }
     let n = set[0] as usize;
     let left = n - count;
     move_down(set, 2 * count + 1, 1, 2 * left);
@@ -486,104 +412,6 @@ pub fn drop_before(set: &mut [u64], t: u64)
     if oldest_lapsed(set, t) {
         drop_lapsed(set, t);
     }
-}
-
-// Whether of two runs or more the oldest alone ends before `t`.
-fn one_lapsed(set: &[u64], t: u64) -> bool
-    requires { ⌜ Good (now set) ⌝ }
-    ensures { λ r. ⌜ r ≡ oneLapsed (now (set .entry)) t ⌝ }
-{
-    if set[0] <= 1 {
-        return false;
-    }
-    if t <= upper_at(set, 0) {
-        return false;
-    }
-    t <= upper_at(set, 1)
-}
-
-// Whether `lower ..= upper` is not empty, and begins past the newest run and what is next to it.
-fn follows_newest(set: &[u64], lower: u64, upper: u64) -> bool
-    requires { ⌜ Good (now set) ⌝ }
-    requires { ⌜ 0 < getD (now set) 0 0 ⌝ }
-    ensures { λ r. ⌜ r ≡ followsNewest (now (set .entry)) lower upper ⌝ }
-{
-    if upper < lower {
-        return false;
-    }
-    let n = set[0] as usize;
-    ADJACENT < gap(upper_at(set, n - 1), lower)
-}
-
-// Drops the runs that end before `t`, of which there is mostly one, and then adds `lower ..= upper`. Where a clock ends one run it often
-// adds one that follows the newest: then the others move over the one, and the other takes the place that they leave.
-fn exchange(set: &mut [u64], t: u64, lower: u64, upper: u64) -> u64
-    requires { ⌜ Good (now set) ⌝ }
-    ensures { λ r. ⌜ (r ≡ addNumber (keptWords t (now (set .entry))) lower upper) × (now (set .exit) ≡ addWords (keptWords t (now (set .entry))) lower upper) ⌝ }
-{
-    if one_lapsed(set, t) {
-        if follows_newest(set, lower, upper) {
-            let n = set[0] as usize;
-            move_down(set, SECOND, 1, 2 * (n - 1));
-            store(set, n - 1, lower, upper, n);
-            return ACCEPTED;
-        }
-    }
-    drop_lapsed(set, t);
-    join_in(set, lower, upper)
-}
-
-// Drops the runs that end before `t`, and then adds `lower ..= upper`, with the number of that. Where there is none to drop, only the
-// oldest run is looked at for it.
-pub fn drop_and_add(set: &mut [u64], t: u64, lower: u64, upper: u64) -> u64
-    requires { ⌜ Good (now set) ⌝ }
-    ensures { λ r. ⌜ (r ≡ addNumber (keptWords t (now (set .entry))) lower upper) × (now (set .exit) ≡ addWords (keptWords t (now (set .entry))) lower upper) ⌝ }
-{
-    if oldest_lapsed(set, t) {
-        return exchange(set, t, lower, upper);
-    }
-    join_in(set, lower, upper)
-}
-
-// Whether `t` is one of `lower ..= upper`.
-pub fn inside(lower: u64, upper: u64, t: u64) -> bool
-    ensures { λ r. ⌜ r ≡ within lower upper t ⌝ }
-{
-    if lower <= t {
-        return t <= upper;
-    }
-    false
-}
-
-// What will become of a set: whether it will contain an instant, and whether there is room.
-pub struct Outlook {
-    pub here: bool,
-    pub room: bool,
-}
-
-// What will become of the set once the runs that end before `t` are dropped and `lower ..= upper` is added: whether it will contain
-// `t`, and whether there is room. A look at the oldest run begins both: one that is dropped makes room, and no run that holds `t` is
-// dropped.
-pub fn look_ahead(set: &[u64], t: u64, lower: u64, upper: u64) -> Outlook
-    requires { ⌜ Good (now set) ⌝ }
-    ensures { λ r. ⌜ (r .here ≡ has (union lower upper (kept t (runs (now (set .entry))))) t) × (r .room ≡ fits (length (now (set .entry))) (union lower upper (kept t (runs (now (set .entry)))))) ⌝ }
-{
-    if oldest_lapsed(set, t) {
-        if inside(lower, upper, t) {
-            return Outlook {
-                here: true,
-                room: true,
-            };
-        }
-        let here = newer_has(set, t);
-        return Outlook { here, room: true };
-    }
-    let room = has_room(set, lower, upper);
-    if inside(lower, upper, t) {
-        return Outlook { here: true, room };
-    }
-    let here = oldest_has(set, t);
-    Outlook { here, room }
 }
 
 // Empties the set. Only the words in use are touched.

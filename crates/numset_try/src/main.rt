@@ -14,7 +14,6 @@ use print::added;
 use print::ask;
 use print::ask_cover;
 use print::ask_room;
-use print::ask_room_from;
 use print::ask_value;
 use print::clear;
 use print::drop_before;
@@ -23,8 +22,6 @@ use print::drop_value;
 use print::many;
 use print::set_to;
 use show::text;
-ghost use Prim.Native.Nat.{_<_};
-ghost use lib.ListN.{length};
 ghost use Rattle.numset.specs.Runs.{Good};
 
 // As many runs as a whole set has room for.
@@ -254,8 +251,6 @@ fn room_again(set: &mut [u64])
 {
     text(b"room again\n");
     fill(set);
-    ask_room_from(set, 0, 128, 128);
-    ask_room_from(set, 1, 128, 128);
     drop_of_many(set, 0);
     drop_of_many(set, 1);
     add_to_many(set, 128, 128);

@@ -5,7 +5,6 @@ use show::instant;
 use show::interval;
 use show::runs;
 use show::text;
-ghost use Prim.Native.Nat.{_<_, _≤_};
 ghost use Rattle.numset.specs.Runs.{Good};
 
 fn answer(yes: bool) {
@@ -144,17 +143,6 @@ pub fn ask_room(set: &[u64], lower: u64, upper: u64)
     text(b"  has room for ");
     interval(lower, upper);
     answer(numset::has_room(set, lower, upper));
-}
-
-pub fn ask_room_from(set: &[u64], t: u64, lower: u64, upper: u64)
-    requires { ⌜ Good (now set) ⌝ }
-{
-    text(b"  once dropped before ");
-    instant(t);
-    text(b" has room for ");
-    interval(lower, upper);
-    let ahead = numset::look_ahead(set, t, lower, upper);
-    answer(ahead.room);
 }
 
 // The number of runs, with the first and the last.

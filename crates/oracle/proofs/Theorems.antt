@@ -2,16 +2,19 @@
 -- that the demands hold of the answers that the code hands back. The history is that of the way of monitoring: of the accepted calls, or with a
 -- time call put in at every instant between. Nothing is assumed.
 use Prim.Native.Nat.{ℕ, suc, _≤_, _<_}
-use mathlib.Core.Path.{_≡_, sym, ap, ap₂, _∙_}
+use mathlib.Core.Path.{_≡_, sym, ap, ap₂, subst, _∙_}
 use native.Mathlib.Omega.{arith}
-use mathlib.Core.Logic.{_↔_}
+use mathlib.Core.Logic.{_↔_, ⊎-elim}
 use mathlib.Core.Bool.{Bool, true, not}
 use mathlib.Core.List.{List, _∷_, _++_}
 use lib.ListN.{getD}
 use Rattle.numbers.specs.Refusals.{ACCEPTED}
-use Rattle.numset.specs.Runs.{has}
+use Rattle.lists.proofs.Tests.{lt-or-ge}
+use Rattle.numset.specs.Runs.{has, kept}
+use Rattle.ring.specs.Ring.{ringed, turnAfter}
+use Rattle.ring.proofs.Turns.{turn-still}
 use Rattle.pmtl.specs.Answer.{known}
-use Rattle.pmtl.specs.Book.{Range, mapRow, Book, propertyAt, rowAt}
+use Rattle.pmtl.specs.Book.{Range, mapRow, Rows, Book, propertyAt, rowAt}
 use Rattle.pmtl.specs.Book.Row.{historically, once, since}
 use Rattle.pmtl.specs.Monitor.{State, setAt, fullest, value}
 use Rattle.pmtl.specs.Early.{early}
@@ -20,16 +23,18 @@ use Rattle.pmtl.specs.Calls.{Call, Outcome, call, afterIn}
 use Rattle.pmtl.specs.Again.{unchanged}
 use Rattle.pmtl.specs.Meaning.{instants, meaning}
 use Rattle.pmtl.specs.Past.{run, held, SomeCall, SinceCall}
+use Rattle.pmtl.proofs.EachRun.{none-before-kept}
 use Rattle.pmtl.proofs.Doubled.{doubled as doubled-call}
 use Rattle.lasts.specs.Lasting.{historyIn}
 use Rattle.lasts.proofs.Loaded.{words-fit}
-use Rattle.lasts.proofs.EitherWay.{value-is as value-in, early-is as early-in, settled-is as settled-in, count-is as count-in, sets-are-instants as sets-in, demand-2 as means, demand-3 as stays, once-holds as once-means, historically-holds as historically-means, since-holds as since-means, never-eleven as strict-never}
+use Rattle.lasts.proofs.EitherWay.{value-is as value-in, early-is as early-in, settled-is as settled-in, count-is as count-in, sets-are-instants as sets-in, demand-2 as means, demand-3 as stays, once-holds as once-means, historically-holds as historically-means, since-holds as since-means, never-eleven as strict-never, no-older-run as older}
 use Rattle.ledger.specs.Ledger.{LAST-COUNTED, Ledger, next, ledgerIn}
 use Rattle.ledger.proofs.Noted.{next-accepted}
 use Rattle.memory.specs.Layout.{FULLEST, LEDGER}
-use Rattle.memory.specs.Memory.{clockOf, bookOf, stateOf, ledgerOf}
+use Rattle.memory.specs.Memory.{clockOf, temporals, ownerAt, slotWords, turnAt, bookOf, stateOf, ledgerOf}
 use Rattle.memory.specs.Kept.{Kept}
-use Rattle.memory.proofs.Same.{same-below, same-words}
+use Rattle.memory.proofs.Sets.{owner-set}
+use Rattle.memory.proofs.Same.{clock-in, same-temporals, same-below, same-words}
 use Rattle.property_answers.specs.declared.Verdict.{Verdict}
 use Rattle.property_answers.specs.Verdict.{verdictIn, verdictOf}
 use Rattle.calls.specs.Called.{Called}
@@ -170,16 +175,45 @@ module _ {way : Loading} {words : List ℕ} {ks : List Call} {m : List ℕ} (mad
   since-holds g left right e =
       rw (value-is made i, made-clock made) (since-means (wayIn way) (bookSaid way words .rows) (words-fit way words) ks (propertyAt (bookSaid way words) i) g left right e)
 
+-- ---- where the rings begin
+-- nothing has lapsed in a set that calls left, so its ring begins where it would once that was dropped
+made-turn : {way : Loading} {words : List ℕ} {ks : List Call} {m : List ℕ} → Made way words ks m → (j : ℕ) → j < temporals m → turnAt m j ≡ turnAfter (clockOf m) (slotWords m j)
+unfolding stateOf
+made-turn {way} {words} {ks} {m} made j h =
+    let kept-now = made-kept made in
+    let few = kept-now .sound .book .temporal-few in
+    let b : Rows = bookSaid way words .rows in
+    let own : ringed (slotWords m j) ≡ setAt (afterIn (wayIn way) b ks) (ownerAt m j) = sym (owner-set m (kept-now .sound) j h) ∙ ap (λ (st : State). setAt st (ownerAt m j)) (made-state made) in
+    turn-still (slotWords m j) (clockOf m) (kept-now .sound .sets j (omega arith) .turn)
+    (ap₂ kept (made-clock made) own ∙ none-before-kept (afterIn (wayIn way) b ks .now .clock) (setAt (afterIn (wayIn way) b ks) (ownerAt m j)) (older (wayIn way) b (words-fit way words) ks (ownerAt m j)) ∙ sym own)
+
 -- ---- what is allowed for one input coincides
 -- a call on a memory has one answer and leaves one memory
 pub called-unique : {k : Call} {m m′ m″ : List ℕ} {r q : ℕ} → Called k m m′ r → Called k m m″ q → (r ≡ q) × (m′ ≡ m″)
-called-unique {k} {m} {m′} {m″} c d =
-    (c .number ∙ sym (d .number), same-words m′ m″ (c .kept) (d .kept) (c .book ∙ sym (d .book)) (c .state ∙ sym (d .state)) (c .ledger ∙ sym (d .ledger)))
+called-unique {k} {m} {m′} {m″} {r} {q} c d =
+    let number = c .number ∙ sym (d .number) in
+    let book = c .book ∙ sym (d .book) in
+    let state = c .state ∙ sym (d .state) in (
+      number,
+      ⊎-elim
+          (λ (z : r < 1).
+          let slots = same-temporals m′ m″ (c .kept .sound) (d .kept .sound) book in
+          same-words m′ m″ (c .kept) (d .kept) book state
+          (λ j h.
+          c .turned (omega arith) .turns j h
+          ∙ ap (λ (x : ℕ). turnAfter x (slotWords m j)) (clock-in m′ m″ state)
+          ∙ sym (d .turned (omega arith) .turns j (omega arith)))
+          (c .ledger ∙ sym (d .ledger)))
+          (λ (z : 1 ≤ r). c .refused (omega arith) ∙ sym (d .refused (omega arith)))
+          (lt-or-ge r 1),
+    )
 
 -- so have words loaded and any list of calls
 pub made-unique : {way : Loading} {words : List ℕ} {ks : List Call} {m m′ : List ℕ} → Made way words ks m → Made way words ks m′ → m ≡ m′
-made-unique {way} {words} {ks} {m} {m′} a b =
-    same-words m m′ (made-kept a) (made-kept b) (made-book a ∙ sym (made-book b)) (made-state a ∙ sym (made-state b)) (made-ledger a ∙ sym (made-ledger b))
+made-unique {m = m} {m′} (loads a) (loads b) =
+    let few = a .kept .sound .book .temporal-few in
+    same-words m m′ (a .kept) (b .kept) (a .book ∙ sym (b .book)) (a .state ∙ sym (b .state)) (λ j h. a .turns j (omega arith) ∙ sym (b .turns j (omega arith))) (a .ledger ∙ sym (b .ledger))
+made-unique {m = m} {m′} (calls k a c) (calls _ {r = q} b d) = called-unique c (subst (λ (x : List ℕ). Called k x m′ q) (sym (made-unique a b)) d) .1
 
 -- ---- a call that changes nothing but the ledger
 -- where the definitions' call leaves their state as it is, the call hands back 0 and leaves the memory, word for word up to the ledger
@@ -189,7 +223,12 @@ pub stays-word-for-word : {way : Loading} {words : List ℕ} {ks : List Call} {m
 unfolding afterIn
 stays-word-for-word {m = m} {m′ = m′} {k = k} made c e =
     let state-is = made-state (calls k made c) ∙ ap (λ (o : Outcome). o .state) e ∙ sym (made-state made) in
-    (made-number made c ∙ ap (λ (o : Outcome). o .number) e, same-below m′ m (c .kept) (made-kept made) (c .book) state-is)
+    let number = made-number made c ∙ ap (λ (o : Outcome). o .number) e in
+    let slots = same-temporals m′ m (c .kept .sound) (made-kept made .sound) (c .book) in (
+      number,
+      same-below m′ m (c .kept) (made-kept made) (c .book) state-is
+          (λ j h. c .turned number .turns j h ∙ ap (λ (x : ℕ). turnAfter x (slotWords m j)) (clock-in m′ m state-is) ∙ sym (made-turn made j (omega arith))),
+    )
 
 -- DOUBLED: an accepted call made again at once with the same content hands back 0 and the same count, and the memory stays, word for word up to the
 -- ledger

@@ -10,7 +10,8 @@ use borrow.Author.Tests.{le-leb}
 use Rattle.numbers.specs.Limits.{LAST-TIME}
 use Rattle.lists.proofs.Tests.{lt-or-ge}
 use Rattle.lists.proofs.Listed.{listed-at}
-use Rattle.numset.specs.Runs.{Runs, runs}
+use Rattle.numset.specs.Runs.{Runs}
+use Rattle.ring.specs.Ring.{ringed}
 use Rattle.numset.proofs.Laws.{good-canonical}
 use Rattle.pmtl.specs.Book.{mapRow, start, stop}
 use Rattle.pmtl.specs.Sets.{Renew, setRuleBy}
@@ -43,8 +44,8 @@ module _ {m : List ℕ} (sound : Sound m) {c : ℕ} (small : c ≤ LAST-TIME) wh
     abbrev by-mode : ℕ → Runs → Runs
     by-mode mode s = changed mode (start (rangeAt m r) (countsFrom m c mode)) (stop (rangeAt m r) c) c s
 
-    own : (mode : ℕ) → setAfter m c mode slot ≡ by-mode mode (runs (slotWords m slot))
-    own mode = ap (λ (o : ℕ). changed mode (start (rangeAt m o) (countsFrom m c mode)) (stop (rangeAt m o) c) c (runs (slotWords m slot))) (sound .book .rows r h .owner k)
+    own : (mode : ℕ) → setAfter m c mode slot ≡ by-mode mode (ringed (slotWords m slot))
+    own mode = ap (λ (o : ℕ). changed mode (start (rangeAt m o) (countsFrom m c mode)) (stop (rangeAt m o) c) c (ringed (slotWords m slot))) (sound .book .rows r h .owner k)
 
     -- what the rule makes of a set that stands as a mode leaves it
     pub rule-both : (spans : Bool) (modes : List ℕ) → Leading m modes spans r → (f : ℕ → Bool)
@@ -57,7 +58,7 @@ module _ {m : List ℕ} (sound : Sound m) {c : ℕ} (small : c ≤ LAST-TIME) wh
         let second : ℕ = modeIn (mapRow f (rowOf m r)) in
         changed-set spans (clockOf m) c (setAhead m c modes r) f m r k (row .kind)
         ∙ ap (by-mode (spannedIf spans second)) (ahead-slot m c modes r k ∙ own first)
-        ∙ changed-next spans (rangeAt m r) (min (clockOf m + 1) c) c (omega arith) (omega arith) (runs (slotWords m slot)) (good-canonical (sound .sets slot (omega arith))) first second
+        ∙ changed-next spans (rangeAt m r) (min (clockOf m + 1) c) c (omega arith) (omega arith) (ringed (slotWords m slot)) (good-canonical (sound .sets slot (omega arith) .good)) first second
         (λ e. leads .none e k) (row-mode-small (mapRow f (rowOf m r)))
         ∙ sym (own (spannedIf spans (bothOf first second)))
 
@@ -71,7 +72,7 @@ module _ {m : List ℕ} (sound : Sound m) {c : ℕ} (small : c ≤ LAST-TIME) wh
         ∙ ap (λ (q : ℕ). setAfter m c (spannedIf spans (bothOf q second)) slot) (none .none slot (row .slot k))
         ∙ ap (λ (q : ℕ). setAfter m c (spannedIf spans q) slot) (stays-both second (row-mode-small (mapRow f (rowOf m r))))
         ∙ own (spannedIf spans second)
-        ∙ sym (changed-set spans (clockOf m) c (runs (slotWords m slot)) f m r k (row .kind))
+        ∙ sym (changed-set spans (clockOf m) c (ringed (slotWords m slot)) f m r k (row .kind))
         ∙ ap (λ (s : Runs). setRuleBy (renewOver m spans) c s (mapRow f (rowOf m r))) (sym (set-at m r h ∙ set-of-slot m r k))
 
   -- a state whose sets a step changes as it does those that the modes leave: the step is the same

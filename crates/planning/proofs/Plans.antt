@@ -11,9 +11,9 @@ use lib.Dec.{ltb}
 use borrow.Author.Tests.{lt-ltb, le-ltb, lt-leb, le-leb}
 use Rattle.lists.specs.Lists.{filledFrom}
 use Rattle.lists.proofs.Tests.{lt-or-ge, or-left, or-right, or-no}
-use Rattle.lists.proofs.Parts.{part-length}
 use Rattle.lists.proofs.Filled.{filledFrom-at, filledFrom-more}
-use Rattle.numset.specs.Runs.{Runs, runs, Good, has, fits}
+use Rattle.numset.specs.Runs.{Runs, has, fits, SET-WORDS}
+use Rattle.ring.specs.Ring.{ringed, Rolling}
 use Rattle.pmtl.specs.Answer.{bitOf}
 use Rattle.pmtl.specs.Book.{Range, Row, Rows, rowAt, mapRow, Below, start, stop, some}
 use Rattle.pmtl.specs.Sets.{Renew, ordinary, lasting, renewedIn, setRuleBy}
@@ -22,13 +22,14 @@ use Rattle.numbers.specs.Limits.{LAST-TIME, MOST-RUNS}
 use Rattle.pmtl.specs.Calls.{crowded}
 use Rattle.pmtl.proofs.Table.{mapRow-local}
 use Rattle.pmtl.proofs.Answers.{value-fix, set-fix-by, step-sets-by, step-now-by}
-use Rattle.memory.specs.Layout.{ROWS, ROW, OWNERS, SET, VALUES, SIZE}
-use Rattle.memory.specs.Memory.{rowCount, clockOf, temporals, kindAt, slotAt, ownerAt, setStart, slotWords, rowOf, rowsOf, isOne, rangeAt}
+use Rattle.memory.specs.Layout.{ROWS, ROW, OWNERS, VALUES}
+use Rattle.memory.specs.Memory.{rowCount, clockOf, temporals, kindAt, slotAt, ownerAt, slotWords, rowOf, rowsOf, isOne, rangeAt}
 use Rattle.memory.specs.Kept.{BookKept, Sound, Kept}
 use Rattle.memory.specs.Alike.{Alike}
 use Rattle.memory.proofs.Rows.{rows-length, row-at, kept-ordered}
 use Rattle.memory.proofs.Alike.{alike-filled, alike-sound, alike-rows, alike-set}
 use Rattle.set_change.specs.Change.{changed, growing, spannedIf, countedFrom, bothOf, modeIn}
+use Rattle.ring.proofs.Again.{held-few}
 use Rattle.set_change.proofs.Changes.{room-else, will-0}
 use Rattle.planning.specs.Plan.{snapOf, stepOf, spansIn, renewOver, countsFrom, Unplanned, Leading, ahead, setAhead, heldIn, setNext, valueNext, modeAt, modeNext, setAfter, rowPlan, modePut, RowTried, valueAfter, Planned, Bounded, Slot}
 use Rattle.planning.proofs.Rules.{no-set}
@@ -49,10 +50,10 @@ module _ {A : Type 0} (p : A → Bool) (d : A) where
   some-hit (x ∷ xs) (suc i) h e = or-right (p x) (some p xs) (some-hit xs i (omega arith) e)
 
 -- a set of at most 64 runs is one that fits its words
-pub crowds : (s : Runs) → ltb MOST-RUNS (length s) ≡ not (fits SET s)
+pub crowds : (s : Runs) → ltb MOST-RUNS (length s) ≡ not (fits SET-WORDS s)
 crowds s =
-    ⊎-elim (λ (p : MOST-RUNS < length s). lt-ltb MOST-RUNS (length s) p ∙ sym (ap not (le-ltb (2 * length s) SET (omega arith))))
-    (λ (p : length s ≤ MOST-RUNS). le-ltb MOST-RUNS (length s) p ∙ sym (ap not (lt-ltb (2 * length s) SET (omega arith)))) (lt-or-ge MOST-RUNS (length s))
+    ⊎-elim (λ (p : MOST-RUNS < length s). lt-ltb MOST-RUNS (length s) p ∙ sym (ap not (le-ltb (2 * length s) SET-WORDS (omega arith))))
+    (λ (p : length s ≤ MOST-RUNS). le-ltb MOST-RUNS (length s) p ∙ sym (ap not (lt-ltb (2 * length s) SET-WORDS (omega arith)))) (lt-or-ge MOST-RUNS (length s))
 
 module _ (m : List ℕ) (kept : BookKept m) (renew : Renew) (st : State) (c : ℕ) (atoms : List ℕ) where
   sets-length : length (stepOf m renew st c atoms .sets) ≡ rowCount m
@@ -68,7 +69,7 @@ module _ (m : List ℕ) (kept : BookKept m) (renew : Renew) (st : State) (c : �
   set-none r h k = set-now r h ∙ no-set renew c (setAt st r) (value (rowsOf m) (stepOf m renew st c atoms)) m r k
 
   -- every set has room, or one has not
-  pub all-room : ((j : ℕ) → j < temporals m → fits SET (setAt (stepOf m renew st c atoms) (ownerAt m j)) ≡ true) → crowded (stepOf m renew st c atoms) ≡ false
+  pub all-room : ((j : ℕ) → j < temporals m → fits SET-WORDS (setAt (stepOf m renew st c atoms) (ownerAt m j)) ≡ true) → crowded (stepOf m renew st c atoms) ≡ false
   unfolding crowded
   all-room room =
       some-none (λ (s : Runs). ltb MOST-RUNS (length s)) [] (stepOf m renew st c atoms .sets)
@@ -78,19 +79,19 @@ module _ (m : List ℕ) (kept : BookKept m) (renew : Renew) (st : State) (c : �
       (λ (k : 7 ≤ kindAt m r).
       let row = kept .rows r h in
       crowds (setAt (stepOf m renew st c atoms) r)
-      ∙ ap (λ (q : ℕ). not (fits SET (setAt (stepOf m renew st c atoms) q))) (sym (row .owner k))
+      ∙ ap (λ (q : ℕ). not (fits SET-WORDS (setAt (stepOf m renew st c atoms) q))) (sym (row .owner k))
       ∙ ap not (room (slotAt m r) (row .slot k)))
       (lt-or-ge (kindAt m r) 7))
 
-  pub no-room : (j : ℕ) → j < temporals m → fits SET (setAt (stepOf m renew st c atoms) (ownerAt m j)) ≡ false → crowded (stepOf m renew st c atoms) ≡ true
+  pub no-room : (j : ℕ) → j < temporals m → fits SET-WORDS (setAt (stepOf m renew st c atoms) (ownerAt m j)) ≡ false → crowded (stepOf m renew st c atoms) ≡ true
   unfolding crowded
   no-room j h e =
       some-hit (λ (s : Runs). ltb MOST-RUNS (length s)) [] (stepOf m renew st c atoms .sets) (ownerAt m j) (omega (arith, sets-length, kept .owned j h))
       (crowds (setAt (stepOf m renew st c atoms) (ownerAt m j)) ∙ ap not e)
 
   -- and so each has
-  pub fits-each : crowded (stepOf m renew st c atoms) ≡ false → (j : ℕ) → j < temporals m → fits SET (setAt (stepOf m renew st c atoms) (ownerAt m j)) ≡ true
-  fits-each e j h = fits-or (fits SET (setAt (stepOf m renew st c atoms) (ownerAt m j))) (λ z. no-room j h z)
+  pub fits-each : crowded (stepOf m renew st c atoms) ≡ false → (j : ℕ) → j < temporals m → fits SET-WORDS (setAt (stepOf m renew st c atoms) (ownerAt m j)) ≡ true
+  fits-each e j h = fits-or (fits SET-WORDS (setAt (stepOf m renew st c atoms) (ownerAt m j))) (λ z. no-room j h z)
     where
       fits-or : (b : Bool) → (b ≡ false → crowded (stepOf m renew st c atoms) ≡ true) → b ≡ true
       fits-or true f = refl
@@ -109,7 +110,7 @@ pub record Going (m : List ℕ) (spans : Bool) (modes₀ : List ℕ) (c : ℕ) (
   pub values : m′ ≡ filledFrom VALUES (valueAfter m (renewOver m spans) (ahead m c modes₀) c atoms) m n
   pub modes-long : length modes ≡ 32
   pub sets : (j : ℕ) → j < temporals m → ownerAt m j < n → setAfter m c (getD modes j 0) j ≡ setAt (stepOf m (renewOver m spans) (ahead m c modes₀) c atoms) (ownerAt m j)
-  pub room : (j : ℕ) → j < temporals m → ownerAt m j < n → fits SET (setAt (stepOf m (renewOver m spans) (ahead m c modes₀) c atoms) (ownerAt m j)) ≡ true
+  pub room : (j : ℕ) → j < temporals m → ownerAt m j < n → fits SET-WORDS (setAt (stepOf m (renewOver m spans) (ahead m c modes₀) c atoms) (ownerAt m j)) ≡ true
   pub rest : (j : ℕ) → j < temporals m → n ≤ ownerAt m j → getD modes j 0 ≡ getD modes₀ j 0
 
 pub going-start : (m : List ℕ) (spans : Bool) (c : ℕ) (atoms : List ℕ) {modes : List ℕ} → length modes ≡ 32 → Going m spans modes c atoms m modes 0
@@ -173,9 +174,9 @@ module _ {m : List ℕ} {spans : Bool} {modes₀ : List ℕ} {c : ℕ} {atoms : 
           let lt = row .slot k in
           let few = sound .book .temporal-few in
           let o : ownerAt m′ (slotAt m n) ≡ n = going-alike .below (OWNERS + slotAt m n) (omega arith) ∙ row .owner k in
-          ap₂ (λ (g : Range) (ws : List ℕ). changed mode (start g (countsFrom m′ c mode)) (stop g c) c (runs ws)) (ap (rangeAt m′) o ∙ range-now ∙ ap (rangeAt m) (sym (row .owner k)))
+          ap₂ (λ (g : Range) (ws : List ℕ). changed mode (start g (countsFrom m′ c mode)) (stop g c) c (ringed ws)) (ap (rangeAt m′) o ∙ range-now ∙ ap (rangeAt m) (sym (row .owner k)))
           (alike-set sound going-alike (slotAt m n) (omega arith))
-          ∙ ap (λ (before : ℕ). changed mode (start (rangeAt m (ownerAt m (slotAt m n))) (countedFrom (min (before + 1) c) c mode)) (stop (rangeAt m (ownerAt m (slotAt m n))) c) c (runs (slotWords m (slotAt m n)))) clock-now
+          ∙ ap (λ (before : ℕ). changed mode (start (rangeAt m (ownerAt m (slotAt m n))) (countedFrom (min (before + 1) c) c mode)) (stop (rangeAt m (ownerAt m (slotAt m n))) c) c (ringed (slotWords m (slotAt m n)))) clock-now
 
       rest-now : 7 ≤ kindAt m n → getD modes (slotAt m n) 0 ≡ getD modes₀ (slotAt m n) 0
       rest-now k = let row = sound .book .rows n h in g .rest (slotAt m n) (row .slot k) (rw (row .owner k) (omega arith))
@@ -224,8 +225,8 @@ module _ {m : List ℕ} {spans : Bool} {modes₀ : List ℕ} {c : ℕ} {atoms : 
           ∙ sym (set-now m (sound .book) (renewOver m spans) (ahead m c modes₀) c atoms n h)
 
       module _ {bytes m″ modes′ : List ℕ} {room turned : Bool} (same : valueNext m′ spans c modes bytes n ≡ valueNext m′ spans c modes atoms n) (t : RowTried m′ spans c bytes modes n m″ modes′ room turned) where
-        fits-right : fits SET (setAt (stepOf m (renewOver m spans) (ahead m c modes₀) c atoms) n) ≡ room
-        fits-right = sym (ap (fits SET) set-right) ∙ sym (t .room-is)
+        fits-right : fits SET-WORDS (setAt (stepOf m (renewOver m spans) (ahead m c modes₀) c atoms) n) ≡ room
+        fits-right = sym (ap (fits SET-WORDS) set-right) ∙ sym (t .room-is)
 
         -- the mode of a slot whose row is below stays; that of this row is noted
         mode-other : (j : ℕ) → j < temporals m → (ownerAt m j ≡ n → ⊥) → getD (modePut m′ spans modes n) j 0 ≡ getD modes j 0
@@ -282,7 +283,7 @@ module _ {m : List ℕ} {spans : Bool} {modes₀ : List ℕ} {c : ℕ} {atoms : 
         temporal-full : room ≡ false → 7 ≤ kindAt m n
         temporal-full e =
             ⊎-elim
-            (λ (k : kindAt m n < 7). absurd (true≢false (sym (ap (fits SET) (set-none m (sound .book) (renewOver m spans) (ahead m c modes₀) c atoms n h k)) ∙ fits-right ∙ e)))
+            (λ (k : kindAt m n < 7). absurd (true≢false (sym (ap (fits SET-WORDS) (set-none m (sound .book) (renewOver m spans) (ahead m c modes₀) c atoms n h k)) ∙ fits-right ∙ e)))
             (λ (k : 7 ≤ kindAt m n). k)
             (lt-or-ge (kindAt m n) 7)
 
@@ -291,7 +292,7 @@ module _ {m : List ℕ} {spans : Bool} {modes₀ : List ℕ} {c : ℕ} {atoms : 
             let k = temporal-full e in
             let row = sound .book .rows n h in
             record {
-              fits = no-room m (sound .book) (renewOver m spans) (ahead m c modes₀) c atoms (slotAt m n) (row .slot k) (ap (λ (q : ℕ). fits SET (setAt (stepOf m (renewOver m spans) (ahead m c modes₀) c atoms) q)) (row .owner k) ∙ fits-right ∙ e);
+              fits = no-room m (sound .book) (renewOver m spans) (ahead m c modes₀) c atoms (slotAt m n) (row .slot k) (ap (λ (q : ℕ). fits SET-WORDS (setAt (stepOf m (renewOver m spans) (ahead m c modes₀) c atoms) q)) (row .owner k) ∙ fits-right ∙ e);
               sets = λ z. absurd (true≢false (sym z));
               tried = n;
               few = omega arith;
@@ -320,9 +321,6 @@ pub planned-over : {m : List ℕ} {spans spans′ : Bool} {st : State} {c : ℕ}
 planned-over {m} {spans} {spans′} {st} {c} {atoms} {m′} {modes} {room} e p = subst (λ (s : Bool). Planned m (renewOver m s) st c atoms m′ room modes) e p
 
 -- ---- one row, as its plan is made
-pub set-long : (m : List ℕ) (j : ℕ) → length m ≡ SIZE → j < 32 → length (slotWords m j) ≡ SET
-set-long m j e h = part-length (setStart j) SET m (omega arith)
-
 module _ {m : List ℕ} {c j r : ℕ} (slot : Slot m c j r) where
   abbrev book : BookKept m
   book = slot .timely .sound .book
@@ -342,29 +340,23 @@ module _ {m : List ℕ} {c j r : ℕ} (slot : Slot m c j r) where
       record { long = book .long; inside = omega (arith, slot-row, book .few); clock = slot .timely .clock; lower = row .lower; upper = row .upper }
 
   module _ {p : List ℕ} (e : p ≡ slotWords m j) where
-    pub slot-good : Good p
+    pub slot-good : Rolling p
     slot-good = rw e (slot .timely .sound .sets j slot-small)
-
-    long : length p ≡ SET
-    long = ap length e ∙ set-long m j (book .long) slot-small
-
-    pub slot-long : 2 < length p
-    slot-long = let l = long in omega arith
 
     pub plan-made :
         {mode s t : ℕ} {room here : Bool} → s ≡ start (rangeAt m r) (countsFrom m c mode) → t ≡ stop (rangeAt m r) c
-        → room ≡ fits (length p) (changed mode s t c (runs p)) → here ≡ has (changed mode s t c (runs p)) c → {wanted : ℕ} → mode ≡ wanted
+        → room ≡ fits SET-WORDS (changed mode s t c (ringed p)) → here ≡ has (changed mode s t c (ringed p)) c → {wanted : ℕ} → mode ≡ wanted
         → record { mode = mode; here = here; room = room } ≡ rowPlan m c wanted j
     plan-made {mode} {s} {t} {room} {here} es et er eh {wanted} em =
-        let q : changed mode s t c (runs p) ≡ setAfter m c wanted j = rw (es, et, e, slot .owner, em) in
-        let er′ : room ≡ fits SET (setAfter m c wanted j) = er ∙ ap₂ (λ (n : ℕ) (rs : Runs). fits n rs) long q in
+        let q : changed mode s t c (ringed p) ≡ setAfter m c wanted j = rw (es, et, e, slot .owner, em) in
+        let er′ : room ≡ fits SET-WORDS (setAfter m c wanted j) = er ∙ ap (λ (rs : Runs). fits SET-WORDS rs) q in
         let eh′ : here ≡ has (setAfter m c wanted j) c = eh ∙ ap (λ (rs : Runs). has rs c) q in
         λ i. record { mode = em i; here = eh′ i; room = er′ i }
 
     -- a set that stays has room for itself
     pub plan-stays :
-        {mode : ℕ} {here : Bool} → mode ≡ 0 → here ≡ has (runs p) c → {wanted : ℕ} → mode ≡ wanted → record { mode = mode; here = here; room = true } ≡ rowPlan m c wanted j
+        {mode : ℕ} {here : Bool} → mode ≡ 0 → here ≡ has (ringed p) c → {wanted : ℕ} → mode ≡ wanted → record { mode = mode; here = here; room = true } ≡ rowPlan m c wanted j
     plan-stays {mode} {here} z eh {wanted} em =
         let g = rangeAt m r in
         let s : ℕ = start g (countsFrom m c mode) in
-        plan-made refl refl (room-else mode s (stop g c) c slot-good slot-long (ap (λ (k : ℕ). growing k) z)) (will-0 mode s (stop g c) c (runs p) eh z) em
+        plan-made refl refl (room-else mode s (stop g c) c (ringed p) (held-few p slot-good) (ap (λ (k : ℕ). growing k) z)) (will-0 mode s (stop g c) c (ringed p) eh z) em

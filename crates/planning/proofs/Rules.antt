@@ -7,7 +7,8 @@ use native.Mathlib.Omega.{arith}
 use lib.ListN.{drop}
 use lib.Dec.{eqb}
 use borrow.Author.Tests.{le-leb, lt-leb}
-use Rattle.numset.specs.Runs.{Runs, runs}
+use Rattle.numset.specs.Runs.{Runs}
+use Rattle.ring.specs.Ring.{ringed}
 use Rattle.pmtl.specs.Book.{Range, start, stop, Row, mapRow}
 use Rattle.pmtl.specs.Sets.{Renew, ordinary, lasting, renewedIn, setRuleBy}
 use Rattle.pmtl.specs.Monitor.{setAt, valueRule}
@@ -63,7 +64,7 @@ pub set-at : (m : List ℕ) (r : ℕ) → r < rowCount m → setAt (stateOf m) r
 unfolding stateOf
 set-at m r h = listed-at (setOf m) [] (rowCount m) r h
 
-pub set-of-slot : (m : List ℕ) (r : ℕ) → 7 ≤ kindAt m r → setOf m r ≡ runs (slotWords m (slotAt m r))
+pub set-of-slot : (m : List ℕ) (r : ℕ) → 7 ≤ kindAt m r → setOf m r ≡ ringed (slotWords m (slotAt m r))
 unfolding setOf
 set-of-slot m r h = rw (le-leb 7 (kindAt m r) h)
 

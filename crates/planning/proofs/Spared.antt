@@ -12,7 +12,7 @@ use borrow.Author.Tests.{ltb-false, eqb-true, eqb-false, eq-eqb, ne-eqb}
 use Rattle.numbers.specs.Limits.{LAST-TIME, MOST-ROWS}
 use Rattle.lists.proofs.Tests.{either, lt-or-ge}
 use Rattle.lists.proofs.Filled.{filledFrom-before, filledFrom-after, filledFrom-more}
-use Rattle.numset.specs.Runs.{Runs, has, fits}
+use Rattle.numset.specs.Runs.{Runs, has, fits, SET-WORDS}
 use Rattle.pmtl.specs.Answer.{bitOf}
 use Rattle.pmtl.specs.Book.{Row, mapRow, rowAt, lowest}
 use Rattle.pmtl.specs.Sets.{renewed, renewedIn, setRuleBy}
@@ -21,7 +21,7 @@ use Rattle.pmtl.proofs.Lowest.{lowest-low, between}
 use Rattle.pmtl.proofs.Renewed.{renewed-now}
 use Rattle.pmtl.proofs.Answers.{value-fix, set-fix-by}
 use Rattle.book.specs.Rows.{rowFrom, ATOM}
-use Rattle.memory.specs.Layout.{ROWS, ROW, SET, VALUES, LOWEST}
+use Rattle.memory.specs.Layout.{ROWS, ROW, VALUES, LOWEST}
 use Rattle.memory.specs.Memory.{rowCount, begunWord, temporals, kindAt, argAt, slotAt, ownerAt, valueAt, movesAt, lowestAt, rowOf, rowsOf, isOne}
 use Rattle.memory.specs.Tables.{Founded}
 use Rattle.memory.specs.Kept.{Sound, Kept}
@@ -190,7 +190,7 @@ module _ {m : List ℕ} (sound : Sound m) {c : ℕ} {modes₀ : List ℕ} where
     held-now = ap isOne there
 
     -- one that keeps its value and its set is passed over
-    pub going-same : (newOf m c modes₀ atoms) n ≡ heldIn m n → ((j : ℕ) → j < temporals m → ownerAt m j ≡ n → (setAt (afterOf m c modes₀ atoms) n ≡ setAt (ahead m c modes₀) n) × (fits SET (setAt (afterOf m c modes₀ atoms) n) ≡ true)) → Going m false modes₀ c atoms m′ modes (n + 1)
+    pub going-same : (newOf m c modes₀ atoms) n ≡ heldIn m n → ((j : ℕ) → j < temporals m → ownerAt m j ≡ n → (setAt (afterOf m c modes₀ atoms) n ≡ setAt (ahead m c modes₀) n) × (fits SET-WORDS (setAt (afterOf m c modes₀ atoms) n) ≡ true)) → Going m false modes₀ c atoms m′ modes (n + 1)
     going-same e own =
         record {
           few = omega arith;
@@ -248,7 +248,7 @@ module _ {m : List ℕ} (sound : Sound m) {c : ℕ} {modes₀ : List ℕ} where
             let is : (newOf m c modes₀ atoms) n ≡ heldIn m n = value-same st atoms n h same other ∙ sym (held-old st n h) in (
               going-same is (λ j l z.
                   let k : 7 ≤ kindAt m n = rw (← z) (sound .book .temporals-are j l) in
-                  (set-same st atoms n h same ∙ sym (set-ahead st n h k), ap (fits SET) (set-same st atoms n h same ∙ ap (setAt (st .state)) (sym z)) ∙ st .room j l)),
+                  (set-same st atoms n h same ∙ sym (set-ahead st n h k), ap (fits SET-WORDS) (set-same st atoms n h same ∙ ap (setAt (st .state)) (sym z)) ∙ st .room j l)),
               spared-more spared is,
             )
 

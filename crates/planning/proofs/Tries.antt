@@ -7,11 +7,11 @@ use mathlib.Core.List.{List, [], map}
 use lib.ListN.{getD, set}
 use lib.Dec.{eqb}
 use borrow.Author.Tests.{lt-leb, le-leb}
-use Rattle.numset.specs.Runs.{Runs, has, fits}
+use Rattle.numset.specs.Runs.{Runs, has, fits, SET-WORDS}
 use Rattle.pmtl.specs.Answer.{bitOf}
 use Rattle.pmtl.specs.Book.{mapRow}
 use Rattle.pmtl.specs.Monitor.{valueRule}
-use Rattle.memory.specs.Layout.{SET, VALUES}
+use Rattle.memory.specs.Layout.{VALUES}
 use Rattle.memory.specs.Memory.{rowCount, kindAt, slotAt, rowOf, isOne}
 use Rattle.set_change.specs.Change.{spannedIf, bothOf}
 use Rattle.planning.specs.declared.RowPlan.{RowPlan}
@@ -33,7 +33,7 @@ module _ {m : List ℕ} {spans : Bool} {c : ℕ} (timely : Timely m c) (atoms : 
     tried-plain ev put =
         let is = ev ∙ sym (ap (λ (s : Runs). valueRule (map isOne atoms) (has s c) (mapRow (heldIn m) (rowOf m r))) no-next) in
         record {
-          room-is = sym (ap (fits SET) no-next);
+          room-is = sym (ap (fits SET-WORDS) no-next);
           value-put = λ z. put .0 ∙ ap (λ (b : Bool). set m (VALUES + r) (bitOf b)) is;
           mode-put = λ z. sym (rw (lt-leb 7 (kindAt m r) low));
           turned-is = λ z. put .1 ∙ ap (turnedTo (heldIn m r)) is;
@@ -60,8 +60,8 @@ module _ {m : List ℕ} {spans : Bool} {c : ℕ} (timely : Timely m c) (atoms : 
       ep : plan ≡ rowPlan m c (modeNext m spans modes r) slot
       ep = planned ∙ ap (λ (x : ℕ). rowPlan m c (spannedIf spans (bothOf x (modeAt m r))) slot) (eb ∙ ap (λ (j : ℕ). getD modes j 0) es)
 
-      room-right : plan .room ≡ fits SET (setNext m spans c modes r)
-      room-right = ap (λ (p : RowPlan). p .room) ep ∙ sym (ap (fits SET) next-set)
+      room-right : plan .room ≡ fits SET-WORDS (setNext m spans c modes r)
+      room-right = ap (λ (p : RowPlan). p .room) ep ∙ sym (ap (fits SET-WORDS) next-set)
 
       here-right : plan .here ≡ has (setNext m spans c modes r) c
       here-right = ap (λ (p : RowPlan). p .here) ep ∙ sym (ap (λ (s : Runs). has s c) next-set)

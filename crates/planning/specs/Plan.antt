@@ -7,14 +7,15 @@ use lib.ListN.{length, getD, set}
 use lib.Dec.{ltb, eqb}
 use Rattle.numbers.specs.Limits.{MAX, LAST-TIME, MOST-ROWS}
 use Rattle.lists.specs.Lists.{listed, filledFrom}
-use Rattle.numset.specs.Runs.{Runs, runs, has, fits}
+use Rattle.numset.specs.Runs.{Runs, runs, has, fits, SET-WORDS}
+use Rattle.ring.specs.Ring.{ringed}
 use Rattle.pmtl.specs.Answer.{bitOf}
 use Rattle.pmtl.specs.Book.{start, stop, mapRow}
 use Rattle.pmtl.specs.Sets.{Renew, ordinary, lasting, renewedIn, setRuleBy}
 use Rattle.pmtl.specs.Monitor.{Snap, State, setAt, valueRule, value, stepBy, stepIn}
 use Rattle.pmtl.specs.Calls.{crowded}
 use Rattle.book.specs.Rows.{temporal, ATOM, HISTORICALLY}
-use Rattle.memory.specs.Layout.{SET, VALUES, SIZE}
+use Rattle.memory.specs.Layout.{VALUES, SIZE}
 use Rattle.memory.specs.Memory.{rowCount, rangeAt, begunWord, clockOf, temporals, kindAt, argAt, lowerAt, upperAt, slotAt, ownerAt, slotWords, wayWord, atomsOf, valueAt, movesAt, lowestAt, rowOf, rowsOf, stateOf, isOne}
 use Rattle.memory.specs.Kept.{Sound}
 use Rattle.set_change.specs.Change.{changed, spannedIf, countedFrom, bothOf, modeIn}
@@ -50,7 +51,7 @@ countsFrom m c mode = countedFrom (min (clockOf m + 1) c) c mode
 
 -- the set of slot j, changed by a mode at clock c
 abbrev pub setAfter : List ℕ → ℕ → ℕ → ℕ → Runs
-setAfter m c mode j = changed mode (start (rangeAt m (ownerAt m j)) (countsFrom m c mode)) (stop (rangeAt m (ownerAt m j)) c) c (runs (slotWords m j))
+setAfter m c mode j = changed mode (start (rangeAt m (ownerAt m j)) (countsFrom m c mode)) (stop (rangeAt m (ownerAt m j)) c) c (ringed (slotWords m j))
 
 -- that of row r; no runs where it is not temporal
 unfoldable pub setAhead : List ℕ → ℕ → List ℕ → ℕ → Runs
@@ -79,7 +80,7 @@ abbrev pub rowPlan : List ℕ → ℕ → ℕ → ℕ → RowPlan
 rowPlan m c mode j = record {
   mode = mode;
   here = has (setAfter m c mode j) c;
-  room = fits SET (setAfter m c mode j);
+  room = fits SET-WORDS (setAfter m c mode j);
 }
 
 -- if row r is an atom, there is a byte for it
@@ -108,7 +109,7 @@ turnedTo old new = not (Bool·beq old new)
 
 -- row r was tried: its set has room, its value and mode are noted, and it is known whether its value was turned; or it lacks room, and nothing is
 pub record RowTried (m : List ℕ) (spans : Bool) (c : ℕ) (atoms modes : List ℕ) (r : ℕ) (m′ modes′ : List ℕ) (room turned : Bool) : Type 0 where
-  pub room-is : room ≡ fits SET (setNext m spans c modes r)
+  pub room-is : room ≡ fits SET-WORDS (setNext m spans c modes r)
   pub value-put : room ≡ true → m′ ≡ set m (VALUES + r) (bitOf (valueNext m spans c modes atoms r))
   pub mode-put : room ≡ true → modes′ ≡ modePut m spans modes r
   pub turned-is : room ≡ true → turned ≡ turnedTo (heldIn m r) (valueNext m spans c modes atoms r)
@@ -136,7 +137,7 @@ pub record Stands (m : List ℕ) (c : ℕ) (modes : List ℕ) : Type 0 where
   pub clock : state .now .clock ≡ c
   pub values : (r : ℕ) → r < rowCount m → valueAt m r ≡ bitOf (value (rowsOf m) state r)
   pub sets : (j : ℕ) → j < temporals m → setAfter m c (getD modes j 0) j ≡ setAt state (ownerAt m j)
-  pub room : (j : ℕ) → j < temporals m → fits SET (setAt state (ownerAt m j)) ≡ true
+  pub room : (j : ℕ) → j < temporals m → fits SET-WORDS (setAt state (ownerAt m j)) ≡ true
   pub rests : stepIn (rowsOf m) state (state .now) ≡ state
 
 -- the value of each row after the step, as a word

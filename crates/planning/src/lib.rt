@@ -147,7 +147,7 @@ fn plan_row(
     if mode == set_change::STAYS {
         return RowPlan {
             mode,
-            here: numset::contains_from_oldest(set, clock),
+            here: ring::contains(set, clock),
             room: true,
         };
     }

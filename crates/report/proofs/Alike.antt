@@ -74,6 +74,7 @@ as-words asCall same ws {m} c =
       state = c .state ∙ ap (λ (o : Outcome). o .state) (same _ _ ws);
       book = c .book;
       ledger = c .ledger ∙ ap (λ (o : Outcome). next (bookOf m) o (ledgerOf m)) (same (bookOf m .rows) (stateOf m) ws);
+      turned = c .turned;
       refused = c .refused;
       kept = c .kept;
     }

@@ -9,7 +9,8 @@ use lib.ListN.{length}
 use borrow.Author.Tests.{eqb-true}
 use lib.Dec.{eqb}
 use Rattle.numbers.specs.Limits.{MAX}
-use Rattle.numset.specs.Runs.{Runs, runs, covers, Canonical}
+use Rattle.numset.specs.Runs.{Runs, covers, Canonical}
+use Rattle.ring.specs.Ring.{ringed}
 use Rattle.pmtl.specs.declared.Answer.{Answer}
 use Rattle.pmtl.specs.declared.Answer.the-variants.{Open}
 use Rattle.pmtl.specs.Book.{Row, mapRow, rowAt, lowest}
@@ -127,7 +128,7 @@ same-settled (once g x) h = ap₂ (λ c n. settledRule c n (once g x)) (h tt .0)
 same-settled (since g x y) h = ap₂ (λ c n. settledRule c n (since g x y)) (h tt .0) (h tt .1)
 
 -- ---- the answers of a row
-module _ (m : List ℕ) (sound : Sound m) (told : (j : ℕ) → j < temporals m → toldAt m j ≡ standing (clockOf m) (runs (slotWords m j))) where
+module _ (m : List ℕ) (sound : Sound m) (told : (j : ℕ) → j < temporals m → toldAt m j ≡ standing (clockOf m) (ringed (slotWords m j))) where
   -- a temporal row was told of its set
   told-of : (o : ℕ) → o < rowCount m → 7 ≤ kindAt m o → toldAt m (slotAt m o) ≡ standing (clockOf m) (setAt (stateOf m) o)
   told-of o h k =

@@ -6,7 +6,8 @@ use mathlib.Core.List.{List, [], _∷_}
 use Rattle.pmtl.specs.Book.{every, some}
 use lib.ListN.{getD}
 use native.Mathlib.Omega.{arith}
-use Rattle.numset.specs.Runs.{runs, has, Good}
+use Rattle.numset.specs.Runs.{has}
+use Rattle.ring.specs.Ring.{ringed, Rolling}
 use Rattle.lists.proofs.Listed.{listed-at}
 use Rattle.pmtl.specs.Monitor.{setAt}
 use Rattle.memory.specs.Memory.{rowCount, clockOf, widthWord, kindAt, slotAt, atomAt, slotWords, isOne, stateOf}
@@ -39,16 +40,16 @@ unfolding stateOf
 atom-held {m} sound a h = listed-at (λ i. isOne (atomAt m i)) false (widthWord m) a h
 
 -- and what the search of a temporal row's set says
-pub here-good : {m : List ℕ} {row slot : ℕ} {words : List ℕ} → Sound m → row < rowCount m → 7 ≤ kindAt m row → slot ≡ slotAt m row → words ≡ slotWords m slot → Good words
-here-good {m} {row} sound h k es ew =
+pub here-rolling : {m : List ℕ} {row slot : ℕ} {words : List ℕ} → Sound m → row < rowCount m → 7 ≤ kindAt m row → slot ≡ slotAt m row → words ≡ slotWords m slot → Rolling words
+here-rolling {m} {row} sound h k es ew =
     let inside = sound .book .rows row h .slot k in
     rw (ew, es) (sound .sets (slotAt m row) (omega (arith, sound .book .temporal-few)))
 
 pub here-held : {m : List ℕ} {row slot clock : ℕ} {words : List ℕ} → Sound m → row < rowCount m → 7 ≤ kindAt m row → slot ≡ slotAt m row → words ≡ slotWords m slot → clock ≡ clockOf m
-    → has (runs words) clock ≡ has (setAt (stateOf m) row) (stateOf m .now .clock)
+    → has (ringed words) clock ≡ has (setAt (stateOf m) row) (stateOf m .now .clock)
 unfolding stateOf
 here-held {m} {row} {slot} {clock} {words} sound h k es ew ec =
     let inside = sound .book .rows row h .slot k in
     ap₂ has
-    (ap runs (ew ∙ ap (slotWords m) es) ∙ sym (owner-set m sound (slotAt m row) inside) ∙ ap (setAt (stateOf m)) (sound .book .rows row h .owner k))
+    (ap ringed (ew ∙ ap (slotWords m) es) ∙ sym (owner-set m sound (slotAt m row) inside) ∙ ap (setAt (stateOf m)) (sound .book .rows row h .owner k))
     ec

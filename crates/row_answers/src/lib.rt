@@ -63,7 +63,7 @@ fn here_at(monitor: &[u64; SIZE], row: usize) -> bool
     ensures { λ r. ⌜ r ≡ has (setAt (stateOf (now (monitor .entry))) row) (stateOf (now (monitor .entry)) .now .clock) ⌝ }
 {
     let slot = memory::slot_at(monitor, row);
-    numset::contains(memory::set_at(monitor, slot), memory::clock(monitor))
+    ring::contains(memory::set_at(monitor, slot), memory::clock(monitor))
 }
 
 // Whether a temporal row was told that its set has every instant from the clock on: `contains_unbounded_interval` of the original.

@@ -1,19 +1,18 @@
 -- The laws of `changed`: it is what the definitions say of a set, and what the code asks and does, arm by arm. Assumes nothing.
 use Prim.Native.Nat.{ℕ, zero, suc, _+_, _*_, _≤_, _<_, min}
-use mathlib.Core.Path.{_≡_, refl, sym, ap, _∙_}
+use mathlib.Core.Path.{_≡_, refl, sym, ap, ap₂, _∙_}
 use mathlib.Core.Logic.{_⊎_, ⊎-elim}
 use mathlib.Core.Bool.{Bool, true, false, cond, not, or-false, true≢false}
 use mathlib.Core.List.{List, []}
 use native.Mathlib.Omega.{arith}
-use lib.ListN.{length, getD}
-use borrow.Author.Tests.{lt-ltb, ltb-true}
-use Rattle.numset.specs.Runs.{Runs, runs, Good, Under, Canonical, within, has, kept, insert, union, fits, pack, addWords, setToWords}
+use lib.ListN.{length}
+use borrow.Author.Tests.{lt-ltb}
+use Rattle.numset.specs.Runs.{Runs, Under, Canonical, within, has, kept, insert, union, fits}
 use Rattle.lists.proofs.Tests.{lt-or-ge}
 use Rattle.numset.proofs.Union.{union-has, union-under, union-none, union-some}
-use Rattle.numset.proofs.Words.{length-runs}
-use Rattle.numset.proofs.Packs.{length-pack, runs-pack}
 use Rattle.numset.proofs.Kept.{kept-under, kept-has, kept-length}
-use Rattle.numset.proofs.Changes.{added-words}
+use Rattle.ring.specs.Ring.{turnOf, ringed, Rolling, rolled, turnAfter}
+use Rattle.ring.proofs.Again.{kept-ring, kept-turn, kept-runs, kept-room, bare-ring, bare-turn, bare-runs}
 use Rattle.pmtl.specs.Book.{Range, start, stop, Row}
 use Rattle.pmtl.specs.Book.Row.{historically, once, since}
 use Rattle.pmtl.specs.Sets.{staysIf, addedIf, renewed, lasted, ordinary, lasting, renewedIn, setRuleBy}
@@ -96,20 +95,20 @@ one-run : (l u : ℕ) → length (union l u []) ≤ 1
 unfolding insert
 one-run l u = ⊎-elim (λ p. rw (union-none l u [] p) (omega arith)) (λ p. rw (union-some l u [] p) (omega arith)) (lt-or-ge u l)
 
-kept-fits : {m : List ℕ} (c : ℕ) → Good m → fits (length m) (kept c (runs m)) ≡ true
-kept-fits {m} c g = lt-ltb (2 * length (kept c (runs m))) (length m) (omega (arith, g .room, kept-length c (runs m), length-runs m (getD m 0 0)))
+kept-fits : (c : ℕ) (rs : Runs) → 2 * length rs < 129 → fits 129 (kept c rs) ≡ true
+kept-fits c rs h = lt-ltb (2 * length (kept c rs)) 129 (omega (arith, kept-length c rs))
 
 -- every change has room but one that makes the set grow
-pub room-else : {m : List ℕ} (k l u c : ℕ) → Good m → 2 < length m → growing k ≡ false → true ≡ fits (length m) (changed k l u c (runs m))
+pub room-else : (k l u c : ℕ) (rs : Runs) → 2 * length rs < 129 → growing k ≡ false → true ≡ fits 129 (changed k l u c rs)
 unfolding changed
-room-else {m} zero l u c g h f = sym (kept-fits c g)
-room-else {m} (suc zero) l u c g h f = absurd (true≢false f)
-room-else {m} (suc (suc zero)) l u c g h f = sym (lt-ltb 0 (length m) (omega arith))
-room-else {m} (suc (suc (suc zero))) l u c g h f = sym (lt-ltb _ (length m) (omega (arith, one-run l u)))
-room-else {m} (suc (suc (suc (suc k)))) l u c g h f = absurd (true≢false f)
+room-else zero l u c rs h f = sym (kept-fits c rs h)
+room-else (suc zero) l u c rs h f = absurd (true≢false f)
+room-else (suc (suc zero)) l u c rs h f = refl
+room-else (suc (suc (suc zero))) l u c rs h f = sym (lt-ltb (2 * length (union l u [])) 129 (omega (arith, one-run l u)))
+room-else (suc (suc (suc (suc k)))) l u c rs h f = absurd (true≢false f)
 
-pub room-grown : (m : List ℕ) (k l u c : ℕ) {b : Bool} → b ≡ fits (length m) (union l u (kept c (runs m))) → growing k ≡ true → b ≡ fits (length m) (changed k l u c (runs m))
-room-grown m k l u c e q = e ∙ sym (ap (λ (s : Runs). fits (length m) s) (changed-1 l u c (runs m) k q))
+pub room-grown : (k l u c : ℕ) (rs : Runs) {b : Bool} → b ≡ fits 129 (union l u (kept c rs)) → growing k ≡ true → b ≡ fits 129 (changed k l u c rs)
+room-grown k l u c rs e q = e ∙ sym (ap (λ (s : Runs). fits 129 s) (changed-1 l u c rs k q))
 
 -- a change keeps runs in order
 pub changed-under : (top k l u c : ℕ) (rs : Runs) → Under top rs → u + 1 < top → Under top (changed k l u c rs)
@@ -144,21 +143,30 @@ module _ (k l u c : ℕ) (rs : Runs) where
   will-3 e q = e ∙ sym (ap (λ (s : Runs). has s c) (changed-3 l u c rs k q) ∙ none-has l u c)
 
 -- ---- `change`, arm by arm
-module _ {m : List ℕ} (k l u c : ℕ) (g : Good m) (f : fits (length m) (changed k l u c (runs m)) ≡ true) where
-  pub change-0 : {m′ : List ℕ} → m′ ≡ pack (length m) (kept c (runs m)) → k ≡ 0 → m′ ≡ pack (length m) (changed k l u c (runs m))
-  change-0 a q = a ∙ sym (ap (pack (length m)) (changed-0 l u c (runs m) k q))
+module _ {m : List ℕ} (k l u c : ℕ) (g : Rolling m) (f : fits 129 (changed k l u c (ringed m)) ≡ true) where
+  -- once the old runs are dropped
+  module _ {m₁ : List ℕ} (d : m₁ ≡ rolled (turnAfter c m) (kept c (ringed m))) where
+    pub change-0 : k ≡ 0 → m₁ ≡ rolled (turnAfter c m) (changed k l u c (ringed m))
+    change-0 q = d ∙ sym (ap (rolled (turnAfter c m)) (changed-0 l u c (ringed m) k q))
 
-  pub change-1 : {m₁ m′ : List ℕ} → m₁ ≡ pack (length m) (kept c (runs m)) → m′ ≡ addWords m₁ l u → growing k ≡ true → m′ ≡ pack (length m) (changed k l u c (runs m))
-  change-1 {m₁} d a q =
-      let e = changed-1 l u c (runs m) k q in
-      let n : length m₁ ≡ length m = ap length d ∙ length-pack (length m) (kept c (runs m)) (ltb-true _ _ (kept-fits c g)) in
-      let r : runs m₁ ≡ kept c (runs m) = ap (λ (x : List ℕ). runs x) d ∙ runs-pack (length m) (kept c (runs m)) in
-      let h : 2 * length (union l u (kept c (runs m))) < length m = ltb-true _ _ (rw e at f) in
-      a ∙ added-words m₁ l u (rw (n, r) h) ∙ rw (n, r, e)
+    module _ (q : growing k ≡ true) where
+      pub grows-room : fits 129 (union l u (ringed m₁)) ≡ true
+      grows-room = kept-room g c d l u (sym (ap (λ (s : Runs). fits 129 s) (changed-1 l u c (ringed m) k q)) ∙ f)
 
-  pub change-2 : {m′ : List ℕ} → m′ ≡ pack (length m) [] → k ≡ 2 → m′ ≡ pack (length m) (changed k l u c (runs m))
-  change-2 a q = a ∙ sym (ap (pack (length m)) (changed-2 l u c (runs m) k q))
+      pub change-1 : {m′ : List ℕ} → m′ ≡ rolled (turnOf m₁) (union l u (ringed m₁)) → m′ ≡ rolled (turnAfter c m) (changed k l u c (ringed m))
+      change-1 a = a ∙ ap₂ rolled (kept-turn g c d) (ap (union l u) (kept-runs g c d) ∙ sym (changed-1 l u c (ringed m) k q))
 
-  pub change-3 : {m′ : List ℕ} → m′ ≡ setToWords m l u → k ≡ 3 → m′ ≡ pack (length m) (changed k l u c (runs m))
-  unfolding setToWords
-  change-3 a q = let e = changed-3 l u c (runs m) k q in a ∙ rw (← e, f)
+    -- and once the others are, too
+    module _ {m₂ : List ℕ} (e : m₂ ≡ rolled (turnOf m₁) []) where
+      pub bare : Rolling m₂
+      bare = bare-ring (kept-ring g c d) e
+
+      pub change-2 : k ≡ 2 → m₂ ≡ rolled (turnAfter c m) (changed k l u c (ringed m))
+      change-2 q = e ∙ ap₂ rolled (kept-turn g c d) (sym (changed-2 l u c (ringed m) k q))
+
+      pub one-fits : fits 129 (union l u (ringed m₂)) ≡ true
+      one-fits = ap (λ (rs : Runs). fits 129 (union l u rs)) (bare-runs (kept-ring g c d) e) ∙ lt-ltb (2 * length (union l u [])) 129 (omega (arith, one-run l u))
+
+      pub change-3 : {m′ : List ℕ} → m′ ≡ rolled (turnOf m₂) (union l u (ringed m₂)) → k ≡ 3 → m′ ≡ rolled (turnAfter c m) (changed k l u c (ringed m))
+      change-3 a q =
+          a ∙ ap₂ rolled (bare-turn (kept-ring g c d) e ∙ kept-turn g c d) (ap (union l u) (bare-runs (kept-ring g c d) e) ∙ sym (changed-3 l u c (ringed m) k q))

@@ -3,11 +3,10 @@
 // the call leaves are dropped first.
 ghost use mathlib.Core.Path.{_≡_};
 ghost use mathlib.Core.Bool.{true};
-ghost use Prim.Native.Nat.{_<_};
-ghost use lib.ListN.{length};
-ghost use Rattle.numset.specs.Runs.{Good, runs, has, fits, pack};
+ghost use Rattle.numset.specs.Runs.{SET-WORDS, has, fits};
+ghost use Rattle.ring.specs.Ring.{ringed, Rolling, rolled, turnAfter};
 ghost use Rattle.set_change.specs.Change.{modeOf, changed, growing, spanned, spannedIf, adding, bothOf};
-use numset::Outlook;
+use ring::Outlook;
 
 // The changes: the set stays, or is dropped; the range is added, or is not. To a set that stays the ranges of a stretch of instants
 // may be added, as one interval.
@@ -103,13 +102,12 @@ pub fn next(before: u8, mode: u8, spans: bool) -> u8
 // is dropped for its age; and only a set that stays can grow past its words. The two changes that drop the set stand together, here and
 // below: one look tells them from those by which it grows.
 pub fn look_ahead(set: &[u64], mode: u8, lower: u64, upper: u64, clock: u64) -> Outlook
-    requires { ⌜ Good (now set) ⌝ }
-    requires { ⌜ 2 < length (now set) ⌝ }
-    ensures { λ r. ⌜ (r .here ≡ has (changed mode lower upper clock (runs (now (set .entry)))) clock) × (r .room ≡ fits (length (now (set .entry))) (changed mode lower upper clock (runs (now (set .entry))))) ⌝ }
+    requires { ⌜ Rolling (now set) ⌝ }
+    ensures { λ r. ⌜ (r .here ≡ has (changed mode lower upper clock (ringed (now (set .entry)))) clock) × (r .room ≡ fits SET-WORDS (changed mode lower upper clock (ringed (now (set .entry))))) ⌝ }
 {
     match mode {
         STAYS => {
-            let here = numset::contains_from_oldest(set, clock);
+            let here = ring::contains(set, clock);
             Outlook { here, room: true }
         }
         DROPPED | DROPPED_AND_ADDS => {
@@ -119,30 +117,29 @@ pub fn look_ahead(set: &[u64], mode: u8, lower: u64, upper: u64, clock: u64) -> 
                     room: true,
                 };
             }
-            let here = numset::inside(lower, upper, clock);
+            let here = ring::inside(lower, upper, clock);
             Outlook { here, room: true }
         }
-        _ => numset::look_ahead(set, clock, lower, upper),
+        _ => ring::look_ahead(set, clock, lower, upper),
     }
 }
 
 // The change, which there is room for.
 pub fn change(set: &mut [u64], mode: u8, lower: u64, upper: u64, clock: u64)
-    requires { ⌜ Good (now set) ⌝ }
-    requires { ⌜ fits (length (now set)) (changed mode lower upper clock (runs (now set))) ≡ true ⌝ }
-    ensures { λ _. ⌜ now (set .exit) ≡ pack (length (now (set .entry))) (changed mode lower upper clock (runs (now (set .entry)))) ⌝ }
+    requires { ⌜ Rolling (now set) ⌝ }
+    requires { ⌜ fits SET-WORDS (changed mode lower upper clock (ringed (now set))) ≡ true ⌝ }
+    ensures { λ _. ⌜ now (set .exit) ≡ rolled (turnAfter clock (now (set .entry))) (changed mode lower upper clock (ringed (now (set .entry)))) ⌝ }
 {
+    ring::drop_before(set, clock);
     match mode {
-        STAYS => numset::drop_before(set, clock),
+        STAYS => (),
         DROPPED | DROPPED_AND_ADDS => {
+            ring::clear(set);
             if mode == DROPPED {
-                numset::clear(set);
                 return;
             }
-            numset::set_to(set, lower, upper);
+            ring::add(set, lower, upper);
         }
-        _ => {
-            numset::drop_and_add(set, clock, lower, upper);
-        }
+        _ => ring::add(set, lower, upper),
     }
 }

@@ -6,14 +6,14 @@ use mathlib.Core.Path.{_≡_, refl, sym, ap, ap₂, _∙_}
 use mathlib.Core.Bool.{Bool, true, false, cond, _&&_}
 use mathlib.Core.Logic.{⊎-elim}
 use mathlib.Core.List.{List}
-use lib.ListN.{getD, set, length-set}
+use lib.ListN.{length, getD, set, length-set}
 use lib.Seq.{set-getD, getD-set-same, getD-set-other}
 use lib.Dec.{eqb, leb, ltb}
 use borrow.Author.Tests.{eqb-true, eq-eqb, ne-eqb}
 use Rattle.lists.specs.Lists.{filledFrom}
 use Rattle.lists.proofs.Tests.{either}
 use Rattle.lists.proofs.Filled.{filledFrom-at, filledFrom-before, filledFrom-after, filledFrom-more}
-use Rattle.numset.specs.Runs.{runs, held}
+use Rattle.ring.specs.Ring.{ringed}
 use Rattle.pmtl.specs.declared.Answer.{Answer}
 use Rattle.pmtl.specs.declared.Answer.the-variants.{Open}
 use Rattle.pmtl.specs.Answer.{bitOf, digitOf}
@@ -69,7 +69,7 @@ module _ {m m′ : List ℕ} (sound : Sound m) (alike : Alike m m′) where
   answer-same f r = rw (alike-rows sound alike, alike-state sound alike)
 
   standing-same : (j : ℕ) → j < 32 → standingAt m′ j ≡ standingAt m j
-  standing-same j h = ap₂ (λ (c : ℕ) (ws : List ℕ). standing c (runs ws)) (alike .below 2 (omega arith)) (alike-set sound alike j h)
+  standing-same j h = ap₂ (λ (c : ℕ) (ws : List ℕ). standing c (ringed ws)) (alike .below 2 (omega arith)) (alike-set sound alike j h)
 
   -- a table whose words are the same is right in both
   pub valued-same : ((r : ℕ) → r < 128 → valueAt m′ r ≡ valueAt m r) → Valued m → Valued m′
@@ -323,8 +323,8 @@ module _ {m : List ℕ} (sound : Sound m) where
         omega arith
 
     -- what is so of one more set, and how many runs it has
-    module _ (h : n < temporals m) {words again : List ℕ} {clock old new most′ : ℕ} (ec : clock ≡ clockOf m) (ew : words ≡ slotWords m′ n) (en : new ≡ standing clock (runs words))
-        (ea : again ≡ slotWords m′ n) (em : most′ ≡ max most (held again)) (eo : old ≡ toldAt m′ n)
+    module _ (h : n < temporals m) {words again : List ℕ} {clock old new most′ : ℕ} (ec : clock ≡ clockOf m) (ew : words ≡ slotWords m′ n) (en : new ≡ standing clock (ringed words))
+        (ea : again ≡ slotWords m′ n) (em : most′ ≡ max most (length (ringed again))) (eo : old ≡ toldAt m′ n)
       where
         small : n < 32
         small = let f = few-sets sound in omega arith
@@ -333,10 +333,10 @@ module _ {m : List ℕ} (sound : Sound m) where
         before = eo ∙ ap (λ (x : List ℕ). toldAt x n) (t .put) ∙ filledFrom-after TOLD (standingAt m) m 0 n (TOLD + n) (omega arith)
 
         is : new ≡ standingAt m n
-        is = en ∙ ap₂ (λ (c : ℕ) (ws : List ℕ). standing c (runs ws)) ec (ew ∙ alike-set sound alike n small)
+        is = en ∙ ap₂ (λ (c : ℕ) (ws : List ℕ). standing c (ringed ws)) ec (ew ∙ alike-set sound alike n small)
 
         count-is : most′ ≡ mostTo m (n + 1)
-        count-is = em ∙ ap₂ (λ (a : ℕ) (ws : List ℕ). max a (held ws)) (t .counted) (ea ∙ alike-set sound alike n small) ∙ sym (most-more m n)
+        count-is = em ∙ ap₂ (λ (a : ℕ) (ws : List ℕ). max a (length (ringed ws))) (t .counted) (ea ∙ alike-set sound alike n small) ∙ sym (most-more m n)
 
         -- it was told so before
         pub telling-same : old ≡ new → Telling m (n + 1) m′ first end most′

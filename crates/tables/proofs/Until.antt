@@ -1,18 +1,20 @@
 -- The least that a slot tells of up to when its set stays as it is, is what the monitor that a memory holds tells; and what the word for it says. Assumes nothing.
-use Prim.Native.Nat.{ℕ, zero, suc, _+_, _*_, _-_, min, _≤_, _<_}
+use Prim.Native.Nat.{ℕ, zero, suc, _+_, _-_, min, _≤_, _<_}
 use native.Mathlib.Numerals.{add-one}
 use native.Mathlib.Omega.{arith}
 use mathlib.Core.Path.{_≡_, refl, sym, ap, ap₂, _∙_}
 use mathlib.Core.Logic.{⊎-elim}
 use mathlib.Core.Bool.{true, false, cond}
-use mathlib.Core.List.{List}
+use mathlib.Core.List.{List, [], _∷_}
 use lib.ListN.{length, getD, set, length-set}
 use lib.Seq.{getD-set-same, getD-set-other}
 use borrow.Author.Tests.{lt-ltb, le-ltb, eq-eqb, ne-eqb}
 use Rattle.numbers.specs.Limits.{MAX}
 use Rattle.lists.proofs.Tests.{lt-or-ge}
-use Rattle.numset.specs.Runs.{Runs, runsTo}
+use Rattle.numset.specs.Runs.{Runs, lo, hi, runsTo}
 use Rattle.numset.specs.Until.{restsUntil}
+use Rattle.ring.specs.Ring.{unrolled, ringed}
+use Rattle.ring.proofs.Rolls.{unrolled-count}
 use Rattle.pmtl.specs.Book.{Range, Rows, rowAt}
 use Rattle.pmtl.specs.Monitor.{State, setAt}
 use Rattle.pmtl.specs.Quiet.{steady, untilSet, untilRow, untilTo, quietUntil}
@@ -31,44 +33,52 @@ use Rattle.tables.specs.Puts.{movesPut, lowestPut, valuesPut, toldPut, c
 use Rattle.tables.proofs.Puts.{tables-same, worked-out}
 
 -- ---- one set, as the code finds it
-module _ (words : List ℕ) (c lower upper : ℕ) where
+pub until-none : (c lower upper : ℕ) (s : Runs) → length s ≡ 0 → MAX ≡ untilOf c lower upper s
+unfolding untilSet
+until-none c lower upper [] e = refl
+until-none c lower upper (r ∷ rs) e = absurd (omega arith)
+
+by-newest : (c : ℕ) (g : Range) (w : List ℕ) (n : ℕ) → 0 < n → untilSet c g (runsTo w n) ≡ cond (steady c g (lo w (n - 1)) (hi w (n - 1))) (restsUntil c (runsTo w n)) c
+unfolding runsTo untilSet
+by-newest c g w zero h = absurd (omega arith)
+by-newest c g w (suc j) h = let e : suc j - 1 ≡ j = omega arith in rw e
+
+module _ (words : List ℕ) (c lower upper : ℕ) (some : 0 < getD words 0 0) where
   abbrev g : Range
   g = record { lower = lower; upper = upper }
 
-  pub until-none : (n : ℕ) → n ≡ 0 → MAX ≡ untilOf c lower upper (runsTo words n)
-  unfolding runsTo untilSet
-  until-none n e = rw e refl
+  abbrev newestLower : ℕ
+  newestLower = lo (unrolled words) (getD words 0 0 - 1)
 
-  newest : (n : ℕ) → (n ≡ 0 → ⊥) → untilSet c g (runsTo words n) ≡ cond (steady c g (getD words (2 * n - 1) 0) (getD words (2 * n) 0)) (restsUntil c (runsTo words n)) c
-  unfolding runsTo untilSet
-  newest zero h = absurd (h refl)
-  newest (suc j) h =
-      let e : 2 * suc j - 1 ≡ 2 * j + 1 = omega arith in
-      let f : 2 * suc j ≡ 2 * j + 2 = omega arith in
-      rw (e, f)
+  abbrev newestUpper : ℕ
+  newestUpper = hi (unrolled words) (getD words 0 0 - 1)
 
-  module _ (n : ℕ) (some : n ≡ 0 → ⊥) where
-    steadily : steady c g (getD words (2 * n - 1) 0) (getD words (2 * n) 0) ≡ true → {r : ℕ} → r ≡ restsUntil c (runsTo words n) → r ≡ untilSet c g (runsTo words n)
-    steadily e er = er ∙ sym (newest n some ∙ rw e)
+  newest : untilSet c g (ringed words) ≡ cond (steady c g newestLower newestUpper) (restsUntil c (ringed words)) c
+  newest = rw (unrolled-count words) (by-newest c g (unrolled words) (getD words 0 0) some)
 
-    else-now : steady c g (getD words (2 * n - 1) 0) (getD words (2 * n) 0) ≡ false → c ≡ untilSet c g (runsTo words n)
-    else-now e = sym (newest n some ∙ rw e)
+  steadily : steady c g newestLower newestUpper ≡ true → {r : ℕ} → r ≡ restsUntil c (ringed words) → r ≡ untilSet c g (ringed words)
+  steadily e er = er ∙ sym (newest ∙ rw e)
 
-    pub unbounded-rests : upper ≡ MAX → getD words (2 * n - 1) 0 < c + lower → {r : ℕ} → r ≡ restsUntil c (runsTo words n) → r ≡ untilOf c lower upper (runsTo words n)
+  else-now : steady c g newestLower newestUpper ≡ false → c ≡ untilSet c g (ringed words)
+  else-now e = sym (newest ∙ rw e)
+
+  module _ (unbounded : upper ≡ MAX) {l : ℕ} (lower-is : l ≡ newestLower) where
+    pub unbounded-rests : l < c + lower → {r : ℕ} → r ≡ restsUntil c (ringed words) → r ≡ untilOf c lower upper (ringed words)
     unfolding steady
-    unbounded-rests e h = steadily (rw (eq-eqb upper MAX e) (lt-ltb (getD words (2 * n - 1) 0) (c + lower) h))
+    unbounded-rests h = steadily (rw (eq-eqb upper MAX unbounded) (lt-ltb newestLower (c + lower) (omega arith)))
 
-    pub unbounded-now : upper ≡ MAX → c + lower ≤ getD words (2 * n - 1) 0 → c ≡ untilOf c lower upper (runsTo words n)
+    pub unbounded-now : c + lower ≤ l → c ≡ untilOf c lower upper (ringed words)
     unfolding steady
-    unbounded-now e h = else-now (rw (eq-eqb upper MAX e) (le-ltb (getD words (2 * n - 1) 0) (c + lower) h))
+    unbounded-now h = else-now (rw (eq-eqb upper MAX unbounded) (le-ltb newestLower (c + lower) (omega arith)))
 
-    pub bounded-rests : (upper ≡ MAX → ⊥) → getD words (2 * n) 0 < c + upper → {r : ℕ} → r ≡ restsUntil c (runsTo words n) → r ≡ untilOf c lower upper (runsTo words n)
+  module _ (bounded : upper ≡ MAX → ⊥) {u : ℕ} (upper-is : u ≡ newestUpper) where
+    pub bounded-rests : u < c + upper → {r : ℕ} → r ≡ restsUntil c (ringed words) → r ≡ untilOf c lower upper (ringed words)
     unfolding steady
-    bounded-rests e h = steadily (rw (ne-eqb upper MAX e) (lt-ltb (getD words (2 * n) 0) (c + upper) h))
+    bounded-rests h = steadily (rw (ne-eqb upper MAX bounded) (lt-ltb newestUpper (c + upper) (omega arith)))
 
-    pub bounded-now : (upper ≡ MAX → ⊥) → c + upper ≤ getD words (2 * n) 0 → c ≡ untilOf c lower upper (runsTo words n)
+    pub bounded-now : c + upper ≤ u → c ≡ untilOf c lower upper (ringed words)
     unfolding steady
-    bounded-now e h = else-now (rw (ne-eqb upper MAX e) (le-ltb (getD words (2 * n) 0) (c + upper) h))
+    bounded-now h = else-now (rw (ne-eqb upper MAX bounded) (le-ltb newestUpper (c + upper) (omega arith)))
 
 -- ---- the least of the first n slots
 unfoldable pub leastTo : List ℕ → ℕ → ℕ

@@ -6,7 +6,8 @@ use lib.ListN.{getD, set}
 use lib.Dec.{eqb, leb, ltb}
 use Rattle.numbers.specs.Limits.{MOST-ROWS}
 use Rattle.lists.specs.Lists.{filledFrom}
-use Rattle.numset.specs.Runs.{Runs, runs}
+use Rattle.numset.specs.Runs.{Runs}
+use Rattle.ring.specs.Ring.{ringed}
 use Rattle.pmtl.specs.declared.Answer.{Answer}
 use Rattle.pmtl.specs.declared.Answer.the-variants.{Open}
 use Rattle.pmtl.specs.Answer.{bitOf, digitOf}
@@ -40,7 +41,7 @@ valuesPut m = filledFrom VALUES (λ r. bitOf (valueOf m r)) m (rowCount m)
 
 -- what is so of each set
 abbrev pub standingAt : List ℕ → ℕ → ℕ
-standingAt m j = standing (clockOf m) (runs (slotWords m j))
+standingAt m j = standing (clockOf m) (ringed (slotWords m j))
 
 abbrev pub toldPut : List ℕ → List ℕ
 toldPut m = filledFrom TOLD (standingAt m) m (temporals m)
@@ -64,7 +65,7 @@ untilOf c lower upper s = untilSet c (record { lower = lower; upper = upper }) s
 
 -- of the set of slot j
 abbrev pub untilAt : List ℕ → ℕ → ℕ
-untilAt m j = untilSet (clockOf m) (rangeAt m (ownerAt m j)) (runs (slotWords m j))
+untilAt m j = untilSet (clockOf m) (rangeAt m (ownerAt m j)) (ringed (slotWords m j))
 
 -- up to when a time call moves the clock alone
 abbrev pub untilPut : List ℕ → List ℕ

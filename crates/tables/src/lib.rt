@@ -3,8 +3,9 @@ ghost use mathlib.Core.Path.{_≡_};
 ghost use mathlib.Core.Bool.{cond, _&&_};
 ghost use mathlib.Core.List.{map};
 ghost use Prim.Native.Nat.{_+_, _≤_, _<_, min, max};
+ghost use lib.ListN.{length};
 ghost use lib.Dec.{leb, ltb};
-ghost use Rattle.numset.specs.Runs.{Good, runs, held};
+ghost use Rattle.ring.specs.Ring.{ringed, Rolling};
 ghost use Rattle.pmtl.specs.Sets.{gone};
 ghost use Rattle.numbers.specs.Limits.{MAX as Limits·MAX, LAST-TIME, MOST-ROWS};
 ghost use Rattle.pmtl.specs.Book.{mapRow, moveRule, leastOf, lowestRule};
@@ -146,22 +147,21 @@ pub fn fill_values(monitor: &mut [u64; SIZE])
 
 // Whether a set has no instant at or after the clock: there is no run, or the newest ends before.
 fn gone(set: &[u64], clock: u64) -> bool
-    requires { ⌜ Good (now set) ⌝ }
-    ensures { λ r. ⌜ r ≡ gone clock (runs (now (set .entry))) ⌝ }
+    requires { ⌜ Rolling (now set) ⌝ }
+    ensures { λ r. ⌜ r ≡ gone clock (ringed (now (set .entry))) ⌝ }
 {
-    let count = set[0] as usize;
-    if count == 0 {
+    if ring::count(set) == 0 {
         return true;
     }
-    set[2 * count] < clock
+    ring::newest_upper(set) < clock
 }
 
 // What is so of a set.
 fn standing(set: &[u64], clock: u64) -> u64
-    requires { ⌜ Good (now set) ⌝ }
-    ensures { λ r. ⌜ r ≡ standing clock (runs (now (set .entry))) ⌝ }
+    requires { ⌜ Rolling (now set) ⌝ }
+    ensures { λ r. ⌜ r ≡ standing clock (ringed (now (set .entry))) ⌝ }
 {
-    if numset::covers(set, clock) {
+    if ring::covers(set, clock) {
         return COVERS;
     }
     if gone(set, clock) {
@@ -172,10 +172,10 @@ fn standing(set: &[u64], clock: u64) -> u64
 
 // The greater count: that of before, or how many runs this set has.
 fn fuller(most: u64, set: &[u64]) -> u64
-    requires { ⌜ Good (now set) ⌝ }
-    ensures { λ r. ⌜ r ≡ max most (held (now (set .entry))) ⌝ }
+    requires { ⌜ Rolling (now set) ⌝ }
+    ensures { λ r. ⌜ r ≡ max most (length (ringed (now (set .entry)))) ⌝ }
 {
-    let count = set[0];
+    let count = ring::count(set);
     if most < count { count } else { most }
 }
 
@@ -302,22 +302,21 @@ pub fn ask_all(monitor: &mut [u64; SIZE])
 
 // Up to when a set stays as it is, and the clock meets the same of it, by the range that its row adds and its newest run.
 fn until_of(set: &[u64], clock: u64, lower: u64, upper: u64) -> u64
-    requires { ⌜ Good (now set) × (clock ≤ LAST-TIME) × (lower ≤ LAST-TIME) ⌝ }
+    requires { ⌜ Rolling (now set) × (clock ≤ LAST-TIME) × (lower ≤ LAST-TIME) ⌝ }
     requires { ⌜ ((upper ≡ Limits·MAX → ⊥) → upper ≤ LAST-TIME) ⌝ }
-    ensures { λ r. ⌜ r ≡ untilOf clock lower upper (runs (now (set .entry))) ⌝ }
+    ensures { λ r. ⌜ r ≡ untilOf clock lower upper (ringed (now (set .entry))) ⌝ }
 {
-    let count = set[0] as usize;
-    if count == 0 {
+    if ring::count(set) == 0 {
         return MAX;
     }
     if upper == MAX {
-        if set[2 * count - 1] < clock + lower {
-            return numset::rests_until(set, clock);
+        if ring::newest_lower(set) < clock + lower {
+            return ring::rests_until(set, clock);
         }
         return clock;
     }
-    if set[2 * count] < clock + upper {
-        return numset::rests_until(set, clock);
+    if ring::newest_upper(set) < clock + upper {
+        return ring::rests_until(set, clock);
     }
     clock
 }

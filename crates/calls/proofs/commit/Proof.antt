@@ -12,7 +12,7 @@ use Rattle.calls.proofs.commit.Statement.{statement}
 use Rattle.calls.proofs.commit.Tie as tie
 
 abbrev Inv-loop : tie.InvT-loop
-Inv-loop monitor₀ clock modes count slot₀ monitor slot = (slot ≤ count) × (count ≡ temporals monitor₀) × Written monitor₀ (λ j. setAfter monitor₀ clock (getD modes j 0) j) slot monitor
+Inv-loop monitor₀ clock modes count slot₀ monitor slot = (slot ≤ count) × (count ≡ temporals monitor₀) × Written monitor₀ clock (λ j. setAfter monitor₀ clock (getD modes j 0) j) slot monitor
 
 abbrev μ-loop : tie.MeasureT-loop
 μ-loop monitor₀ clock modes count slot₀ monitor slot = count - slot
@@ -21,7 +21,7 @@ temporal-count-requires : tie.Need-temporal-count-requires Inv-loop μ-loop
 temporal-count-requires c κs = tt
 
 loop-holds : tie.Need-loop-holds Inv-loop μ-loop
-loop-holds c = let s = c .before .before in (omega arith, c .temporal-count .ensures, written-start (s .args .monitor .now) _ (s .pre .timely .sound .book .long))
+loop-holds c = let s = c .before .before in (omega arith, c .temporal-count .ensures, written-start (s .args .monitor .now) _ _ (s .pre .timely .sound .book .long))
 
 element-copy-out-commit-slot : tie.Need-element-copy-out-commit-slot Inv-loop μ-loop
 element-copy-out-commit-slot c = let s = c .before .before .before .before .before in let l = c .before .before .loop in let e = l .inv .1 in let f = s .pre .timely .sound .book .temporal-few in omega arith

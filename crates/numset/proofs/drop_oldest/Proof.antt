@@ -7,15 +7,6 @@ use borrow.Author.Needs.{needs}
 use Rattle.numset.proofs.drop_oldest.Statement.{statement}
 use Rattle.numset.proofs.drop_oldest.Tie as tie
 
-drop-one-requires : tie.Need-drop-one-requires
-drop-one-requires c κs = search needs
-
-same-length : tie.Need-same-length
-same-length c = search needs
-
-returns : tie.Need-returns
-returns c = rw (c .before .before .before .before .if1 .taken) (c .before .before .drop-one .ensures)
-
 slice-read-n : tie.Need-slice-read-n
 slice-read-n c = search needs
 
@@ -52,19 +43,16 @@ wipe-requires c κs = search needs
 slice-write-set : tie.Need-slice-write-set
 slice-write-set c = search needs
 
-same-length-2 : tie.Need-same-length-2
-same-length-2 c = simp length-set (search needs)
+same-length : tie.Need-same-length
+same-length c = simp length-set (search needs)
 
-returns-2 : tie.Need-returns-2
-returns-2 c = dropped (c .before .before .before .before .before .before .move-down .ensures) (c .before .before .wipe .ensures) refl (c .before .before .before .before .before .before .before .before .before .before .before .pre .0) (omega arith)
+returns : tie.Need-returns
+returns c = dropped (c .before .before .before .before .before .before .move-down .ensures) (c .before .before .wipe .ensures) refl (c .before .before .before .before .before .before .before .before .before .before .pre .0) (omega arith)
 
 pub drop-oldest-spec : {M : Type 1} → statement M
 drop-oldest-spec =
     tie.close
     (tie.spec
-    drop-one-requires
-    same-length
-    returns
     slice-read-n
     sub-left
     mul-move-down
@@ -77,5 +65,5 @@ drop-oldest-spec =
     add-wipe-2
     wipe-requires
     slice-write-set
-    same-length-2
-    returns-2)
+    same-length
+    returns)

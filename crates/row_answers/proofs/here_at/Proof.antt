@@ -1,6 +1,6 @@
 -- `row_answers::here_at` meets its contract. Assumes nothing.
 use native.Mathlib.Omega.{arith}
-use Rattle.row_answers.proofs.Values.{here-good, here-held}
+use Rattle.row_answers.proofs.Values.{here-rolling, here-held}
 use mathlib.Core.Path.{_∙_}
 use borrow.Author.Needs.{needs}
 use Rattle.row_answers.proofs.here_at.Statement.{statement}
@@ -16,7 +16,7 @@ clock-requires : tie.Need-clock-requires
 clock-requires c κs = search needs
 
 contains-requires : tie.Need-contains-requires
-contains-requires c κs = let s = c .before .before .before in here-good (s .pre .0) (s .pre .1 .0) (s .pre .1 .1) (c .before .before .slot-at .ensures) (c .before .set-at .ensures)
+contains-requires c κs = let s = c .before .before .before in here-rolling (s .pre .0) (s .pre .1 .0) (s .pre .1 .1) (c .before .before .slot-at .ensures) (c .before .set-at .ensures)
 
 returns : tie.Need-returns
 returns c = let s = c .before .before .before .before in c .contains .ensures ∙ here-held (s .pre .0) (s .pre .1 .0) (s .pre .1 .1) (c .before .before .before .slot-at .ensures) (c .before .before .set-at .ensures) (c .before .clock .ensures)
