@@ -1,6 +1,8 @@
 // Loads books and asks for their answers into a list of four records: of three properties, of four, and of five, for which the
 // list is too short. A line shows the number that was handed back, and then the list; a record that was not stored is the one
 // that stood there before.
+#![tactic(auto)]
+
 ghost use Rattle.memory.specs.Kept.{Kept};
 
 use oracle::{Answer, SIZE, Verdict};

@@ -1,5 +1,7 @@
 // Examples of REFERENCE that are run and not proved, each refusal of a call, and early answers where the lower bound is above 0.
 // Each call has a line with the number that it handed back and, for each property, value, early and settled: 2 is open.
+#![tactic(auto)]
+
 mod play;
 mod words;
 

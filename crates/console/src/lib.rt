@@ -1,11 +1,13 @@
 // Standard input and standard output, for every program. Whatever fails here is said in a line on standard error.
+#![tactic(auto)]
+
 ghost use Rattle.std.specs.Prelude.{length};
 ghost use Rattle.console.specs.Input.{Within};
 
 use libc::{STDERR_FILENO, STDIN_FILENO, STDOUT_FILENO};
 
 // What came of reading: so many bytes, none at the end of the input; or a read that failed.
-#[derive(Drop)]
+#[derive(Clone, Copy)]
 pub enum Came {
     Bytes(usize),
     Failed,

@@ -1,5 +1,7 @@
 // Opens desks and scans at them. A desk has a line with the number that it was opened with; a scan has a line with its time and barcode,
 // its number and, for each kit, value, early and settled, of which 2 is open. Where a stop slip prints, its kit follows.
+#![tactic(auto)]
+
 ghost use Rattle.std.specs.Prelude.{◌<◌, ◌≤◌};
 ghost use Rattle.numbers.specs.Limits.{LAST_TIME, MOST_KITS};
 ghost use Rattle.desk.specs.Standing.{Stands};

@@ -1,4 +1,6 @@
 // The kit desk, live: lines of decimal words on standard input, and each is answered on standard output before the next is awaited.
+#![tactic(auto)]
+
 ghost use Rattle.std.specs.Prelude.{◌≤◌, length as list_length};
 ghost use Rattle.desk_lines.specs.Does.{Good};
 ghost use Rattle.kit_desk.specs.Keeps.{Keeps};
@@ -17,7 +19,7 @@ const ROOM: usize = LONGEST_LINE + 1;
 const LINE_FEED: u8 = b'\n';
 
 // A line that was read: how many of its bytes were kept, and whether the input ended after it.
-#[derive(Drop)]
+#[derive(Clone, Copy)]
 struct Line {
     held: usize,
     ended: bool,

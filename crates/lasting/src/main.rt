@@ -1,4 +1,6 @@
 // Reads standard input and prints its report, the book loaded for the lasting way, in which a state lasts until the next call.
+#![tactic(auto)]
+
 use book::loading::Loading;
 
 fn main() {

@@ -1,5 +1,7 @@
 // Reads standard input and prints its report, the book loaded for the lasting way and strictly: of one that is accepted no line ever
 // says 11.
+#![tactic(auto)]
+
 use book::loading::Loading;
 
 fn main() {

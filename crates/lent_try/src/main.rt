@@ -1,4 +1,6 @@
 // Additions to a set that is lent, printed and compared with a stored output: P1 to P5, a full set, and what lapses.
+#![tactic(auto)]
+
 ghost use Rattle.std.specs.Prelude.{◌<◌, ◌≤◌};
 ghost use Rattle.numset.specs.Runs.{Good};
 

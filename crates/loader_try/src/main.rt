@@ -1,4 +1,6 @@
 // Loads a book from each line of the input, and shows the number that it is answered with. A line that begins with # is shown as it is.
+#![tactic(auto)]
+
 ghost use Rattle.std.specs.Prelude.{◌≤◌, length};
 
 use console::Came;

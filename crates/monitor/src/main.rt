@@ -1,4 +1,6 @@
 // Reads standard input and prints its report, the book loaded as any that is in order.
+#![tactic(auto)]
+
 use book::loading::Loading;
 
 fn main() {

@@ -1,5 +1,7 @@
 // What the set of instants does, printed and compared with a stored output: P1 to P5, the limit, the edges, what lapses, and
 // the set by value.
+#![tactic(auto)]
+
 mod print; // print.rt: a call, and what it gave, on one line
 
 ghost use Rattle.numset.specs.Runs.{Good};

@@ -1,4 +1,6 @@
 // Reads rules as text from standard input and prints their book in words, or what they are refused with.
+#![tactic(auto)]
+
 ghost use Rattle.std.specs.Prelude.{◌≡◌, ◌≤◌, length};
 ghost use Rattle.numbers.specs.Limits.{LONGEST_INPUT};
 ghost use Rattle.buffer_writer.specs.Buffer.{handed, in_buffer};

@@ -1,4 +1,6 @@
 // Prints the reports of recorded inputs. Each stands on standard input after its length, in decimal, and a line feed.
+#![tactic(auto)]
+
 use console::Came;
 use text::Read;
 

@@ -1,4 +1,6 @@
 // Text in, report out.
+#![tactic(auto)]
+
 mod lines;
 mod sums;
 mod text_calls;

@@ -1,4 +1,6 @@
 // Reads standard input and prints its report, for the programs that load a book in one way or the other.
+#![tactic(auto)]
+
 ghost use Rattle.std.specs.Prelude.{◌≡◌, true, ◌<◌, length};
 ghost use Rattle.numbers.specs.Limits.{MAX};
 ghost use Rattle.reporter.specs.Rooms.{SHORT_REPORT, holds, one_holds};

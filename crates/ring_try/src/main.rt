@@ -1,5 +1,7 @@
 // What a ring of words does for a clock that only goes on, printed and compared with a stored output: runs one after the other, one that is
 // made longer, those that lapse, what belongs in between, the ring that goes round, and the room ahead.
+#![tactic(auto)]
+
 ghost use Rattle.ring.specs.Ring.{Rolling};
 
 use numbers::{MAX, MOST_RUNS};

@@ -1,4 +1,6 @@
 // What the programs that try the crates print alike, on standard output. Where printing fails, console says so.
+#![tactic(auto)]
+
 ghost use Rattle.std.specs.Prelude.{◌<◌, ◌≤◌};
 ghost use Rattle.numset.specs.Runs.{Good};
 

@@ -1,5 +1,7 @@
 // Makes calls on a book with two properties, an atom and Historically[0,MAX] of another, and asks for both summaries, and for that of
 // a third property, which is not there. A line for each call: the number that it handed back, and then three times six numbers.
+#![tactic(auto)]
+
 ghost use Rattle.memory.specs.Kept.{Kept};
 
 use oracle::{SIZE, Summary};

@@ -1,4 +1,6 @@
 // Shows what the reader of words gives and what the writer of numbers leaves, for texts and scratches at the limits.
+#![tactic(auto)]
+
 use numbers::MAX;
 use show::number;
 use text::Read;

@@ -1,4 +1,6 @@
 // Reads a book in words and steps from standard input and prints the tidied book, or what is refused.
+#![tactic(auto)]
+
 ghost use Rattle.std.specs.Prelude.{◌≡◌, ◌≤◌, length};
 ghost use Rattle.numbers.specs.Limits.{LONGEST_INPUT};
 ghost use Rattle.numbers.specs.Refusals.{ACCEPTED};

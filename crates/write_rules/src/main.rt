@@ -1,4 +1,6 @@
 // Reads a book in words from standard input and prints it as text, or what it is refused with.
+#![tactic(auto)]
+
 ghost use Rattle.std.specs.Prelude.{◌≡◌};
 ghost use Rattle.book.specs.Judging.{loaded};
 ghost use Rattle.buffer_writer.specs.Buffer.{handed, in_buffer};
