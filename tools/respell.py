@@ -21,7 +21,7 @@ DECLARED = re.compile(
     re.M,
 )
 TOKEN = re.compile(r"[^\s(){}\[\].,;=λ\"`·]+")
-IMPORT = re.compile(r"^(?:pub )?(?:ghost )?use ([^\s{;]+)(?:\.\{([^}]*)\})?", re.M)
+IMPORT = re.compile(r"^(?:pub )?(?:ghost )?use ([^\s{;]+?)\.\{([^}]*)\}", re.M)
 CLAUSE = re.compile(r"^\s*(?:requires|ensures|ghost)\b[^{]*\{(.*)\}\s*$")
 
 
