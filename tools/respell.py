@@ -100,6 +100,9 @@ def renames(files, texts, crates):
             meets = any(users[name] & users[other] for other in names if other != name)
             if name in turned and (meets or len(names) > 1) and "-" in name:
                 turned[name] = new + "_lem"
+    for new, names in groups.items():
+        if new in names and any(users[new] & users[other] for other in names if turned.get(other) == new and other != new):
+            turned[new] = new + "_lem"
     for name, new in list(turned.items()):
         others = [other for other in groups.get(new, ()) if other != name]
         if not others and users[name] & users[new]:

@@ -11,4 +11,4 @@ pub store-requires : goal.store-requires
 store-requires c = let m = c.args.set.now in (c.requires.rolling.0, place_free m c.args.lower c.args.upper c.requires.rolling.0 c.requires.rolling.1 c.requires.rolling.2 c.requires.set_value)
 
 pub returns : goal.returns
-returns c = let m = c.args.set.now in let t = c.store in appended m c.args.lower c.args.upper c.requires.rolling.0 c.requires.rolling.1 c.requires.rolling.2 c.requires.set_value _ (t.auto.0 ∙ c.requires.rolling.0.long) t.ensures.1 (omega arith) t.ensures.0
+returns c = let m = c.args.set.now in let t = c.store in appended m c.args.lower c.args.upper c.requires.rolling.0 c.requires.rolling.1 c.requires.rolling.2 c.requires.set_value _ (t.auto.set ∙ c.requires.rolling.0.long) t.ensures.1 (omega arith) t.ensures.0

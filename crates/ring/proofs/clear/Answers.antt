@@ -7,4 +7,4 @@ pub returns-then-set-eq0 : goal.returns-then-set-eq0
 returns-then-set-eq0 c = cleared_none c.args.set.now c.requires c.if-set-eq0.true
 
 pub returns : goal.returns
-returns c = let w = c.wipe in cleared_some c.requires w.ensures (w.auto.0 ∙ c.requires.long) refl
+returns c = let w = c.wipe in cleared_some c.requires w.ensures (w.auto.set ∙ c.requires.long) refl

@@ -13,10 +13,10 @@ pub drop_oldest-requires : goal.drop_oldest-requires
 drop_oldest-requires c = let w = c.loop-set.invariant in (w.ring, some_there _ _ (sym c.oldest_lapsed.ensures ∙ c.loop-set-test.true))
 
 pub loop-set-smaller : goal.loop-set-smaller
-loop-set-smaller c = let w = c.loop-set.invariant in let d = c.drop_oldest in fewer_left _ w (sym c.oldest_lapsed.ensures ∙ c.loop-set-test.true) d.ensures.0 d.ensures.1 (d.auto.0 ∙ w.ring.long)
+loop-set-smaller c = let w = c.loop-set.invariant in let d = c.drop_oldest in fewer_left _ w (sym c.oldest_lapsed.ensures ∙ c.loop-set-test.true) d.ensures.0 d.ensures.1 (d.auto.set ∙ w.ring.long)
 
 pub loop-set-preserved : goal.loop-set-preserved
-loop-set-preserved c = let w = c.loop-set.invariant in let d = c.drop_oldest in dropping_more _ w (sym c.oldest_lapsed.ensures ∙ c.loop-set-test.true) d.ensures.0 d.ensures.1 (d.auto.0 ∙ w.ring.long)
+loop-set-preserved c = let w = c.loop-set.invariant in let d = c.drop_oldest in dropping_more _ w (sym c.oldest_lapsed.ensures ∙ c.loop-set-test.true) d.ensures.0 d.ensures.1 (d.auto.set ∙ w.ring.long)
 
 pub shape_of-set : goal.shape_of-set
 shape_of-set c = let g = c.loop-set.invariant.ring.long in let h = c.requires.long in omega arith
