@@ -1,4 +1,5 @@
 -- `book::check::operands_number` meets its contract. The loop's invariant stands first. Assumes nothing.
+use mathlib.Core.List.{[]}
 use Rattle.book.specs.Placing.{sections_of}
 use Rattle.book.specs.Judging.{start_in, all_to, operands_good}
 use lib.ListN.{length}

@@ -13,4 +13,4 @@ pub returns : goal.returns
 returns c =
     let asked = c.requires in
     let w = c.write_last in
-    anew _ _ _ _ (omega (arith, asked.1)) asked.0.size w.auto.1.0 w.ensures.0 w.ensures.1
+    anew _ _ _ _ (omega (arith, asked.1)) asked.0.size w.auto.scratch w.ensures.0 w.ensures.1

@@ -8,7 +8,7 @@ loop-i-init c = let asked = c.requires.first_value in (count_start _ _ _ (omega 
 pub returns-then-parts : goal.returns-then-parts
 returns-then-parts c =
     let asked = c.requires in
-    count_ends _ _ _ (omega arith) asked.1.0 asked.1.2 _ _ c.loop-i.invariant.0 asked.1.1 c.loop-i.invariant.2 (omega arith) asked.0.1 (sym c.parts.ensures ∙ c.if-parts.true)
+    count_ends _ _ _ (omega arith) asked.first_value.0 asked.first_value.2 _ _ c.loop-i.invariant.0 asked.first_value.1 c.loop-i.invariant.2 (omega arith) asked.at_in_bounds.1 (sym c.parts.ensures ∙ c.if-parts.true)
 
 pub overflow_mul-n : goal.overflow_mul-n
 overflow_mul-n c = let k = count_few c.loop-i.invariant.0 (omega arith) in omega arith
