@@ -107,6 +107,9 @@ def renames(files, texts, crates):
         others = [other for other in groups.get(new, ()) if other != name]
         if not others and users[name] & users[new]:
             turned[name] = new + "_lem"
+    for name, new in list(turned.items()):
+        if "◌" in name:
+            turned.update(zip(filter(None, name.split("◌")), filter(None, new.split("◌"))))
     return turned
 
 

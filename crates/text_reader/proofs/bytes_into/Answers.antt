@@ -17,7 +17,7 @@ unfolding BytesRead
 returns-in_default c = let e = c.in_default.is in turn_stop c.loop-i.invariant (sym c.next_short-r.ensures ∙ e) c.loop-i-test.true (c.number_of.ensures ∙ sym (number e))
 
 pub loop-i-preserved : goal.loop-i-preserved
-loop-i-preserved c = turn_more c.loop-i.invariant (sym c.next_short-r.ensures ∙ c.in-Word.is) c.byte_of.ensures c.loop-i-test.true (room_kept c.requires c.bits-i.auto.1.1.1.0)
+loop-i-preserved c = turn_more c.loop-i.invariant (sym c.next_short-r.ensures ∙ c.in-Word.is) c.byte_of.ensures c.loop-i-test.true (room_kept c.requires c.bits-i.auto.bytes)
 
 pub returns : goal.returns
 unfolding BytesRead

@@ -19,7 +19,7 @@ pub words_into-requires : goal.words_into-requires
 words_into-requires c = simp length-set (omega (arith, mul-le-mul_left c.args.size c.if-count-limit.false))
 
 pub shape_of-words : goal.shape_of-words
-shape_of-words c = c.words_into.auto.1.1.1.0 ∙ simp length-set
+shape_of-words c = c.words_into.auto.words ∙ simp length-set
 
 pub returns : goal.returns
 returns c = section_read _ _ _ _ _ _ _ _ (sym c.next_word-r.ensures ∙ c.in-Word.is) c.if-count-limit.false (omega arith) c.words_into.ensures
