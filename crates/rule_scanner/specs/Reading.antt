@@ -16,16 +16,16 @@ use Rattle.rule_scanner.specs.declared.turns.Turn.TheVariants.{Refused, Go, Leaf
 
 -- a line of the table below: what each symbol does
 abbrev pub on : (Word → Turn) → (ℕ → Turn) → Turn → Turn → Turn → Turn → Turn → Turn → Turn → Symbol → Turn
-on name number left right opens closes comma star end (symbol.Name w) = name w
-on name number left right opens closes comma star end (symbol.Number n) = number n
-on name number left right opens closes comma star end symbol.Left = left
-on name number left right opens closes comma star end symbol.Right = right
-on name number left right opens closes comma star end symbol.Opens = opens
-on name number left right opens closes comma star end symbol.Closes = closes
-on name number left right opens closes comma star end symbol.Comma = comma
-on name number left right opens closes comma star end symbol.Star = star
-on name number left right opens closes comma star end symbol.Bad = Refused
-on name number left right opens closes comma star end symbol.End = end
+on name number left right opens shuts comma star end (symbol.Name w) = name w
+on name number left right opens shuts comma star end (symbol.Number n) = number n
+on name number left right opens shuts comma star end symbol.Left = left
+on name number left right opens shuts comma star end symbol.Right = right
+on name number left right opens shuts comma star end symbol.Opens = opens
+on name number left right opens shuts comma star end symbol.Closes = shuts
+on name number left right opens shuts comma star end symbol.Comma = comma
+on name number left right opens shuts comma star end symbol.Star = star
+on name number left right opens shuts comma star end symbol.Bad = Refused
+on name number left right opens shuts comma star end symbol.End = end
 
 -- what the word does that a property begins with
 abbrev pub begun : Word → Turn

@@ -8,7 +8,7 @@ loop-row-init c = rows_start _ _ _ _
 
 -- src/lib.rt:52:5
 pub loop-row-preserved : goal.loop-row-preserved
-loop-row-preserved c = rows_more _ _ c.loop-row.invariant c.loop-row-test.true c.put_row-end.ensures c.put_row-end.auto.0
+loop-row-preserved c = rows_more _ _ c.loop-row.invariant c.loop-row-test.true c.put_row-end.ensures c.put_row-end.auto.out
 
 -- src/lib.rt:47:1
 pub returns : goal.returns

@@ -8,7 +8,7 @@ loop-i-init c = words_start _ _ _ _
 
 -- src/lib.rt:65:5
 pub loop-i-preserved : goal.loop-i-preserved
-loop-i-preserved c = words_more _ _ c.loop-i.invariant c.loop-i-test.true c.put_word-end.ensures c.put_word-end.auto.0
+loop-i-preserved c = words_more _ _ c.loop-i.invariant c.loop-i-test.true c.put_word-end.ensures c.put_word-end.auto.out
 
 -- src/lib.rt:60:1
 pub returns : goal.returns

@@ -7,4 +7,4 @@ returns-then-depth-eq0 c = rw (c.if-depth-eq0.true, ← c.less_one.ensures) c.be
 
 -- src/scan.rt:170:1
 pub returns : goal.returns
-returns c = after_pass _ _ c.if-depth-eq0.false
+returns c = after_pass c.args.p c.args.depth c.if-depth-eq0.false

@@ -1,4 +1,3 @@
-use Rattle.rule_scanner.proofs.Refusing.{not_after}
 use mathlib.Core.Path.{◌∙◌}
 use Rattle.rule_scanner.proofs.turns.after_part.Goals as goal
 
@@ -9,7 +8,3 @@ returns-in-Comma c = c.parting.ensures ∙ rw c.in-Comma.is
 -- src/turns.rt:116:1
 pub returns-in-Closes : goal.returns-in-Closes
 returns-in-Closes c = c.closing.ensures ∙ rw c.in-Closes.is
-
--- src/turns.rt:116:1
-pub returns-in_default : goal.returns-in_default
-returns-in_default c = not_after c.args.f c.args.s c.in_default.in_default-own.keys3

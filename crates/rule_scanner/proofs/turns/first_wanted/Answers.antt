@@ -1,4 +1,3 @@
-use Rattle.rule_scanner.proofs.Refusing.{not_first}
 use Rattle.rule_scanner.specs.declared.turns.Form.TheVariants.{Many}
 use mathlib.Core.Path.{◌∙◌}
 use Rattle.rule_scanner.proofs.turns.first_wanted.Goals as goal
@@ -10,7 +9,3 @@ returns-in-Name c = c.begun.ensures ∙ rw c.in-Name.is
 -- src/turns.rt:84:1
 pub returns-in-Closes : goal.returns-in-Closes
 returns-in-Closes c = rw c.in-Closes.is
-
--- src/turns.rt:84:1
-pub returns-in_default : goal.returns-in_default
-returns-in_default c = not_first Many c.args.s c.in_default.in_default-own.keys3
