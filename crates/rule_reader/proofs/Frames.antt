@@ -104,6 +104,7 @@ not_atom Implies a n k = refl
 not_atom Hist a n k = refl
 not_atom Once a n k = refl
 not_atom Since a n k = refl
+not_atom Atom a n k = elim k [ ]
 
 -- there are no fewer rows than when it opened
 pub base_low : {l : Laid} {fm rs os ts : List ℕ} (depth top : ℕ) (r : State) → (depth ≡ 0 → ⊥) → top ≡ depth - 1 → depth ≡ length r.stack → Lies r l fm rs os ts → arg_in fm top ≤ l.height
@@ -217,7 +218,7 @@ module _ {fm fm' rs os ts : List ℕ} (depth row : ℕ) (l : Laid) where
             arg_set fm depth kind base x u room ∙ eb ∙ y.height,
             lower_set fm depth kind base x u room,
             upper_set fm depth kind base x u room,
-            frames_keep fm depth kind base x u room r.stack (r.before then r.here) low y.frames,
+            rw e (frames_keep fm depth kind base x u room r.stack (r.before then r.here) low y.frames),
           );
         };
     frames_size = ap length e ∙ length-sets fm (4 * depth) (kind ∷ base ∷ x ∷ u ∷ []);

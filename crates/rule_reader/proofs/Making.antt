@@ -119,6 +119,7 @@ not_count (mode.Upper w l) h k = tt
 not_count (mode.Right w l u) h k = tt
 not_count (mode.Open w l u) h k = tt
 not_count mode.Over h k = tt
+not_count mode.Count h k = elim k [ ]
 
 pub record Tidy (r : State) : Type 0 where
   pub first : r.second ≡ false → r.before ≡ none
@@ -166,6 +167,9 @@ not_atom Implies a l u k = tt
 not_atom Hist a l u k = tt
 not_atom Once a l u k = tt
 not_atom Since a l u k = tt
+not_atom False a l u k = elim k [ ]
+not_atom True a l u k = elim k [ ]
+not_atom Atom a l u k = elim k [ ]
 
 one_frame : (f : Frame) (n : ℕ) → FrameOk f n → NotAtom f.head.word
 one_frame f n k = not_atom f.head.word f.head.atom f.head.lower f.head.upper k.op

@@ -21,4 +21,4 @@ put_sections-length-requires c = can_put c.requires c.part_of.ensures c.lay_all-
 
 -- src/tidy.rt:80:1
 pub returns : goal.returns
-returns c = makes_book c.requires c.part_of.ensures c.lay_all-laid.ensures (omega (arith, c.if-laid-gt-MOST_ROWS.false)) c.part_of-2.ensures c.counts_after-counts.ensures c.put_sections-length.ensures c.put_sections-length.auto.0
+returns c = makes_book c.requires c.part_of.ensures c.lay_all-laid.ensures (omega (arith, c.if-laid-gt-MOST_ROWS.false)) c.part_of-2.ensures c.counts_after-counts.ensures c.put_sections-length.ensures c.put_sections-length.auto.words
