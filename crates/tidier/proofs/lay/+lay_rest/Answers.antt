@@ -13,44 +13,44 @@ part_falls left e h l = omega arith
 rest_falls : {t : ℕ} (row left : ℕ) → row * 2 ^ 64 + left ≡ t → 0 < left → row * 2 ^ 64 + (left - 1) < t
 rest_falls row left e h = omega arith
 
-pub lay_rest-lay_end-requires : goal.lay_rest-lay_end-requires
-lay_rest-lay_end-requires t c = can_end c.requires
+pub lay_end-requires : goal.lay_end-requires
+lay_end-requires t c = can_end c.requires
 
-pub lay_rest-returns-then-left-eq0 : goal.lay_rest-returns-then-left-eq0
-lay_rest-returns-then-left-eq0 t c = lays_done c.requires c.if-left-eq0.true c.lay_end.ensures
+pub returns-then-left-eq0 : goal.returns-then-left-eq0
+returns-then-left-eq0 t c = lays_done c.requires c.if-left-eq0.true c.lay_end.ensures
 
-pub lay_rest-operand_at-requires : goal.lay_rest-operand_at-requires
-lay_rest-operand_at-requires t c = (c.requires.walk, (omega (arith, c.if-left-eq0.false)))
+pub operand_at-requires : goal.operand_at-requires
+operand_at-requires t c = (c.requires.walk, (omega (arith, c.if-left-eq0.false)))
 
-pub lay_rest-stand_in-part-requires : goal.lay_rest-stand_in-part-requires
-lay_rest-stand_in-part-requires t c = part_fitted c.requires (omega (arith, c.if-left-eq0.false)) _ c.operand_at.ensures
+pub stand_in-part-requires : goal.stand_in-part-requires
+stand_in-part-requires t c = part_fitted c.requires (omega (arith, c.if-left-eq0.false)) _ c.operand_at.ensures
 
-pub lay_rest-count_at-requires : goal.lay_rest-count_at-requires
-lay_rest-count_at-requires t c = aim_held c.requires (omega (arith, c.if-left-eq0.false)) _ c.operand_at.ensures _ c.stand_in-part.ensures
+pub count_at-requires : goal.count_at-requires
+count_at-requires t c = aim_held c.requires (omega (arith, c.if-left-eq0.false)) _ c.operand_at.ensures _ c.stand_in-part.ensures
 
-pub lay_rest-lay_rest-below-requires : goal.lay_rest-lay_rest-below-requires
-lay_rest-lay_rest-below-requires t c = let h = aim_held c.requires (omega (arith, c.if-left-eq0.false)) _ c.operand_at.ensures _ c.stand_in-part.ensures in (part_falls _ c.decreases (aim_low c.requires (omega (arith, c.if-left-eq0.false)) _ c.operand_at.ensures _ c.stand_in-part.ensures) (omega (arith, start_few h, c.count_at.ensures)), inner_visit c.requires (omega (arith, c.if-left-eq0.false)) _ c.operand_at.ensures _ c.stand_in-part.ensures _ c.count_at.ensures)
+pub lay_rest-below-requires : goal.lay_rest-below-requires
+lay_rest-below-requires t c = let h = aim_held c.requires (omega (arith, c.if-left-eq0.false)) _ c.operand_at.ensures _ c.stand_in-part.ensures in (part_falls _ c.decreases (aim_low c.requires (omega (arith, c.if-left-eq0.false)) _ c.operand_at.ensures _ c.stand_in-part.ensures) (omega (arith, start_few h, c.count_at.ensures)), inner_visit c.requires (omega (arith, c.if-left-eq0.false)) _ c.operand_at.ensures _ c.stand_in-part.ensures _ c.count_at.ensures)
 
-pub lay_rest-count_at-requires-2 : goal.lay_rest-count_at-requires-2
-lay_rest-count_at-requires-2 t c = walk_row c.requires.walk
+pub count_at-requires-2 : goal.count_at-requires-2
+count_at-requires-2 t c = walk_row c.requires.walk
 
-pub lay_rest-lay_not_if-next-requires : goal.lay_rest-lay_not_if-next-requires
-lay_rest-lay_not_if-next-requires t c = layable_after c.requires.layable.rooms c.lay_rest-below.ensures.kept
+pub lay_not_if-next-requires : goal.lay_not_if-next-requires
+lay_not_if-next-requires t c = layable_after c.requires.layable.rooms c.lay_rest-below.ensures.kept
 
-pub lay_rest-overflow_sub-rest : goal.lay_rest-overflow_sub-rest
-lay_rest-overflow_sub-rest t c = omega (arith, c.if-left-eq0.false)
+pub overflow_sub-rest : goal.overflow_sub-rest
+overflow_sub-rest t c = omega (arith, c.if-left-eq0.false)
 
-pub lay_rest-lay_rest-requires : goal.lay_rest-lay_rest-requires
-lay_rest-lay_rest-requires t c = let x = c.requires in let a = layable_after x.layable.rooms c.lay_rest-below.ensures.kept in (rest_falls _ _ c.decreases (omega (arith, c.if-left-eq0.false)), record { walk = record { held = x.walk.held; inside = x.walk.inside; some = omega (arith, x.walk.some) }; fit = x.fit; stays = x.stays; layable = layable_after a.rooms c.lay_not_if-next.ensures.kept })
+pub lay_rest-requires : goal.lay_rest-requires
+lay_rest-requires t c = let x = c.requires in let a = layable_after x.layable.rooms c.lay_rest-below.ensures.kept in (rest_falls _ _ c.decreases (omega (arith, c.if-left-eq0.false)), record { walk = record { held = x.walk.held; inside = x.walk.inside; some = omega (arith, x.walk.some) }; fit = x.fit; stays = x.stays; layable = layable_after a.rooms c.lay_not_if-next.ensures.kept })
 
-pub lay_rest-shape_of-rows : goal.lay_rest-shape_of-rows
-lay_rest-shape_of-rows t c = c.lay_rest.ensures.kept.rows_size ∙ c.lay_not_if-next.ensures.kept.rows_size ∙ c.lay_rest-below.ensures.kept.rows_size
+pub shape_of-rows : goal.shape_of-rows
+shape_of-rows t c = c.lay_rest.ensures.kept.rows_size ∙ c.lay_not_if-next.ensures.kept.rows_size ∙ c.lay_rest-below.ensures.kept.rows_size
 
-pub lay_rest-shape_of-operands : goal.lay_rest-shape_of-operands
-lay_rest-shape_of-operands t c = c.lay_rest.ensures.kept.operands_size ∙ c.lay_not_if-next.ensures.kept.operands_size ∙ c.lay_rest-below.ensures.kept.operands_size
+pub shape_of-operands : goal.shape_of-operands
+shape_of-operands t c = c.lay_rest.ensures.kept.operands_size ∙ c.lay_not_if-next.ensures.kept.operands_size ∙ c.lay_rest-below.ensures.kept.operands_size
 
-pub lay_rest-shape_of-tops : goal.lay_rest-shape_of-tops
-lay_rest-shape_of-tops t c = c.lay_rest.ensures.kept.tops_size ∙ c.lay_not_if-next.ensures.kept.tops_size ∙ c.lay_rest-below.ensures.kept.tops_size
+pub shape_of-tops : goal.shape_of-tops
+shape_of-tops t c = c.lay_rest.ensures.kept.tops_size ∙ c.lay_not_if-next.ensures.kept.tops_size ∙ c.lay_rest-below.ensures.kept.tops_size
 
-pub lay_rest-returns : goal.lay_rest-returns
-lay_rest-returns t c = lays_more c.requires (omega (arith, c.if-left-eq0.false)) _ c.operand_at.ensures _ c.stand_in-part.ensures _ c.count_at.ensures c.form_here.ensures c.count_at-2.ensures c.over_part-over.ensures c.lay_rest-below.ensures c.lay_not_if-next.ensures c.lay_rest.ensures
+pub returns : goal.returns
+returns t c = lays_more c.requires (omega (arith, c.if-left-eq0.false)) _ c.operand_at.ensures _ c.stand_in-part.ensures _ c.count_at.ensures c.form_here.ensures c.count_at-2.ensures c.over_part-over.ensures c.lay_rest-below.ensures c.lay_not_if-next.ensures c.lay_rest.ensures

@@ -17,4 +17,4 @@ fits-requires c = all_held c.place-places.ensures (c.place-places.ensures.number
 
 -- src/tidy.rt:53:1
 pub returns : goal.returns
-returns c = fits_said c.place-places.ensures (c.place-places.ensures.number_is ∙ c.requires) c.rows_part.ensures c.operands_part.ensures _ c.fits2.ensures
+returns c = fits_said c.place-places.ensures (c.place-places.ensures.number_is ∙ c.requires) c.rows_part.ensures c.operands_part.ensures _ c.fits.ensures
