@@ -5,16 +5,6 @@ use Prim.Native.Nat.{ℕ, ◌+◌, ◌<◌}
 use native.Mathlib.Omega.{arith}
 use Rattle.loader.proofs.put_row.Goals as goal
 
--- where the row is temporal, there is a set for it
-slot_small : (c : tie.After-slice-known3) → c.before.before.before.before.before.before.before.before.args.slot < 32
-slot_small c =
-    let s = c.before.before.before.before.before.before.before.before in
-    let q = rw c.before.before.before.before.before.kind_in_lem.ensures at c.before.before.before.before.if1.false in
-    let b = slot_fits s.args.given.now s.args.row _ s.requires.1.0.0 q in
-    let f = s.requires.0.temporals_few in
-    let e = s.requires.1.1.1 in
-    omega arith
-
 pub returns-then-kind_in-lt-HISTORICALLY : goal.returns-then-kind_in-lt-HISTORICALLY
 returns-then-kind_in-lt-HISTORICALLY c =
     let ws = c.args.given.now in
@@ -23,24 +13,36 @@ returns-then-kind_in-lt-HISTORICALLY c =
 
 pub overflow_add-monitor : goal.overflow_add-monitor
 overflow_add-monitor c =
-    let s = slot_small c in
+    let q = rw c.kind_in.ensures at c.if-kind_in-lt-HISTORICALLY.false in
+    let b = slot_fits c.args.given.now c.args.row _ c.requires.row_in_bounds.0 q in
+    let f = c.requires.rowed.temporals_few in
+    let e = c.requires.start_value.1 in
     omega arith
 
 pub offset_bounds-monitor-slot : goal.offset_bounds-monitor-slot
 offset_bounds-monitor-slot c =
-    let s = slot_small c in
+    let q = rw c.kind_in.ensures at c.if-kind_in-lt-HISTORICALLY.false in
+    let b = slot_fits c.args.given.now c.args.row _ c.requires.row_in_bounds.0 q in
+    let f = c.requires.rowed.temporals_few in
+    let e = c.requires.start_value.1 in
     omega arith
 
 pub bounds-monitor-slot : goal.bounds-monitor-slot
 bounds-monitor-slot c =
-    let s = slot_small c in
+    let q = rw c.kind_in.ensures at c.if-kind_in-lt-HISTORICALLY.false in
+    let b = slot_fits c.args.given.now c.args.row _ c.requires.row_in_bounds.0 q in
+    let f = c.requires.rowed.temporals_few in
+    let e = c.requires.start_value.1 in
     let k = c.put_words-2.auto in
-    let e = c.requires.row_in_bounds.1 in
+    let size = c.requires.row_in_bounds.1 in
     omega arith
 
 pub overflow_add-result : goal.overflow_add-result
 overflow_add-result c =
-    let s = slot_small c in
+    let q = rw c.kind_in.ensures at c.if-kind_in-lt-HISTORICALLY.false in
+    let b = slot_fits c.args.given.now c.args.row _ c.requires.row_in_bounds.0 q in
+    let f = c.requires.rowed.temporals_few in
+    let e = c.requires.start_value.1 in
     omega arith
 
 pub returns : goal.returns

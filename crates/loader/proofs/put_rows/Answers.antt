@@ -14,7 +14,7 @@ loop-row-init c =
 pub put_row-slot-requires : goal.put_row-slot-requires
 put_row-slot-requires c =
     let l = c.loop-row in
-    (c.requires.rowed, ((omega arith, l.invariant.1), (l.invariant.2.start_is, l.invariant.2.slot_is)))
+    record { rowed = c.requires.rowed; row_in_bounds = (omega arith, l.invariant.1); start_value = (l.invariant.2.start_is, l.invariant.2.slot_is); }
 
 pub taken_by-start-requires : goal.taken_by-start-requires
 taken_by-start-requires c =
@@ -37,7 +37,7 @@ loop-row-preserved c =
     let l = c.loop-row in
     let t = c.loop-row-test.true in
     let n = c.put_row-slot in
-    ((omega arith, refl), (n.auto.1.1.1.1.0 ∙ l.invariant.1), put_more _ _ _ _ l.invariant.2 c.kind_in-kind.ensures c.arg_in-arg.ensures n.ensures.0 n.ensures.1 c.taken_by-start.ensures c.wider-width.ensures)
+    ((omega arith, refl), (n.auto.monitor ∙ l.invariant.1), put_more _ _ _ _ l.invariant.2 c.kind_in-kind.ensures c.arg_in-arg.ensures n.ensures.0 n.ensures.1 c.taken_by-start.ensures c.wider-width.ensures)
 
 pub returns : goal.returns
 returns c =

@@ -11,12 +11,10 @@ pub store-requires : goal.store-requires
 store-requires c =
     record { accepted = subst Accepted
           (sym (sections_are c.rows_part.ensures c.operands_part.ensures c.assumes_part.ensures c.guarantees_part.ensures))
-          c.requires.accepted.0; zeroed = (
-      c.requires.accepted.1,
-    ); }
+          c.requires.accepted.0; zeroed = c.requires.accepted.1; }
 
 pub returns : goal.returns
 returns c =
-    subst (λ (x : Sections). Holds (way_in c.args.way) (book_in x) c.store.new.1.1.1.1.1.0)
+    subst (λ (x : Sections). Holds (way_in c.args.way) (book_in x) c.store.new.monitor)
     (sections_are c.rows_part.ensures c.operands_part.ensures c.assumes_part.ensures c.guarantees_part.ensures)
     c.store.ensures

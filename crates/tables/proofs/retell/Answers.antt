@@ -24,4 +24,4 @@ pub loop-slot-preserved : goal.loop-slot-preserved
 loop-slot-preserved c = let l = c.loop-slot in let e = l.invariant.2 in (omega arith, l.invariant.1, e, telling_new c.requires l.invariant.3 (omega arith) l.invariant.1 c.set_at.ensures c.standing-new.ensures c.set_at-in-loop-slot.ensures c.fuller-most.ensures c.told_at.ensures c.if-told_at-new.false c.owner_at-row.ensures c.lower_row-first.ensures refl)
 
 pub returns : goal.returns
-returns c = let l = c.loop-slot in let e : l.slot ≡ temporals c.args.monitor.now = let q = l.invariant.2 in omega arith in (telling_counted c.requires l.invariant.3 e, rw e at l.invariant.3.from, rw e at l.invariant.3.up_to_lem)
+returns c = let l = c.loop-slot in let e : l.slot ≡ temporals c.args.monitor.now = let q = l.invariant.2 in omega arith in (telling_counted c.requires l.invariant.3 e, rw e at l.invariant.3.from, rw e at l.invariant.3.up_to)

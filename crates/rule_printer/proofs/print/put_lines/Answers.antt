@@ -14,7 +14,7 @@ put_line-end-requires c = property_walk _ _ c.requires c.loop-i-test.true refl
 
 -- src/print.rt:34:5
 pub loop-i-preserved : goal.loop-i-preserved
-loop-i-preserved c = lined_more c.loop-i.invariant c.loop-i-test.true refl c.put_line-end.ensures c.put_line-end.auto.0
+loop-i-preserved c = lined_more c.loop-i.invariant c.loop-i-test.true refl c.put_line-end.ensures c.put_line-end.auto.out
 
 -- src/print.rt:22:1
 pub returns : goal.returns
