@@ -33,7 +33,7 @@ loop-done-preserved c =
     let counted = c.count_up-first.ensures in
     let made = go_called l.invariant.0 _ c.call-t.ensures c.in-Made.is in
     let line = same_bytes c.put_call-at.ensures (line_said made.called.kept _ _ counted.digits) in
-    (go_more l.invariant.0 made c.loop-done-test.true line c.put_call-at.auto.0, l.invariant.1, counted)
+    (go_more l.invariant.0 made c.loop-done-test.true line c.put_call-at.auto.out, l.invariant.1, counted)
 
 pub last-requires : goal.last-requires
 last-requires c = c.loop-done.invariant.0.kept

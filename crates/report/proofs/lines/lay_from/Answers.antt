@@ -10,7 +10,7 @@ pub lay_word-requires : goal.lay_word-requires
 lay_word-requires c = record { kept = c.requires.kept; i_bound = (omega arith, omega arith) }
 
 pub loop-i-preserved : goal.loop-i-preserved
-loop-i-preserved c = lay_more c.loop-i.invariant c.loop-i-test.true c.lay_word.ensures c.lay_word.auto.0
+loop-i-preserved c = lay_more c.loop-i.invariant c.loop-i-test.true c.lay_word.ensures c.lay_word.auto.out
 
 pub returns : goal.returns
 returns c = lay_done c.loop-i.invariant c.loop-i-test.false
