@@ -20,4 +20,4 @@ pub returns-then-given-count : goal.returns-then-given-count
 returns-then-given-count c = kit_more c.args.count c.args.given (line_supply c.args.line.now) c.args.kits.now c.requires c.number_for-number.ensures c.if-number-ne-ACCEPTED.false c.put_kit.ensures c.if-given-count.true
 
 pub returns : goal.returns
-returns c = kit_last c.args.count c.args.given (line_supply c.args.line.now) c.args.kits.now c.requires c.number_for-number.ensures c.if-number-ne-ACCEPTED.false c.put_kit.ensures c.if-given-count.false c.«open».ensures c.open_heard.ensures
+returns c = kit_last c.args.count c.args.given (line_supply c.args.line.now) c.args.kits.now c.requires c.number_for-number.ensures c.if-number-ne-ACCEPTED.false c.put_kit.ensures c.if-given-count.false c.open-opened.ensures c.open_heard.ensures
