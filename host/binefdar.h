@@ -49,9 +49,8 @@
  * ones, and the two do not overlap. A length of 0 is fine. BINEFDAR_STACK bytes of stack are enough for every
  * input. Calls from several threads do not disturb each other, as long as their buffers differ.
  *
- * `rt staticlib report` compiles it for x86-64 Linux, into the archive target/staticlib/libreport.a;
- * scripts/archive.sh compiles it for the machine at hand, whichever it is, and prints the archive's path. The head
- * of counter.c has the lines that build a program over it.
+ * scripts/archive.sh has it proved and compiled for x86-64 Linux, by `rt lib` in crates/report_c, and prints the path of
+ * the archive, target/native/libreport.a. The head of counter.c has the line that builds a program over it.
  */
 #ifndef BINEFDAR_H
 #define BINEFDAR_H
