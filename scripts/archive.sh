@@ -18,7 +18,7 @@ archive=$made/libreport.a
 compile_over_ci() {
     [ "$(cat target/proved-by-ci 2>/dev/null)" = "$sum" ] && [ -d crates/report/out/rlib ] && [ ! -e crates/report/out/rlib/stamp ] || return
     local kit words library rlib
-    kit=$(dirname "$(rt doc)")
+    kit=$(dirname "$(rt doc </dev/null)")
     words=(--crate-name report_c --crate-type staticlib src/lib.rt --backend llvm --toolchain "$kit/toolchain" -o "$archive"
         --antt-project "$kit/rattle/logic/antt-project.json" --logic-built "$kit/logic_built" -L "dependency=$kit/rlibs")
     for library in core std $(sed -nE 's/^report_c +staticlib *: *//p' crates.txt); do

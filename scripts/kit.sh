@@ -24,7 +24,8 @@ need_kit() {
     machine=$(uname -m)
     [ "$machine" = x86_64 ] || end "$MISSING" "The Rattle kit is for x86-64 alone, and this machine's processor is $machine."
     command -v rt >/dev/null 2>&1 || end "$MISSING" "The Rattle kit is missing: install it, so that the command rt is found."
-    pinned=$(cat KIT) at_hand=$(rt version)
+    # what stands open as standard input is not for rt, which ends where it is a folder
+    pinned=$(cat KIT) at_hand=$(rt version </dev/null)
     if [ "$at_hand" != "$pinned" ] && [ "$at_hand" != "${BINEFDAR_KIT_SAID-}" ]; then
         echo "Note: this repository is held to the kit '$pinned'; the kit at hand is '$at_hand'." >&2
         export BINEFDAR_KIT_SAID=$at_hand
