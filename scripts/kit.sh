@@ -21,6 +21,7 @@ need_open() { # NUMBER NAME
 # The kit must be there, on a machine that it is for; another kit than the pinned one is only said, and once: the commands that this one
 # calls do not say it again.
 need_kit() {
+    local machine pinned
     machine=$(uname -m)
     [ "$machine" = x86_64 ] || end "$MISSING" "The Rattle kit is for x86-64 alone, and this machine's processor is $machine."
     command -v rt >/dev/null 2>&1 || end "$MISSING" "The Rattle kit is missing: install it, so that the command rt is found."
@@ -34,6 +35,7 @@ need_kit() {
 
 # What the kit makes is written into the folder out/ of each crate, and what the commands here make of that below target/.
 need_target() {
+    local folder
     { mkdir -p target && [ -w target ]; } 2>/dev/null || cannot_write "$PWD/target"
     for folder in crates/*; do [ -w "$folder" ] || cannot_write "$PWD/$folder"; done
 }
@@ -109,6 +111,7 @@ keep_program() { # NAME SUM-OF-THE-SOURCES
 # Keeps what rt ci has just proved of the crates as they stand, so that nothing of it is proved again: the programs, and that the libraries
 # in the folders out/ are proved (scripts/archive.sh).
 keep_proved() { # SUM-OF-THE-SOURCES
+    local main name
     mkdir -p target/proved
     for main in crates/*/src/main.rt; do
         name=${main#crates/} name=${name%%/*}
@@ -120,7 +123,8 @@ keep_proved() { # SUM-OF-THE-SOURCES
 # Proves and links a program, unless it is there and was made of these very sources. It says what it does, and shows each crate as
 # it is proved.
 prove_program() { # NAME
-    sum=$(sources) log=target/log/proving-$1
+    local sum log=target/log/proving-$1
+    sum=$(sources)
     if [ "$(cat "target/proved/$1" 2>/dev/null)" = "$sum $(sha256sum 2>/dev/null <"target/bin/$1")" ]; then return; fi
     need_target
     need_temporary
