@@ -61,10 +61,10 @@ need_temporary() {
     end "$MISSING" "There is no folder for temporary files: set TMPDIR to one that you may write to."
 }
 
-# A sum over all that a program or an archive is made of.
+# A sum over all that a program or an archive is made of, the kit at hand among it.
 sources() {
     {
-        rt version
+        echo "$at_hand"
         find crates crates.txt scripts -regex 'crates/[^/]*/\(out\|must-fail\)' -prune -o -type f -exec sha256sum {} + | sort
     } | sha256sum
 }
