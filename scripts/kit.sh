@@ -37,7 +37,8 @@ need_kit() {
 need_target() {
     local folder
     { mkdir -p target && [ -w target ]; } 2>/dev/null || cannot_write "$PWD/target"
-    for folder in crates/*; do [ -w "$folder" ] || cannot_write "$PWD/$folder"; done
+    folder=$(find crates -mindepth 1 -maxdepth 1 ! -writable -print -quit)
+    [ -z "$folder" ] || cannot_write "$PWD/$folder"
 }
 cannot_write() { # FOLDER
     end "$MISSING" "Nothing can be proved here, since $1 cannot be written to: use a copy that you may write to."
