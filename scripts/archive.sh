@@ -16,8 +16,8 @@ archive=$made/libreport.a
 # in the folders out/ then, but 'rt lib' does not take them and would prove them all again: so the prover is called as rt ci calls it for
 # a program. It proves report_c over these libraries and compiles all.
 compile_over_ci() {
-    [ "$(cat target/proved-by-ci 2>/dev/null)" = "$sum" ] && [ -d crates/report/out/rlib ] && [ ! -e crates/report/out/rlib/stamp ] || return
-    local kit words library rlib
+    local kit words library rlib=crates/report/out/rlib
+    [ "$(cat target/proved-by-ci 2>/dev/null)" = "$sum" ] && [ -d "$rlib" ] && [ ! -e "$rlib/stamp" ] || return
     kit=$(dirname "$(rt doc </dev/null)")
     words=(--crate-name report_c --crate-type staticlib src/lib.rt --backend llvm --toolchain "$kit/toolchain" -o "$archive"
         --antt-project "$kit/rattle/logic/antt-project.json" --logic-built "$kit/logic_built" -L "dependency=$kit/rlibs")
