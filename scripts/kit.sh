@@ -65,7 +65,7 @@ need_temporary() {
 # A sum over all that a program or an archive is made of, the kit at hand among it.
 sources() {
     {
-        echo "$at_hand"
+        echo "${at_hand:=$(rt version </dev/null)}"
         find crates crates.txt scripts -regex 'crates/[^/]*/\(out\|must-fail\)' -prune -o -type f -exec sha256sum {} + | sort
     } | sha256sum
 }
