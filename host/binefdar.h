@@ -68,7 +68,7 @@ extern "C" {
 /* The longest input that is read, in bytes. */
 #define BINEFDAR_LONGEST_INPUT 65536
 
-/* No report is longer: proved (docs/CONTRACTS.md, `always-room`). */
+/* No report is longer: proved (docs/CONTRACTS.md, `always_room`). */
 #define BINEFDAR_LONGEST_REPORT 2300000
 
 /* The stack that a call may need, in bytes, with room to spare: of the books that were tried 127 Ands or Ors, each
