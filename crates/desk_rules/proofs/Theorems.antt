@@ -16,7 +16,7 @@ use Rattle.pmtl.specs.declared.Answer.TheVariants.{False, Open}
 use Rattle.pmtl.specs.Book.{Rows, some}
 use Rattle.pmtl.specs.Monitor.{value}
 use Rattle.pmtl.specs.Settled.{settled}
-use Rattle.pmtl.specs.Calls.{stamped, state, Outcome, call, after}
+use Rattle.pmtl.specs.Calls.{stamped, state, Outcome, call}
 use Rattle.desk_rules.specs.Scans.{Kit, kit_at, Scan, codes, windows, desk_of, reads, promised, stopped, last_hour, scan_number, taken}
 use Rattle.desk_rules.specs.Words.{Promised, Stopped}
 use Rattle.desk_rules.specs.Rows.{PROMISE, HANDOUT, RETURN, atom_of, desk_rows, guarantee}

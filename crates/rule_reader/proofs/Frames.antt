@@ -17,7 +17,6 @@ use Rattle.trees.specs.declared.rows.Spot.{Spot}
 use Rattle.trees.specs.declared.Word.{Word}
 use Rattle.trees.specs.declared.Word.TheVariants.{False, True, And, Or, Not, Implies, Hist, Once, Since}
 use Rattle.rule_scanner.specs.declared.turns.Mode.{Mode}
-use Rattle.rule_scanner.specs.declared.turns.Mode.TheVariants as mode
 use Rattle.rule_scanner.specs.declared.turns.Turn.{Turn}
 use Rattle.rule_scanner.specs.declared.turns.Turn.TheVariants.{Refused, Go, Leaf, Open, Part, Close, Counted, Ended}
 use Rattle.rule_reader.specs.Laying.{laid, forest, FramesIn, Lies, LiesAfter, NotAtom, NoAtoms, Sane, site_of, Lays, LaysRows}

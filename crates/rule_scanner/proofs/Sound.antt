@@ -1,5 +1,5 @@
 -- What the reader accepts is the writing of some properties. Assumes nothing.
-use Prim.Native.Nat.{ℕ, zero, suc, ◌+◌, ◌≤◌, ◌<◌}
+use Prim.Native.Nat.{ℕ, zero, suc, ◌+◌, ◌<◌}
 use mathlib.Core.Path.{◌≡◌, refl, sym, ap, ◌∙◌}
 use mathlib.Core.Bool.{Bool, true, false}
 use mathlib.Core.List.{List, [], ◌∷◌, ◌++◌, append-nil, append_assoc, map}
@@ -11,7 +11,7 @@ use Rattle.rule_scanner.specs.Symbols.{Placed}
 use Rattle.trees.specs.Forest.{Head, head_of, Forest, none, tree, one, ◌then◌, count, Fit, Good}
 use Rattle.rule_scanner.specs.Writing.{upper_said, range_said, head_said, shut, one_said, written, file_said}
 use Rattle.rule_scanner.specs.Starred.{is_comma, plainly, starred_one, starred}
-use Rattle.rule_scanner.specs.Reading.{on, turn, begun, parting, closing, form_of, first_mode, parted, Frame, frame_of, State, state_of, start, form_in, between, completed, Step, refused, going, ended, finished, next_part, closed, taken, move, Outcome, read, wrong, onward, reading}
+use Rattle.rule_scanner.specs.Reading.{on, turn, begun, parting, closing, form_of, first_mode, parted, Frame, frame_of, State, state_of, start, form_in, between, completed, Step, refused, going, ended, taken, move, read, onward, reading}
 use Rattle.trees.specs.declared.Word.{Word}
 use Rattle.trees.specs.declared.Word.TheVariants.{False, True, Atom, And, Or, Not, Implies, Hist, Once, Since}
 use Rattle.rule_scanner.specs.declared.symbols.Symbol.{Symbol}
@@ -21,7 +21,7 @@ use Rattle.rule_scanner.specs.declared.turns.Mode.TheVariants as mode
 use Rattle.rule_scanner.specs.declared.turns.Form.{Form}
 use Rattle.rule_scanner.specs.declared.turns.Form.TheVariants as form
 use Rattle.rule_scanner.specs.declared.turns.Turn.{Turn}
-use Rattle.rule_scanner.specs.declared.turns.Turn.TheVariants.{Refused, Go, Leaf, Open, Part, Close, Counted, Ended}
+use Rattle.rule_scanner.specs.declared.turns.Turn.TheVariants.{Refused, Open, Part, Close}
 
 abbrev commas : List Symbol
 commas = Comma ∷ []

@@ -1,5 +1,5 @@
 -- The reader of written properties, symbol by symbol: 02, Ask 3. Definitions only.
-use Rattle.std.specs.Prelude.{ℕ, zero, suc, Bool, true, false, cond, List, [], ◌∷◌}
+use Rattle.std.specs.Prelude.{ℕ, zero, suc, Bool, true, false, List, [], ◌∷◌}
 use Rattle.numbers.specs.Limits.{MAX}
 use Rattle.rule_scanner.specs.Symbols.{Placed, symbols}
 use Rattle.trees.specs.Forest.{Head, head_of, Forest, none, one, ◌then◌}

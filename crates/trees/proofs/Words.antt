@@ -1,26 +1,26 @@
 -- The words of numbered properties say their book. Assumes nothing.
-use Prim.Native.Nat.{ℕ, zero, suc, ◌+◌, ◌*◌, ◌-◌, ◌/◌, ◌≤◌, ◌<◌}
+use Prim.Native.Nat.{ℕ, zero, suc, ◌+◌, ◌*◌, ◌≤◌, ◌<◌}
 use mathlib.Core.Path.{◌≡◌, refl, sym, ap, ◌∙◌}
 use mathlib.Core.Bool.{Bool, true, false}
-use mathlib.Core.List.{List, [], ◌∷◌, ◌++◌, append-nil, append_assoc, map, map-append}
+use mathlib.Core.List.{List, [], ◌∷◌, ◌++◌, append-nil, map, map-append}
 use native.Mathlib.Omega.{arith}
 use lib.ListN.{length, get_or, take, drop, length-append, get_or-append}
-use lib.Seq.{take_at, drop_at, take-suc, split_at, get_or-append-add, length-take-le, take-length}
-use Rattle.pmtl.specs.Book.{Row, Book}
+use lib.Seq.{take_at, drop_at, take-suc, split_at, get_or-append-add, take-length}
+use Rattle.pmtl.specs.Book.{Book}
 use Rattle.book.specs.Rows.{row_from, count_of}
 use Rattle.lists.specs.Lists.{listed}
 use mathlib.Core.Bool.{cond}
 use mathlib.Core.Logic.{◌⊎◌, inl, inr, ⊎_elim}
 use lib.Dec.{ltb, eqb}
-use borrow.Author.Tests.{le-ltb, eqb-true, eqb-false}
+use borrow.Author.Tests.{le-ltb, eqb-false}
 use Rattle.book.specs.Reading.{Sections, got, refused, section, sections, next}
 use Rattle.trees.specs.Building.{words_of}
 use Rattle.book.specs.Judging.{kind_in, arg_in, lower_in, upper_in, rows_in, start_in, row_in, book_in, judged, loaded_from, whole, loaded}
-use Rattle.trees.specs.Forest.{Head, head_of, Forest, none, tree, one, ◌then◌, count, size, roots, Entry, entries, Fit, Good}
+use Rattle.trees.specs.Forest.{head_of, Forest, none, tree, ◌then◌, count, size, roots, Entry, entries, Fit, Good}
 use Rattle.trees.specs.Numbered.{row_with, row_of, rows_from, book_of}
 use Rattle.trees.specs.Building.{kind_of, arg_of, row_words, all_rows, all_operands}
 use Rattle.trees.proofs.Numbered.{entries_length, roots_length, good_then}
-use Rattle.trees.proofs.Built.{rows_append, operands_append, rows_length}
+use Rattle.trees.proofs.Built.{operands_append, rows_length}
 use Rattle.trees.specs.declared.Word.{Word}
 use Rattle.trees.specs.declared.Word.TheVariants.{False, True, Atom, And, Or, Not, Implies, Hist, Once, Since}
 

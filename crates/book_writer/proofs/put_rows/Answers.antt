@@ -1,5 +1,4 @@
 use Rattle.book_writer.proofs.Writing.{rows_start, rows_more, all_passed}
-use Prim.Native.Nat.{◌-◌, ◌/◌}
 use Rattle.book_writer.proofs.put_rows.Goals as goal
 
 -- src/lib.rt:52:5

@@ -1,5 +1,4 @@
 use Rattle.book_writer.proofs.Writing.{words_start, words_more, all_passed}
-use Prim.Native.Nat.{◌-◌, ◌/◌}
 use Rattle.book_writer.proofs.put_words.Goals as goal
 
 -- src/lib.rt:65:5

@@ -1,4 +1,3 @@
-use Prim.Native.Nat.{◌-◌}
 use Rattle.buffer_writer.proofs.Writes.{zero_start, zero_more, zero_done}
 use Rattle.buffer_writer.proofs.clear.Goals as goal
 

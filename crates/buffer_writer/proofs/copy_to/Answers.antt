@@ -1,4 +1,3 @@
-use Prim.Native.Nat.{◌-◌}
 use mathlib.Core.Path.{refl}
 use lib.ListN.{drop_of_length-le}
 use Rattle.buffer_writer.proofs.Writes.{store_start, store_more, store_done, drop_more}

@@ -13,7 +13,7 @@ pub plan_call-requires : goal.plan_call-requires
 plan_call-requires c = record { sound = (c.requires.0.sound, c.requires.1, λ z. (c.requires.0, unplanned c.args.monitor.now MOST_TEMPORALS)); modes_len = (search rules, λ z. absurd (true≢false (sym z))); founded = λ z. absurd (true≢false (sym z)) }
 
 pub plan_call-requires-then-plan_call : goal.plan_call-requires-then-plan_call
-plan_call-requires-then-plan_call c = let first = planned_from (ahead_none c.requires.0.sound c.requires.1 false (λ z. absurd (true≢false (sym z))) _ (unplanned c.args.monitor.now MOST_TEMPORALS) (atoms_of c.args.monitor.now)) (planned_as c.if-plan_call.true c.plan_call.ensures) in record { sound = (first_sound c.requires.0 c.requires.1 first, c.requires.1, λ z. absurd (true≢false z)); modes_len = (search rules, λ z. first_width c.requires.0 c.requires.1 first c.args.state.now c.requires.2); founded = λ z. (founded_then c.requires.0 c.requires.1 first, bits_then c.requires.0 c.requires.1 first, λ q. stands_then c.requires.0 c.requires.1 first); }
+plan_call-requires-then-plan_call c = let first = planned_from (ahead_none c.requires.0.sound c.requires.1 false (λ z. absurd (true≢false (sym z))) _ (unplanned c.args.monitor.now MOST_TEMPORALS) (atoms_of c.args.monitor.now)) (planned_as c.if-plan_call.true c.plan_call.ensures) in record { sound = (first_sound c.requires.0 c.requires.1 first, c.requires.1, λ z. absurd (true≢false z)); modes_len = (search rules, λ z. first_width c.requires.0 c.requires.1 first c.args.state.now c.requires.2); founded = λ z. (founded_then c.requires.0 c.requires.1 first, bits_then c.requires.0 c.requires.1 first, λ q. stands_then c.requires.0 c.requires.1 first) }
 
 pub commit-requires : goal.commit-requires
 commit-requires c = let first = planned_from (ahead_none c.requires.0.sound c.requires.1 false (λ z. absurd (true≢false (sym z))) _ (unplanned c.args.monitor.now MOST_TEMPORALS) (atoms_of c.args.monitor.now)) (planned_as c.if-plan_call.true c.plan_call.ensures) in fitting (first_sound c.requires.0 c.requires.1 first) c.requires.1 (second_from c.requires.0 c.requires.1 first (planned_as c.if-plan_call-2.true c.plan_call-then-plan_call.ensures))

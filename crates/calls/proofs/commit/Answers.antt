@@ -1,7 +1,6 @@
 use Rattle.calls.proofs.Commits.{written_start, commit_fit, commit_more}
 use Rattle.memory.specs.Memory.{temporals}
 use mathlib.Core.Path.{◌≡◌}
-use Prim.Native.Nat.{◌-◌}
 use native.Mathlib.Omega.{arith}
 use Rattle.calls.proofs.commit.Goals as goal
 

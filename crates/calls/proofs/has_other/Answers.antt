@@ -1,5 +1,4 @@
 use native.Mathlib.Omega.{arith}
-use Prim.Native.Nat.{◌-◌}
 use Rattle.calls.proofs.Greatest.{greatest_start, greatest_more, greatest_tells}
 use Rattle.calls.proofs.has_other.Goals as goal
 

@@ -1,6 +1,5 @@
 use Rattle.calls.proofs.Heads.{atoms_start, atoms_more}
 use mathlib.Core.Path.{◌≡◌}
-use Prim.Native.Nat.{◌-◌}
 use lib.ListN.{length}
 use native.Mathlib.Omega.{arith}
 use Rattle.calls.proofs.put_atoms.Goals as goal

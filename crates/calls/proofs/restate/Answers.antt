@@ -11,7 +11,7 @@ pub returns-then-stands_with : goal.returns-then-stands_with
 returns-then-stands_with c = state_stands c.requires.0 c.args.state.now (sym c.requires.1) refl (c.stands_with.ensures c.if-stands_with.true)
 
 pub advance-step-requires : goal.advance-step-requires
-advance-step-requires c = let asked = state_timely c.requires.0 c.args.state.now (sym c.requires.1) refl c.clock-clock.ensures in record { kept = asked.0; monitor_in_bounds = asked.1; }
+advance-step-requires c = let asked = state_timely c.requires.0 c.args.state.now (sym c.requires.1) refl c.clock-clock.ensures in record { kept = asked.0; monitor_in_bounds = asked.1 }
 
 pub returns-then-number-ne-ACCEPTED : goal.returns-then-number-ne-ACCEPTED
 returns-then-number-ne-ACCEPTED c = state_full c.requires.0 c.args.state.now (sym c.requires.1) refl c.clock-clock.ensures c.advance-step.ensures.0 c.if-number-ne-ACCEPTED.true

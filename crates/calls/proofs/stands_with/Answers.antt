@@ -1,7 +1,7 @@
 use mathlib.Core.Bool.{true≢false}
 use mathlib.Core.Path.{◌≡◌, sym, ◌∙◌}
 use native.Mathlib.Omega.{arith}
-use Prim.Native.Nat.{ℕ, ◌+◌, ◌-◌}
+use Prim.Native.Nat.{ℕ, ◌+◌}
 use lib.ListN.{get_or}
 use borrow.Author.Count.{below_more}
 use Rattle.memory.specs.Layout.{ATOMS}

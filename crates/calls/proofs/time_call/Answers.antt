@@ -13,7 +13,7 @@ pub returns-then-quiet_at : goal.returns-then-quiet_at
 returns-then-quiet_at c = rw c.tick.ensures (time_quiet c.requires c.args.time (sym c.time_number-late.ensures ∙ c.if-late-ne-ACCEPTED.false) (c.quiet_at.ensures c.if-quiet_at.true))
 
 pub advance-step-requires : goal.advance-step-requires
-advance-step-requires c = record { kept = (c.requires, in_range_lem c.requires c.args.time c.time_number-late.ensures c.if-late-ne-ACCEPTED.false); monitor_in_bounds = λ e. absurd (true≢false (sym e)); }
+advance-step-requires c = record { kept = (c.requires, in_range_lem c.requires c.args.time c.time_number-late.ensures c.if-late-ne-ACCEPTED.false); monitor_in_bounds = λ e. absurd (true≢false (sym e)) }
 
 pub returns-then-number-ne-ACCEPTED : goal.returns-then-number-ne-ACCEPTED
 returns-then-number-ne-ACCEPTED c = time_full c.requires c.args.time c.time_number-late.ensures c.if-late-ne-ACCEPTED.false c.advance-step.ensures.0 c.if-number-ne-ACCEPTED.true

@@ -1,4 +1,3 @@
-use Prim.Native.Nat.{◌-◌}
 use mathlib.Core.Path.{sym, ◌∙◌}
 use Rattle.text_reader.proofs.Taking.{number}
 use Rattle.line_words.proofs.Lines.{count_start, count_more, count_less, count_done}

@@ -1,7 +1,6 @@
 use Rattle.lists.proofs.Pastes.{clear_done, clear_more}
 use lib.ListN.{length-set}
 use mathlib.Core.Path.{refl}
-use Prim.Native.Nat.{◌-◌}
 use native.Mathlib.Omega.{arith}
 use Rattle.lists.proofs.clear.Goals as goal
 

@@ -2,7 +2,6 @@ use Rattle.lists.proofs.Pastes.{copy_more}
 use lib.Seq.{paste, paste-zero}
 use lib.ListN.{length, length-set}
 use mathlib.Core.Path.{◌≡◌, refl, ap, ◌∙◌}
-use Prim.Native.Nat.{◌-◌}
 use native.Mathlib.Omega.{arith}
 use Rattle.lists.proofs.copy.Goals as goal
 

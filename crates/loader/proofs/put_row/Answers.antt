@@ -1,7 +1,7 @@
 -- `loader::put_row` meets its contract. Assumes nothing.
 use Rattle.loader.proofs.Puts.{temporals_same, temporals_more, slot_fits, row_plain, row_temporal}
 use mathlib.Core.Path.{sym, ap, ◌∙◌}
-use Prim.Native.Nat.{ℕ, ◌+◌, ◌<◌}
+use Prim.Native.Nat.{ℕ, ◌+◌}
 use native.Mathlib.Omega.{arith}
 use Rattle.loader.proofs.put_row.Goals as goal
 

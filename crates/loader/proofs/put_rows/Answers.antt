@@ -3,7 +3,7 @@ use Rattle.numbers.specs.Limits.{ROW_WORDS}
 use Rattle.loader.proofs.Forms.{reach_small}
 use lib.ListN.{length}
 use mathlib.Core.Path.{◌≡◌, refl, ◌∙◌}
-use Prim.Native.Nat.{◌/◌, ◌-◌}
+use Prim.Native.Nat.{◌/◌}
 use native.Mathlib.Omega.{arith}
 use Rattle.loader.proofs.put_rows.Goals as goal
 
@@ -14,7 +14,7 @@ loop-row-init c =
 pub put_row-slot-requires : goal.put_row-slot-requires
 put_row-slot-requires c =
     let l = c.loop-row in
-    record { rowed = c.requires.rowed; row_in_bounds = (omega arith, l.invariant.1); start_value = (l.invariant.2.start_is, l.invariant.2.slot_is); }
+    record { rowed = c.requires.rowed; row_in_bounds = (omega arith, l.invariant.1); start_value = (l.invariant.2.start_is, l.invariant.2.slot_is) }
 
 pub taken_by-start-requires : goal.taken_by-start-requires
 taken_by-start-requires c =

@@ -11,7 +11,7 @@ put_rows-totals-requires c =
     let k₂ = c.copy.auto in
     let k₃ = c.copy-2.auto in
     let k₄ = c.copy-3.auto in
-    record { rowed = rowed (sections_of c.args.given.now c.args.operands.now c.args.assumes.now c.args.guarantees.now) c.requires.accepted; monitor_len = omega arith; }
+    record { rowed = rowed (sections_of c.args.given.now c.args.operands.now c.args.assumes.now c.args.guarantees.now) c.requires.accepted; monitor_len = omega arith }
 
 pub returns : goal.returns
 returns c =

@@ -9,9 +9,12 @@ use Rattle.loader.proofs.store_parts.Goals as goal
 
 pub store-requires : goal.store-requires
 store-requires c =
-    record { accepted = subst Accepted
+    record {
+      accepted = subst Accepted
           (sym (sections_are c.rows_part.ensures c.operands_part.ensures c.assumes_part.ensures c.guarantees_part.ensures))
-          c.requires.accepted.0; zeroed = c.requires.accepted.1; }
+          c.requires.accepted.0;
+      zeroed = c.requires.accepted.1;
+    }
 
 pub returns : goal.returns
 returns c =

@@ -16,7 +16,7 @@ pub joined_at-requires : goal.joined_at-requires
 joined_at-requires c = record { book_kept = (c.requires.book_kept, omega arith); span = joined_span c.requires.book_kept c.requires.row_bound.0 c.row_at-words.ensures c.args.atoms.now c.in-3.is (inl refl) }
 
 pub joined_at-requires-in-4 : goal.joined_at-requires-in-4
-joined_at-requires-in-4 c = record { book_kept = (c.requires.book_kept, omega arith); span = joined_span c.requires.book_kept c.requires.row_bound.0 c.row_at-words.ensures c.args.atoms.now c.in-4.is (inr refl); }
+joined_at-requires-in-4 c = record { book_kept = (c.requires.book_kept, omega arith); span = joined_span c.requires.book_kept c.requires.row_bound.0 c.row_at-words.ensures c.args.atoms.now c.in-4.is (inr refl) }
 
 pub operand_at-requires : goal.operand_at-requires
 operand_at-requires c = (not_looked c.requires.book_kept c.requires.row_bound.0 c.row_at-words.ensures c.args.atoms.now c.in-5.is).0

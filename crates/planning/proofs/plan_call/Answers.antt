@@ -1,6 +1,4 @@
-use Prim.Native.Nat.{◌-◌}
 use mathlib.Core.Path.{refl, sym, ◌∙◌}
-use mathlib.Core.Bool.{true}
 use native.Mathlib.Omega.{arith}
 use Rattle.planning.specs.Plan.{atoms_for}
 use Rattle.planning.proofs.Plans.{going_start, going_sound, going_count, going_leads, going_more, going_full, going_done, leads_in, planned_over}
@@ -15,7 +13,7 @@ pub visits-requires : goal.visits-requires
 visits-requires c = let l = c.loop-row in let e = l.invariant.1 in let f = c.requires.sound.0.book.few in (omega arith, λ z. fresh_named c.requires.sound.0 l.invariant.2 (omega arith) c.args.atoms.now (c.requires.modes_len.1 z))
 
 pub try_row-tried-requires : goal.try_row-tried-requires
-try_row-tried-requires c = let k = c.counts_stretch-spans.ensures in let l = c.loop-row in let g = l.invariant.2 in let e = l.invariant.1 in record { timely = record { sound = going_sound c.requires.sound.0 c.requires.sound.1 (leads_in c.args.fresh k c.requires.sound.2) g; clock = c.requires.sound.1 }; row_bound = (let n = going_count c.requires.sound.0 c.requires.sound.1 (leads_in c.args.fresh k c.requires.sound.2) g in omega arith, g.modes_long, visited_named c.requires.sound.0 g (omega arith) l.changed c.args.fresh c.args.atoms.now (λ z. (c.requires.sound.2 z).0) c.requires.modes_len.1 (sym c.visits.ensures ∙ c.if-visits.true), going_leads c.requires.sound.0 c.requires.sound.1 (leads_in c.args.fresh k c.requires.sound.2) g (omega arith)); }
+try_row-tried-requires c = let k = c.counts_stretch-spans.ensures in let l = c.loop-row in let g = l.invariant.2 in let e = l.invariant.1 in record { timely = record { sound = going_sound c.requires.sound.0 c.requires.sound.1 (leads_in c.args.fresh k c.requires.sound.2) g; clock = c.requires.sound.1 }; row_bound = (let n = going_count c.requires.sound.0 c.requires.sound.1 (leads_in c.args.fresh k c.requires.sound.2) g in omega arith, g.modes_long, visited_named c.requires.sound.0 g (omega arith) l.changed c.args.fresh c.args.atoms.now (λ z. (c.requires.sound.2 z).0) c.requires.modes_len.1 (sym c.visits.ensures ∙ c.if-visits.true), going_leads c.requires.sound.0 c.requires.sound.1 (leads_in c.args.fresh k c.requires.sound.2) g (omega arith)) }
 
 pub overflow_add-changed : goal.overflow_add-changed
 overflow_add-changed c = let l = c.loop-row in let e = l.invariant.1 in let f = c.requires.sound.0.book.few in omega arith

@@ -9,7 +9,7 @@ pub kind_at-kind-requires : goal.kind_at-kind-requires
 kind_at-kind-requires c = below_128 c.requires.timely.sound.book c.requires.row_bound.0
 
 pub plain_value-value-requires : goal.plain_value-value-requires
-plain_value-value-requires c = record { book_kept = c.requires.timely.sound.book; row_bound = (c.requires.row_bound.0, let e = c.kind_at-kind.ensures in let h = c.if-kind-lt-HISTORICALLY.true in omega arith); named = c.requires.row_bound.2; }
+plain_value-value-requires c = record { book_kept = c.requires.timely.sound.book; row_bound = (c.requires.row_bound.0, let e = c.kind_at-kind.ensures in let h = c.if-kind-lt-HISTORICALLY.true in omega arith); named = c.requires.row_bound.2 }
 
 pub put_value-turned-requires : goal.put_value-turned-requires
 put_value-turned-requires c = (below_128 c.requires.timely.sound.book c.requires.row_bound.0, c.requires.timely.sound.book.long)

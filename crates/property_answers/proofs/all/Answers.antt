@@ -1,5 +1,4 @@
 use native.Mathlib.Omega.{arith}
-use Prim.Native.Nat.{◌-◌}
 use mathlib.Core.Path.{sym, ◌∙◌}
 use Rattle.property_answers.specs.Private.{absent}
 use Rattle.lists.proofs.Filled.{filled_start, filled_more, filled_all}

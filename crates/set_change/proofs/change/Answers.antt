@@ -19,7 +19,7 @@ pub add-requires : goal.add-requires
 add-requires c = let d = c.drop_before.ensures in let e = c.clear.ensures in record { rolling = bare c.args.mode c.args.lower c.args.upper c.args.clock c.requires.rolling c.requires.set_value d e; set_value = one_fits c.args.mode c.args.lower c.args.upper c.args.clock c.requires.rolling c.requires.set_value d e }
 
 pub add-requires-in_default : goal.add-requires-in_default
-add-requires-in_default c = let d = c.drop_before.ensures in let q : growing c.args.mode ≡ true = elim c.in_default.branch [ in_default-via-then-mode-lt2 w ↦ grows_rest c.args.mode (λ e. omega arith) (inl (omega arith)) | in_default-via-else-mode-lt2+else-mode-lt4 w ↦ grows_rest c.args.mode (λ e. omega arith) (inr (omega arith)) ] in record { rolling = kept_ring c.requires.rolling c.args.clock d; set_value = grows_room c.args.mode c.args.lower c.args.upper c.args.clock c.requires.rolling c.requires.set_value d q; }
+add-requires-in_default c = let d = c.drop_before.ensures in let q : growing c.args.mode ≡ true = elim c.in_default.branch [ in_default-via-then-mode-lt2 w ↦ grows_rest c.args.mode (λ e. omega arith) (inl (omega arith)) | in_default-via-else-mode-lt2+else-mode-lt4 w ↦ grows_rest c.args.mode (λ e. omega arith) (inr (omega arith)) ] in record { rolling = kept_ring c.requires.rolling c.args.clock d; set_value = grows_room c.args.mode c.args.lower c.args.upper c.args.clock c.requires.rolling c.requires.set_value d q }
 
 pub returns-in-0 : goal.returns-in-0
 returns-in-0 c = change_0 c.args.mode c.args.lower c.args.upper c.args.clock c.requires.rolling c.requires.set_value c.drop_before.ensures c.in-0.is

@@ -1,4 +1,3 @@
-use Prim.Native.Nat.{◌-◌}
 use mathlib.Core.Path.{◌≡◌, refl}
 use native.Mathlib.Omega.{arith}
 use Rattle.memory.specs.Layout.{EARLY}
@@ -17,7 +16,7 @@ pub reached-requires : goal.reached-requires
 reached-requires c = let l = c.loop-i in let e = l.invariant.1 in digits_few c.requires EARLY (omega arith) (omega arith) early_told (early_stays c.requires) c.args.first c.args.end l.i l.invariant.2 (omega arith) c.property_row-row.ensures
 
 pub valuation-answer-requires : goal.valuation-answer-requires
-valuation-answer-requires c = let l = c.loop-i in let e = l.invariant.1 in record { book_kept = (digits_sound c.requires EARLY (omega arith) (omega arith) early_told (early_stays c.requires) c.args.first c.args.end l.i l.invariant.2).book; row_bound = digits_inside c.requires EARLY (omega arith) (omega arith) early_told (early_stays c.requires) c.args.first c.args.end l.i l.invariant.2 (omega arith) c.property_row-row.ensures; }
+valuation-answer-requires c = let l = c.loop-i in let e = l.invariant.1 in record { book_kept = (digits_sound c.requires EARLY (omega arith) (omega arith) early_told (early_stays c.requires) c.args.first c.args.end l.i l.invariant.2).book; row_bound = digits_inside c.requires EARLY (omega arith) (omega arith) early_told (early_stays c.requires) c.args.first c.args.end l.i l.invariant.2 (omega arith) c.property_row-row.ensures }
 
 pub loop-i-preserved-then-reached : goal.loop-i-preserved-then-reached
 loop-i-preserved-then-reached c = let l = c.loop-i in let e = l.invariant.1 in (omega arith, e, digits_more c.requires EARLY (omega arith) (omega arith) early_told (early_stays c.requires) c.args.first c.args.end l.i l.invariant.2 (omega arith) c.property_row-row.ensures c.reached.ensures c.if-reached.true c.valuation-answer.ensures c.digit.ensures c.wide.ensures)

@@ -1,4 +1,3 @@
-use Prim.Native.Nat.{◌-◌}
 use mathlib.Core.Path.{◌≡◌, refl}
 use native.Mathlib.Omega.{arith}
 use Rattle.memory.specs.Layout.{SETTLED}
@@ -17,7 +16,7 @@ pub reached-requires : goal.reached-requires
 reached-requires c = let l = c.loop-i in let e = l.invariant.1 in digits_few c.requires SETTLED (omega arith) (omega arith) settled_now (settled_stays c.requires) c.args.first c.args.end l.i l.invariant.2 (omega arith) c.property_row-row.ensures
 
 pub settled_now-answer-requires : goal.settled_now-answer-requires
-settled_now-answer-requires c = let l = c.loop-i in let e = l.invariant.1 in record { book_kept = (digits_sound c.requires SETTLED (omega arith) (omega arith) settled_now (settled_stays c.requires) c.args.first c.args.end l.i l.invariant.2).book; row_bound = digits_inside c.requires SETTLED (omega arith) (omega arith) settled_now (settled_stays c.requires) c.args.first c.args.end l.i l.invariant.2 (omega arith) c.property_row-row.ensures; }
+settled_now-answer-requires c = let l = c.loop-i in let e = l.invariant.1 in record { book_kept = (digits_sound c.requires SETTLED (omega arith) (omega arith) settled_now (settled_stays c.requires) c.args.first c.args.end l.i l.invariant.2).book; row_bound = digits_inside c.requires SETTLED (omega arith) (omega arith) settled_now (settled_stays c.requires) c.args.first c.args.end l.i l.invariant.2 (omega arith) c.property_row-row.ensures }
 
 pub loop-i-preserved-then-reached : goal.loop-i-preserved-then-reached
 loop-i-preserved-then-reached c = let l = c.loop-i in let e = l.invariant.1 in (omega arith, e, digits_more c.requires SETTLED (omega arith) (omega arith) settled_now (settled_stays c.requires) c.args.first c.args.end l.i l.invariant.2 (omega arith) c.property_row-row.ensures c.reached.ensures c.if-reached.true c.settled_now-answer.ensures c.digit.ensures c.wide.ensures)

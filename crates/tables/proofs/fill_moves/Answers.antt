@@ -1,4 +1,3 @@
-use Prim.Native.Nat.{◌-◌}
 use mathlib.Core.Path.{◌≡◌, refl}
 use native.Mathlib.Omega.{arith}
 use Rattle.memory.specs.Memory.{row_count}
@@ -9,7 +8,7 @@ pub loop-row-init : goal.loop-row-init
 loop-row-init c = (omega arith, c.row_count-count.ensures, refl)
 
 pub moves_here-moves-requires : goal.moves_here-moves-requires
-moves_here-moves-requires c = let l = c.loop-row in record { sound = moves_sound c.requires l.row l.invariant.2; row_bound = let e = l.invariant.1 in let k = moves_count c.requires l.row l.invariant.2 in omega arith; }
+moves_here-moves-requires c = let l = c.loop-row in record { sound = moves_sound c.requires l.row l.invariant.2; row_bound = let e = l.invariant.1 in let k = moves_count c.requires l.row l.invariant.2 in omega arith }
 
 pub overflow_add-monitor : goal.overflow_add-monitor
 overflow_add-monitor c = let l = c.loop-row in let e = l.invariant.1 in let f = c.requires.book.few in omega arith

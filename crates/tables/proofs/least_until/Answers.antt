@@ -1,4 +1,4 @@
-use Prim.Native.Nat.{ℕ, min, ◌+◌, ◌-◌}
+use Prim.Native.Nat.{ℕ, min, ◌+◌}
 use mathlib.Core.Path.{◌≡◌, sym, ap, ap₂, ◌∙◌}
 use native.Mathlib.Omega.{arith}
 use Rattle.memory.specs.Memory.{temporals}

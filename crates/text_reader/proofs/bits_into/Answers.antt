@@ -1,4 +1,4 @@
-use Rattle.std.proofs.Common.{◌+◌, ◌-◌, ◌*◌, arith}
+use Rattle.std.proofs.Common.{◌+◌, ◌*◌, arith}
 use Rattle.text_reader.proofs.Taking.{all_start, all_more, all_done, tell_none}
 use Rattle.text_reader.proofs.bits_into.Goals as goal
 

@@ -1,4 +1,4 @@
-use Rattle.std.proofs.Common.{◌-◌, sym, ◌∙◌, arith}
+use Rattle.std.proofs.Common.{sym, ◌∙◌, arith}
 use Rattle.text_reader.specs.Reads.{BytesRead}
 use Rattle.text_reader.proofs.Taking.{number, turn_told, room_kept, turn_more, turn_stop, turn_done}
 use Rattle.text_reader.proofs.bytes_into.Goals as goal

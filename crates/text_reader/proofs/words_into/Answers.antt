@@ -1,4 +1,4 @@
-use Rattle.std.proofs.Common.{◌-◌, sym, ◌∙◌}
+use Rattle.std.proofs.Common.{sym, ◌∙◌}
 use Rattle.text_reader.specs.Reads.{WordsRead}
 use Rattle.text_reader.proofs.Taking.{number, stand_start, stand_more, stand_stop, stand_done}
 use Rattle.text_reader.proofs.words_into.Goals as goal

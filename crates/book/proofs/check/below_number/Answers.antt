@@ -1,7 +1,5 @@
 use Rattle.book.proofs.All.{below_start, all_below_lem, one_above, one_below}
-use mathlib.Core.Bool.{true}
 use native.Mathlib.Omega.{arith}
-use Prim.Native.Nat.{◌-◌}
 use Rattle.book.proofs.check.below_number.Goals as goal
 
 pub loop-k-init : goal.loop-k-init

@@ -1,8 +1,6 @@
 use Rattle.book.proofs.Uses.{not_once, once_more}
 use Rattle.book.proofs.All.{all_start, all_pass}
-use mathlib.Core.Bool.{true}
 use native.Mathlib.Omega.{arith}
-use Prim.Native.Nat.{◌-◌}
 use Rattle.book.proofs.check.once_number.Goals as goal
 
 pub loop-row-init : goal.loop-row-init

@@ -1,8 +1,6 @@
 use Rattle.book.proofs.Links.{row_arg, start_none, start_more, too_few, not_below, below, too_many, all_met}
 use Rattle.book.proofs.All.{all_start, all_more}
-use mathlib.Core.Bool.{true}
 use native.Mathlib.Omega.{arith}
-use Prim.Native.Nat.{◌-◌}
 use Rattle.book.proofs.check.operands_number.Goals as goal
 
 pub loop-row-init : goal.loop-row-init

@@ -3,7 +3,6 @@ use Rattle.book.proofs.Accepted.{temporals_few}
 use Rattle.book.specs.Judging.{first_to, row_number}
 use mathlib.Core.Path.{sym, ap, ◌∙◌}
 use native.Mathlib.Omega.{arith}
-use Prim.Native.Nat.{◌-◌}
 use Rattle.book.proofs.check.rows_number.Goals as goal
 
 pub loop-row-init : goal.loop-row-init

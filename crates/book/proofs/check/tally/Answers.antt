@@ -1,6 +1,5 @@
 use Rattle.book.proofs.Uses.{tally_start, tally_room, tally_more, tally_done}
 use native.Mathlib.Omega.{arith}
-use Prim.Native.Nat.{◌-◌}
 use Rattle.book.proofs.check.tally.Goals as goal
 
 pub loop-i-init : goal.loop-i-init

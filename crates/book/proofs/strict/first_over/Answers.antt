@@ -1,4 +1,3 @@
-use Prim.Native.Nat.{◌-◌}
 use native.Mathlib.Omega.{arith}
 use Rattle.book.proofs.Excess.{over_start, over_more}
 use Rattle.book.proofs.strict.first_over.Goals as goal

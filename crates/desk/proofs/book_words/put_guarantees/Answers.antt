@@ -1,6 +1,5 @@
 use Rattle.desk.proofs.Writing.{guarantees_start, guarantees_more, guarantees_end}
 use native.Mathlib.Omega.{arith}
-use Prim.Native.Nat.{◌-◌}
 use mathlib.Core.Path.{refl}
 use lib.ListN.{length-set}
 use Rattle.desk.proofs.book_words.put_guarantees.Goals as goal

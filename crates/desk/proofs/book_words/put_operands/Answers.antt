@@ -1,6 +1,5 @@
 use Rattle.desk.proofs.Writing.{operands_start, operands_more, operands_end}
 use native.Mathlib.Omega.{arith}
-use Prim.Native.Nat.{◌-◌}
 use mathlib.Core.Path.{refl}
 use Rattle.desk.proofs.book_words.put_operands.Goals as goal
 

@@ -1,6 +1,5 @@
 use Rattle.desk.proofs.Writing.{rows_start, rows_more, rows_end}
 use native.Mathlib.Omega.{arith}
-use Prim.Native.Nat.{◌-◌}
 use mathlib.Core.Path.{refl}
 use Rattle.desk.proofs.book_words.put_rows.Goals as goal
 

@@ -1,6 +1,5 @@
 use Rattle.desk.proofs.Kits.{long_start, long_more}
 use native.Mathlib.Omega.{arith}
-use Prim.Native.Nat.{◌-◌}
 use mathlib.Core.Path.{◌≡◌}
 use Rattle.desk.proofs.given.any_too_long.Goals as goal
 

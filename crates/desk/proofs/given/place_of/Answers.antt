@@ -1,6 +1,5 @@
 use Rattle.desk.proofs.Kits.{look_start, look_found, look_more, look_end}
 use native.Mathlib.Omega.{arith}
-use Prim.Native.Nat.{◌-◌}
 use Rattle.desk.proofs.given.place_of.Goals as goal
 
 pub loop-i-init : goal.loop-i-init

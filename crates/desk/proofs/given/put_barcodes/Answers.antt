@@ -1,4 +1,4 @@
-use Prim.Native.Nat.{◌*◌, ◌-◌}
+use Prim.Native.Nat.{◌*◌}
 use Rattle.desk.proofs.Kits.{part_long, barcodes_end, barcodes_start, barcodes_more}
 use mathlib.Core.Path.{refl}
 use native.Mathlib.Omega.{arith}

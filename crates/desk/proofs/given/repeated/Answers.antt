@@ -1,4 +1,3 @@
-use Prim.Native.Nat.{◌-◌}
 use native.Mathlib.Omega.{arith}
 use Rattle.desk.proofs.Kits.{apart_start, apart_found, apart_more, apart_end}
 use Rattle.desk.proofs.given.repeated.Goals as goal

@@ -1,4 +1,3 @@
-use Prim.Native.Nat.{◌-◌}
 use Rattle.desk_lines.proofs.Bytes.{word_start, word_more, word_done}
 use Rattle.desk_lines.proofs.writes.put_kits.Goals as goal
 

@@ -1,4 +1,3 @@
-use Prim.Native.Nat.{◌-◌}
 use native.Mathlib.Omega.{arith}
 use Rattle.loader.proofs.Nested.{flat_start, flat_more, flat_stop, flat_done}
 use Rattle.loader.proofs.flat.is_flat.Goals as goal

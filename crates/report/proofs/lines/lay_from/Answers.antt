@@ -1,4 +1,3 @@
-use Prim.Native.Nat.{◌-◌}
 use native.Mathlib.Omega.{arith}
 use Rattle.report.proofs.Lasting.{lay_start, lay_more, lay_done}
 use Rattle.report.proofs.lines.lay_from.Goals as goal

@@ -1,4 +1,3 @@
-use Prim.Native.Nat.{◌-◌}
 use native.Mathlib.Omega.{arith}
 use Rattle.report.proofs.Summing.{sum_start, sum_more, sum_done}
 use Rattle.report.proofs.sums.put_summaries.Goals as goal

@@ -1,6 +1,5 @@
 use Rattle.rule_printer.proofs.Booking.{lined_start, lined_more, lined_all}
 use Rattle.trees.proofs.Walking.{property_walk}
-use Prim.Native.Nat.{◌-◌}
 use mathlib.Core.Path.{refl}
 use Rattle.rule_printer.proofs.print.put_lines.Goals as goal
 

@@ -1,4 +1,4 @@
-use Prim.Native.Nat.{◌+◌, ◌-◌, ◌*◌, ◌^◌}
+use Prim.Native.Nat.{◌+◌, ◌*◌, ◌^◌}
 use Rattle.rule_printer.proofs.walk.+put_rest.Given as goal
 
 abbrev pub decreases-put_rest : goal.decreases-put_rest

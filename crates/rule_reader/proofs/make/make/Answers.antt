@@ -1,7 +1,6 @@
 use Rattle.rule_reader.proofs.Making.{maker_start, maker_balance, maker_room, maker_wrong, maker_done, maker_more}
 use Rattle.rule_scanner.proofs.Passing.{reader_further}
 use mathlib.Core.Path.{refl, sym, ◌∙◌}
-use Prim.Native.Nat.{◌-◌}
 use native.Mathlib.Omega.{arith}
 use Rattle.rule_reader.proofs.make.make.Goals as goal
 

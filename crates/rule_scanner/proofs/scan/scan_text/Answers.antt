@@ -1,6 +1,5 @@
 use Rattle.rule_scanner.proofs.Passing.{reader_start, reader_wrong, reader_right, reader_further, reader_more}
 use native.Mathlib.Omega.{arith}
-use Prim.Native.Nat.{◌-◌}
 use mathlib.Core.Path.{refl, sym, ◌∙◌}
 use Rattle.rule_scanner.proofs.scan.scan_text.Goals as goal
 

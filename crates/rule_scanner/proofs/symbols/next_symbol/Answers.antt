@@ -1,5 +1,4 @@
 use Rattle.rule_scanner.proofs.Scanning.{past_start, past_more, past_found, past_end}
-use Prim.Native.Nat.{◌-◌}
 use native.Mathlib.Omega.{arith}
 use mathlib.Core.Path.{sym, ◌∙◌}
 use Rattle.rule_scanner.proofs.symbols.next_symbol.Goals as goal

@@ -1,5 +1,4 @@
 use Rattle.rule_scanner.proofs.Scanning.{run_start, run_more, run_stop, run_end}
-use Prim.Native.Nat.{◌-◌}
 use mathlib.Core.Path.{sym, ◌∙◌}
 use Rattle.rule_scanner.proofs.symbols.run_end.Goals as goal
 

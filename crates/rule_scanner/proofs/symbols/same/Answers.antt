@@ -1,5 +1,4 @@
 use Rattle.rule_scanner.proofs.Scanning.{same_lengths, alike_start, alike_more, alike_stop, alike_end}
-use Prim.Native.Nat.{◌-◌}
 use Rattle.rule_scanner.proofs.symbols.same.Goals as goal
 
 -- src/symbols.rt:130:9

@@ -1,4 +1,3 @@
-use Rattle.rule_scanner.specs.declared.turns.Form.TheVariants.{Many}
 use mathlib.Core.Path.{◌∙◌}
 use Rattle.rule_scanner.proofs.turns.first_wanted.Goals as goal
 

@@ -1,4 +1,3 @@
-use Rattle.rule_scanner.specs.declared.turns.Form.TheVariants.{Many}
 use Rattle.rule_scanner.proofs.turns.left_wanted.Goals as goal
 
 -- src/turns.rt:137:1

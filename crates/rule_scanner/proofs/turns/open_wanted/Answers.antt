@@ -1,4 +1,3 @@
-use Rattle.rule_scanner.specs.declared.turns.Form.TheVariants.{Many}
 use Rattle.rule_scanner.proofs.turns.open_wanted.Goals as goal
 
 -- src/turns.rt:188:1

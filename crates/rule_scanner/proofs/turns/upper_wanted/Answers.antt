@@ -1,4 +1,3 @@
-use Rattle.rule_scanner.specs.declared.turns.Form.TheVariants.{Many}
 use Rattle.rule_scanner.proofs.turns.upper_wanted.Goals as goal
 
 -- src/turns.rt:167:1

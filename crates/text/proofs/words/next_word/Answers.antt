@@ -1,5 +1,5 @@
 use Rattle.text.proofs.Letters.{next_end, next_more, next_here}
-use Rattle.std.proofs.Common.{◌-◌, sym, refl, ◌∙◌}
+use Rattle.std.proofs.Common.{sym, refl, ◌∙◌}
 use Rattle.text.proofs.words.next_word.Goals as goal
 
 pub loop-i-init : goal.loop-i-init

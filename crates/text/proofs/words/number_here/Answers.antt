@@ -1,4 +1,4 @@
-use Rattle.std.proofs.Common.{◌-◌, sym, ◌∙◌, arith}
+use Rattle.std.proofs.Common.{sym, ◌∙◌, arith}
 use Rattle.text.proofs.Letters.{count_start, count_few, count_more, count_ends}
 use Rattle.text.proofs.words.number_here.Goals as goal
 

@@ -1,5 +1,5 @@
 use Rattle.text.proofs.Letters.{start, within, more, fits, passes, too_big, bad_letter, is_word}
-use Rattle.std.proofs.Common.{◌-◌, sym, ◌∙◌, arith, ltb-false, ltb-true}
+use Rattle.std.proofs.Common.{sym, ◌∙◌, arith, ltb-false, ltb-true}
 use Rattle.text.proofs.words.word_here.Goals as goal
 
 pub returns-then-input-at-eq-ZERO : goal.returns-then-input-at-eq-ZERO

@@ -1,4 +1,4 @@
-use Prim.Native.Nat.{◌+◌, ◌-◌, ◌*◌, ◌^◌}
+use Prim.Native.Nat.{◌+◌, ◌*◌, ◌^◌}
 use Rattle.tidier.proofs.lay.+lay_rest.Given as goal
 
 abbrev pub decreases-lay_rest : goal.decreases-lay_rest

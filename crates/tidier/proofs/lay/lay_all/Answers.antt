@@ -1,6 +1,5 @@
 use native.Mathlib.Omega.{arith}
 use mathlib.Core.Path.{sym, ◌∙◌}
-use Prim.Native.Nat.{◌-◌}
 use Rattle.tidier.proofs.Adding.{layable_after}
 use Rattle.tidier.proofs.Booked.{source_of, going_start, going_more, going_all, property_fitted, property_row_lem, property_visit, said_book, assumes_are, guarantees_are}
 use Rattle.tidier.proofs.lay.lay_all.Goals as goal

@@ -1,5 +1,4 @@
 use native.Mathlib.Omega.{arith}
-use Prim.Native.Nat.{◌-◌, ◌/◌}
 use Rattle.tidier.proofs.Made.{owed_start, owed_more, owed_refused, owed_done}
 use Rattle.tidier.proofs.tidy.tidy_all.Goals as goal
 

@@ -1,5 +1,4 @@
 use Rattle.trees.proofs.Walking.{start_few, lower_row, start_zero, start_next}
-use Prim.Native.Nat.{◌-◌}
 use mathlib.Core.Path.{◌∙◌, ap}
 use Rattle.book.specs.Judging.{start_in}
 use native.Mathlib.Omega.{arith}
