@@ -3,6 +3,6 @@
 
 use book::loading::Loading;
 
-fn main() {
-    reporter::run(Loading::Lasting);
+fn main(rt: HostRuntime) {
+    reporter::run(&rt, Loading::Lasting);
 }

@@ -4,6 +4,6 @@
 
 use book::loading::Loading;
 
-fn main() {
-    reporter::run(Loading::LastingStrict);
+fn main(rt: HostRuntime) {
+    reporter::run(&rt, Loading::LastingStrict);
 }

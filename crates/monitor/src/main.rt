@@ -3,6 +3,6 @@
 
 use book::loading::Loading;
 
-fn main() {
-    reporter::run(Loading::Ordinary);
+fn main(rt: HostRuntime) {
+    reporter::run(&rt, Loading::Ordinary);
 }

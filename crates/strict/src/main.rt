@@ -3,6 +3,6 @@
 
 use book::loading::Loading;
 
-fn main() {
-    reporter::run(Loading::Strict);
+fn main(rt: HostRuntime) {
+    reporter::run(&rt, Loading::Strict);
 }
