@@ -1,8 +1,7 @@
 // Reads standard input and prints its report, for the programs that load a book in one way or the other.
 #![tactic(auto)]
 
-ghost use Rattle.std.specs.Prelude.{◌≡◌, true, ◌<◌, length};
-ghost use Rattle.numbers.specs.Limits.{MAX};
+ghost use Rattle.std.specs.Prelude.{◌≡◌, true, length};
 ghost use Rattle.reporter.specs.Rooms.{SHORT_REPORT, holds, one_holds};
 
 use book::loading::Loading;
@@ -36,7 +35,6 @@ fn largest_room(way: Loading, input: &[u8]) -> u64
 
 // Prints the report if it fits into `out`, and answers whether it did.
 fn shown(rt: &(impl Print + Eprint), way: Loading, input: &[u8], out: &mut [u8]) -> bool
-    requires { length out.old < MAX }
     ensures { result ≡ holds way (length out.old) input.now }
 {
     let length = report::report_by(way, input, out) as usize;
