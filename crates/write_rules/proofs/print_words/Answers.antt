@@ -1,4 +1,4 @@
-use Rattle.std.proofs.Common.{sym, ap, ◌∙◌, arith}
+use Rattle.std.proofs.Common.{ap, ◌∙◌, arith}
 use Rattle.buffer_writer.specs.Buffer.{in_buffer}
 use Rattle.write_rules.proofs.Saying.{words_refused, words_printed}
 use Rattle.write_rules.proofs.print_words.Goals as goal
