@@ -12,9 +12,9 @@ import collections
 import glob
 import os
 import re
+import subprocess
 import sys
 
-KIT = "/opt/rattle/rattle"
 DECLARED = re.compile(
     r"^( *)((?:abbrev |unfoldable |opaque |pub |mut )*)(record |data )?([^\s:(){}λ∀.,;=]+)"
     r"((?: +\{[^}]*\}| +\([^()]*(?:\([^()]*\)[^()]*)*\)| +ℓ\w*)*) *:(?: |$)",
@@ -53,8 +53,10 @@ def own_names(files):
 
 
 def library_names():
+    """The names that the kit's libraries declare. They lie beside the page that rt names."""
+    page = subprocess.run(["rt", "doc"], capture_output=True, text=True, check=True, stdin=subprocess.DEVNULL).stdout.strip()
     found = set()
-    for folder, _, names in os.walk(KIT):
+    for folder, _, names in os.walk(os.path.join(os.path.dirname(page), "rattle")):
         for name in names:
             if name.endswith(".antt"):
                 with open(os.path.join(folder, name), encoding="utf-8", errors="replace") as f:
