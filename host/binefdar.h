@@ -49,9 +49,8 @@
  * ones, and the two do not overlap. A length of 0 is fine. BINEFDAR_STACK bytes of stack are enough for every
  * input. Calls from several threads do not disturb each other, as long as their buffers differ.
  *
- * `rt staticlib report` compiles it for x86-64 Linux, into the archive target/staticlib/libreport.a;
- * scripts/archive.sh compiles it for the machine at hand, whichever it is, and prints the archive's path. The head
- * of counter.c has the lines that build a program over it.
+ * scripts/archive.sh has it proved and compiled for x86-64 Linux, by `rt lib` in crates/report_c, and prints the path of
+ * the archive, target/native/libreport.a. The head of counter.c has the line that builds a program over it.
  */
 #ifndef BINEFDAR_H
 #define BINEFDAR_H
@@ -69,7 +68,7 @@ extern "C" {
 /* The longest input that is read, in bytes. */
 #define BINEFDAR_LONGEST_INPUT 65536
 
-/* No report is longer: proved (docs/CONTRACTS.md, `always-room`). */
+/* No report is longer: proved (docs/CONTRACTS.md, `always_room`). */
 #define BINEFDAR_LONGEST_REPORT 2300000
 
 /* The stack that a call may need, in bytes, with room to spare: of the books that were tried 127 Ands or Ors, each

@@ -3,8 +3,6 @@
  * printed, 1 if reading, memory or printing failed, which is said, and 2 if it was called wrongly.
  *
  * To build it from the repository's root, on x86-64:
- *     rt staticlib report && cc -O2 -Ihost -o target/counter host/counter.c target/staticlib/libreport.a
- * and on any machine, with an archive that is compiled for it:
  *     archive=$(scripts/archive.sh) && cc -O2 -Ihost -o target/counter host/counter.c "$archive"
  */
 #include <errno.h>

@@ -12,16 +12,16 @@ import collections
 import glob
 import os
 import re
+import subprocess
 import sys
 
-KIT = "/opt/rattle/rattle"
 DECLARED = re.compile(
     r"^( *)((?:abbrev |unfoldable |opaque |pub |mut )*)(record |data )?([^\s:(){}λ∀.,;=]+)"
     r"((?: +\{[^}]*\}| +\([^()]*(?:\([^()]*\)[^()]*)*\)| +ℓ\w*)*) *:(?: |$)",
     re.M,
 )
 TOKEN = re.compile(r"[^\s(){}\[\].,;=λ\"`·]+")
-IMPORT = re.compile(r"^(?:pub )?(?:ghost )?use ([^\s{;]+)(?:\.\{([^}]*)\})?", re.M)
+IMPORT = re.compile(r"^(?:pub )?(?:ghost )?use ([^\s{;]+?)\.\{([^}]*)\}", re.M)
 CLAUSE = re.compile(r"^\s*(?:requires|ensures|ghost)\b[^{]*\{(.*)\}\s*$")
 
 
@@ -53,8 +53,10 @@ def own_names(files):
 
 
 def library_names():
+    """The names that the kit's libraries declare. They lie beside the page that rt names."""
+    page = subprocess.run(["rt", "doc"], capture_output=True, text=True, check=True, stdin=subprocess.DEVNULL).stdout.strip()
     found = set()
-    for folder, _, names in os.walk(KIT):
+    for folder, _, names in os.walk(os.path.join(os.path.dirname(page), "rattle")):
         for name in names:
             if name.endswith(".antt"):
                 with open(os.path.join(folder, name), encoding="utf-8", errors="replace") as f:
@@ -100,10 +102,16 @@ def renames(files, texts, crates):
             meets = any(users[name] & users[other] for other in names if other != name)
             if name in turned and (meets or len(names) > 1) and "-" in name:
                 turned[name] = new + "_lem"
+    for new, names in groups.items():
+        if new in names and any(users[new] & users[other] for other in names if turned.get(other) == new and other != new):
+            turned[new] = new + "_lem"
     for name, new in list(turned.items()):
         others = [other for other in groups.get(new, ()) if other != name]
         if not others and users[name] & users[new]:
             turned[name] = new + "_lem"
+    for name, new in list(turned.items()):
+        if "◌" in name:
+            turned.update(zip(filter(None, name.split("◌")), filter(None, new.split("◌"))))
     return turned
 
 

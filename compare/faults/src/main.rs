@@ -38,7 +38,7 @@ impl Example {
     fn line(&self, outcome: &Outcome) -> String {
         let left = notation::ran(outcome.as_ref().ok().map(|left| notation::set(left)));
         let range = notation::range(*self.addition.start(), *self.addition.end());
-        format!("(add-assign ({}) {range} gives {left})", notation::set(&self.before))
+        format!("(add_assign ({}) {range} gives {left})", notation::set(&self.before))
     }
 
     /// The line that it has: the one after the example's name.

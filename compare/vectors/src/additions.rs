@@ -32,11 +32,11 @@ pub fn draw(chance: &mut Chance, drawn: &mut Drawn) {
     let written = notation::set(&before);
     let range = notation::range(*addition.start(), *addition.end());
     let left = notation::ran(after.map(|after| notation::set(&after.intervals())));
-    drawn.additions.push(format!("(add-assign ({written}) {range} gives {left})"));
+    drawn.additions.push(format!("(add_assign ({written}) {range} gives {left})"));
     let t = near(chance, &before);
     let number = notation::number(t);
     drawn.questions.push(format!("(contains ({written}) {number} gives done {})", set.contains(t)));
-    drawn.unbounded.push(format!("(contains-unbounded-interval ({written}) {number} gives {})", set.contains_unbounded_interval(t)));
+    drawn.unbounded.push(format!("(contains_unbounded_interval ({written}) {number} gives {})", set.contains_unbounded_interval(t)));
 }
 
 /// An interval to add: often one that ends just before a pair, which is where the fault is; now and then an empty one.

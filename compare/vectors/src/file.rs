@@ -21,9 +21,9 @@ impl Default for Asked {
 const IMPORTS: &str = include_str!("imports.txt");
 
 /// What the definitions that compute an example are; a statement by computation has to name them.
-const SET: &str = "add-assign first-then ok-then err-then contains contains-at contains-unbounded-interval index last binary-search-by-key";
+const SET: &str = "add_assign first_then ok_then err_then contains contains_at contains_unbounded_interval index last binary_search_by_key";
 const ORACLE: &str =
-    "trace answered made update-state update-time update-state-of update-time-of each output valuation from add-if since-if stop";
+    "trace answered made update_state update_time update-state-of update-time-of each output valuation from add_if since_if stop";
 
 /// The whole file.
 pub fn file(asked: &Asked) -> String {
@@ -36,7 +36,7 @@ pub fn file(asked: &Asked) -> String {
         + IMPORTS
         + &part("additions", "Ran NumSet", &set.additions, SET)
         + &part("questions", "Ran Bool", &set.questions, SET)
-        + &part("unbounded-questions", "Bool", &set.unbounded, SET)
+        + &part("unbounded_questions", "Bool", &set.unbounded, SET)
         + &part("traces", "List (Ran Answered)", &oracle.traces, &traced)
 }
 
@@ -63,9 +63,9 @@ abbrev pub {name} : List (Example ({kind}))
     {lines}
     ∷ []
 
-pub {name}-are-recorded : map foundIn {name} ≡ map statedIn {name}
+pub {name}_are_recorded : map found_in {name} ≡ map stated_in {name}
 unfolding {unfolding}
-{name}-are-recorded = refl
+{name}_are_recorded = refl
 "
     )
 }

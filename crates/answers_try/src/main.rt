@@ -1,57 +1,60 @@
 // Loads books and asks for their answers into a list of four records: of three properties, of four, and of five, for which the
 // list is too short. A line shows the number that was handed back, and then the list; a record that was not stored is the one
 // that stood there before.
+#![tactic(auto)]
+
 ghost use Rattle.memory.specs.Kept.{Kept};
 
 use oracle::{Answer, SIZE, Verdict};
 
 const ROOM: usize = 4;
 
-fn show_verdict(v: Verdict) {
+fn show_verdict(rt: &(impl Print + Eprint), v: Verdict) {
     let early = v.early;
     let settled = v.settled;
     show::digits(
+        rt,
         oracle::bit(v.value),
         oracle::digit(early),
         oracle::digit(settled),
     );
 }
 
-fn show_list(number: u64, list: [Verdict; ROOM]) {
-    show::number(number);
+fn show_list(rt: &(impl Print + Eprint), number: u64, list: [Verdict; ROOM]) {
+    show::number(rt, number);
     let mut i = 0;
     while i < ROOM {
-        show_verdict(list[i]);
+        show_verdict(rt, list[i]);
         i += 1;
     }
-    show::text(b"\n");
+    show::text(rt, b"\n");
 }
 
-// Lends a list to be filled, and shows it. What lends a list of structs is walked by hand, so it does nothing else.
-fn show_answers(monitor: &[u64; SIZE], before: [Verdict; ROOM])
+// Lends a list to be filled, and shows it.
+fn show_answers(rt: &(impl Print + Eprint), monitor: &[u64; SIZE], before: [Verdict; ROOM])
     requires { Kept monitor.now }
 {
     let mut list = before;
     let number = oracle::answers(monitor, &mut list);
-    show_list(number, list);
+    show_list(rt, number, list);
 }
 
 // All verdicts by value, after their count.
-fn show_all(monitor: &[u64; SIZE])
+fn show_all(rt: &(impl Print + Eprint), monitor: &[u64; SIZE])
     requires { Kept monitor.now }
 {
     let verdicts = oracle::all(monitor);
     let count = verdicts.count;
-    show::number(count as u64);
+    show::number(rt, count as u64);
     let mut i = 0;
     while i < count {
-        show_verdict(oracle::of_property(monitor, i));
+        show_verdict(rt, oracle::of_property(monitor, i));
         i += 1;
     }
-    show::text(b"\n");
+    show::text(rt, b"\n");
 }
 
-fn show_book(words: &[u64]) {
+fn show_book(rt: &(impl Print + Eprint), words: &[u64]) {
     let mut monitor = [0u64; SIZE];
     oracle::load(words, &mut monitor);
     let old = Verdict {
@@ -60,12 +63,12 @@ fn show_book(words: &[u64]) {
         settled: Answer::True,
     };
     let before = [old; ROOM];
-    show_answers(&monitor, before);
-    show_all(&monitor);
+    show_answers(rt, &monitor, before);
+    show_all(rt, &monitor);
 }
 
 // The rows are an atom, Once[0,MAX] of it, True, False, and then an empty And and an empty Or.
-fn main() {
+fn main(rt: HostRuntime) {
     let three = [
         4u64,
         2,
@@ -92,7 +95,7 @@ fn main() {
         2,
         3,
     ];
-    show_book(&three);
+    show_book(&rt, &three);
     let four = [
         5u64,
         2,
@@ -124,7 +127,7 @@ fn main() {
         2,
         3,
     ];
-    show_book(&four);
+    show_book(&rt, &four);
     let five = [
         6u64,
         2,
@@ -161,5 +164,5 @@ fn main() {
         3,
         5,
     ];
-    show_book(&five);
+    show_book(&rt, &five);
 }

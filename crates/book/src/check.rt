@@ -44,7 +44,7 @@ const LARGEST_ARGS: [u64; KINDS] = [
 ];
 
 // The number, and how many rows, operands, assumes and guarantees there are: none where the book is refused.
-#[derive(Drop)]
+#[derive(Clone, Copy)]
 pub struct Places {
     pub number: u64,
     pub rows: usize,
@@ -70,7 +70,7 @@ fn number_at(words: &[u64], at: usize) -> usize
 }
 
 // A section: the number that ends the reading in it, how many items it has, and where the words after it begin.
-#[derive(Drop)]
+#[derive(Clone, Copy)]
 struct Section {
     number: u64,
     count: usize,

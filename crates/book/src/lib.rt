@@ -1,4 +1,6 @@
 // A book's rows, and the judging of a book that is handed over as words.
+#![tactic(auto)]
+
 pub mod check;
 pub mod loading;
 pub mod strict;

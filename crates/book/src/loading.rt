@@ -4,7 +4,7 @@ ghost use Rattle.book.specs.Strict.{strictly};
 
 // As any that is in order, or strictly, so that no call ever lacks room; each for the ordinary way of monitoring, or for the lasting one, in which a
 // state lasts until the next call.
-#[derive(Drop)]
+#[derive(Clone, Copy)]
 pub enum Loading {
     Ordinary,
     Strict,

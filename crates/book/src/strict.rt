@@ -14,7 +14,7 @@ use crate::loading::{Loading, is_strict};
 use numbers::{ACCEPTED, COULD_RUN_OUT, MAX, MOST_RUNS, ROW_WORDS};
 
 // What strict loading refuses: the first row that can need more runs than a set may have, and how many it can need.
-#[derive(Drop)]
+#[derive(Clone, Copy)]
 pub enum Excess {
     Within,
     Over(u64, u64),

@@ -1,4 +1,6 @@
 // A book's words in decimal digits: a row to a line, and each other section on a line.
+#![tactic(auto)]
+
 ghost use Rattle.std.specs.Prelude.{◌≡◌, ◌∷◌, [], ◌++◌, ◌/◌, ◌<◌, length};
 ghost use Rattle.numbers.specs.Limits.{ROW_WORDS};
 ghost use Rattle.numbers.specs.Refusals.{ACCEPTED};

@@ -11,7 +11,7 @@ use borrow.Author.Tests.{lt-ltb, le-ltb, ltb-false, ne_eqb, eq-eqb}
 use Rattle.numbers.specs.Limits.{LAST_TIME, MOST_ATOMS}
 use Rattle.lists.proofs.Tests.{either, fails_by}
 use Rattle.ledger.specs.Ledger.{next}
-use Rattle.pmtl.specs.Book.{Book, properties, width_of, some}
+use Rattle.pmtl.specs.Book.{Book, Rows, properties, width_of, some}
 use Rattle.pmtl.specs.Sets.{Renew}
 use Rattle.pmtl.specs.Monitor.{Snap, State}
 use Rattle.pmtl.specs.Calls.{Call, Outcome, turns, time_refusal, state_refusal, first_of, refusal, crowded, play, call}
@@ -40,11 +40,21 @@ use Rattle.calls.proofs.Heads.{old_bytes}
 use Rattle.calls.proofs.Advances.{Leads, played, due, renewed_none, has_room, tried_moved, tried_refused, tried_stands}
 
 -- ---- a call that is refused for itself, and one that is not
+refused_call : (b : Rows) (st : State) (k : Call) (n : ℕ) → refusal b st.now k ≡ n → (n ≡ 0 → ⊥) → call b st k ≡ record { number = n; state = st }
+unfolding call
+refused_call b st k n e ne =
+    ap (λ (x : ℕ). elim (eqb x 0) as (λ _. Outcome) [ true ↦ play b st st (turns st.now k) | false ↦ record { number = x; state = st } ]) e
+    ∙ ap (λ (t : Bool). elim t as (λ _. Outcome) [ true ↦ play b st st (turns st.now k) | false ↦ record { number = n; state = st } ]) (ne_eqb n 0 ne)
+
+played_call : (b : Rows) (st : State) (k : Call) → refusal b st.now k ≡ 0 → call b st k ≡ play b st st (turns st.now k)
+unfolding call
+played_call b st k e = ap (λ (x : ℕ). elim (eqb x 0) as (λ _. Outcome) [ true ↦ play b st st (turns st.now k) | false ↦ record { number = x; state = st } ]) e
+
 called_refused : {m : List ℕ} {k : Call} {n : ℕ} → Kept m → refusal (rows_of m) (state_of m).now k ≡ n → (n ≡ 0 → ⊥) → Done k m m n
-unfolding call book_of
+unfolding book_of
 called_refused {m} {k} {n} kept e ne =
-    let q = ne_eqb n 0 ne in
-    record { number = sym (rw (e, q) e); state = sym (rw (e, q)); book = refl; turned = λ z. absurd (ne z); refused = λ z. refl; ledger = ledger_self m; kept = kept }
+    let q = refused_call (rows_of m) (state_of m) k n e ne in
+    record { number = ap (λ (o : Outcome). o.number) (sym q); state = ap (λ (o : Outcome). o.state) (sym q); book = refl; turned = λ z. absurd (ne z); refused = λ z. refl; ledger = ledger_self m; kept = kept }
 
 -- what the words of a memory owe, apart from that its monitor rests
 abbrev Right : List ℕ → Type 0
@@ -55,11 +65,12 @@ right_now kept = (kept.sound, kept.tables, kept.ledger, kept.awaited)
 
 called_played : {m m' : List ℕ} {k : Call} {r : ℕ} {ns : List Snap} → Kept m → refusal (rows_of m) (state_of m).now k ≡ 0 → ns ≡ turns (state_of m).now k → Advanced m ns m' r
     → Right m' → Done k m m' r
-unfolding call book_of
+unfolding book_of
 called_played {m} {m'} {k} {r} kept e en a right =
-    let state : state_of m' ≡ (call (rows_of m) (state_of m) k).state = a.state ∙ ap (λ (ns : List Snap). (play (rows_of m) (state_of m) (state_of m) ns).state) en ∙ sym (rw e) in
+    let plays = played_call (rows_of m) (state_of m) k e in
+    let state : state_of m' ≡ (call (rows_of m) (state_of m) k).state = a.state ∙ ap (λ (ns : List Snap). (play (rows_of m) (state_of m) (state_of m) ns).state) en ∙ ap (λ (o : Outcome). o.state) (sym plays) in
     record {
-      number = a.number ∙ ap (λ (ns : List Snap). (play (rows_of m) (state_of m) (state_of m) ns).number) en ∙ sym (rw e);
+      number = a.number ∙ ap (λ (ns : List Snap). (play (rows_of m) (state_of m) (state_of m) ns).number) en ∙ ap (λ (o : Outcome). o.number) (sym plays);
       state = state;
       book = a.book;
       turned = a.turned;

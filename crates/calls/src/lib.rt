@@ -1,5 +1,7 @@
 // The calls of a monitor: planned, then carried out in place, and noted. A call that is refused changes nothing but the number of the
 // call.
+#![tactic(auto)]
+
 ghost use Rattle.std.specs.Prelude.{◌≡◌, true, ◌≤◌, max, length, get_or, ltb};
 ghost use borrow.Rule.Slice.PartMut.{put_mid};
 ghost use Rattle.numset.specs.Runs.{kept};
@@ -131,7 +133,7 @@ fn leaves_sets(monitor: &[u64; SIZE], fresh: bool, modes: &[u8; MOST_TEMPORALS])
 }
 
 // What came of a step: its number, and whether nothing but values of rows was changed.
-#[derive(Drop)]
+#[derive(Clone, Copy)]
 pub struct Step {
     pub number: u64,
     pub same: bool,

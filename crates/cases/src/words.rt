@@ -4,7 +4,7 @@ ghost use Rattle.cases.specs.Held.{Held};
 // Room for the books of this program.
 pub const ROOM: usize = 128;
 
-#[derive(Drop)]
+#[derive(Clone, Copy)]
 pub struct Words {
     pub list: [u64; ROOM],
     pub count: usize,

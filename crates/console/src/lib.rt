@@ -1,35 +1,40 @@
 // Standard input and standard output, for every program. Whatever fails here is said in a line on standard error.
+#![tactic(auto)]
+
 ghost use Rattle.std.specs.Prelude.{length};
 ghost use Rattle.console.specs.Input.{Within};
 
-use libc::{STDERR_FILENO, STDIN_FILENO, STDOUT_FILENO};
+use std::fmt::Display;
+use std::io;
+use std::io::Read;
 
 // What came of reading: so many bytes, none at the end of the input; or a read that failed.
-#[derive(Drop)]
+#[derive(Clone, Copy)]
 pub enum Came {
     Bytes(usize),
     Failed,
 }
 
 // Reads once, as much as is there and fits.
-pub fn read_some(room: &mut [u8]) -> Came
+pub fn read_some(rt: &impl Eprint, from: &mut impl Read, room: &mut [u8]) -> Came
     ensures { Within (length room.old) result }
 {
-    let got = libc::read(STDIN_FILENO, room);
-    if got < 0 {
-        os::fail(b"standard input");
-        return Came::Failed;
+    match from.read(room) {
+        Ok(count) => Came::Bytes(count),
+        Err(error) => {
+            fail(rt, "standard input", error);
+            Came::Failed
+        }
     }
-    Came::Bytes(io::count(got, room))
 }
 
 // Reads until the input ends or `input` is full.
-pub fn fill(input: &mut [u8]) -> Came
+pub fn fill(rt: &impl Eprint, from: &mut impl Read, input: &mut [u8]) -> Came
     ensures { Within (length input.old) result }
 {
     let mut n = 0;
     while n < input.len() {
-        let came = read_some(&mut input[n..]);
+        let came = read_some(rt, from, &mut input[n..]);
         let Came::Bytes(k) = came else {
             return Came::Failed;
         };
@@ -43,11 +48,11 @@ pub fn fill(input: &mut [u8]) -> Came
 
 // Reads what is left and drops it, so that whoever writes it can finish. A proved loop has to end: it counts its turns
 // down from a number that no run uses up.
-pub fn drain() {
-    let mut room = io::buffer();
+pub fn drain(rt: &impl Eprint, from: &mut impl Read) {
+    let mut room = [0u8; 4096];
     let mut turns: u64 = 0xffff_ffff_ffff_ffff;
     while 0 < turns {
-        let came = read_some(&mut room);
+        let came = read_some(rt, from, &mut room);
         let Came::Bytes(k) = came else {
             return;
         };
@@ -59,12 +64,13 @@ pub fn drain() {
 }
 
 // Reads the input to its end: what fits is kept, and the rest is dropped.
-pub fn read_all(input: &mut [u8]) -> Came
+pub fn read_all(rt: &(impl Input + Eprint), input: &mut [u8]) -> Came
     ensures { Within (length input.old) result }
 {
-    let came = fill(input);
+    let mut from = rt.reader();
+    let came = fill(rt, &mut from, input);
     if fills(came, input.len()) {
-        drain();
+        drain(rt, &mut from);
     }
     came
 }
@@ -77,16 +83,35 @@ fn fills(came: Came, room: usize) -> bool {
 }
 
 // Prints all of `bytes`, and answers whether that was done.
-pub fn print(bytes: &[u8]) -> bool {
-    let done = io::write_all(STDOUT_FILENO, bytes);
-    if !done {
-        os::fail(b"standard output");
-    }
-    done
+pub fn print(rt: &(impl Print + Eprint), bytes: &[u8]) -> bool {
+    done(rt, rt.write_all(bytes))
 }
 
-// Says `line` on standard error. Nothing is left to do where that fails.
-pub fn complain(line: &[u8]) {
-    io::write_all(STDERR_FILENO, line);
-    io::write_all(STDERR_FILENO, b"\n");
+// Prints `value`, and answers whether that was done.
+pub fn print_value(rt: &(impl Print + Eprint), value: impl Display + Drop) -> bool {
+    done(rt, rt.print(value))
+}
+
+fn done(rt: &impl Eprint, printed: io::Result<()>) -> bool {
+    match printed {
+        Ok(()) => true,
+        Err(error) => {
+            fail(rt, "standard output", error);
+            false
+        }
+    }
+}
+
+// Says on standard error what failed, and how. Nothing is left to do where that fails.
+fn fail(rt: &impl Eprint, what: &str, error: io::Error) {
+    let _ = eprintln!(rt; "{what}: {error}");
+}
+
+// Says `line` on standard error: its text, or where it is none, each byte as a character or an escape. Nothing is left to do
+// where that fails.
+pub fn complain(rt: &impl Eprint, line: &[u8]) {
+    let _ = match str::from_utf8(line) {
+        Ok(text) => rt.eprintln(text),
+        Err(_) => rt.eprintln(line.escape_ascii()),
+    };
 }

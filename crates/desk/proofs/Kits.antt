@@ -2,7 +2,7 @@
 use Prim.Native.Nat.{ℕ, zero, suc, ◌+◌, ◌*◌, ◌-◌, ◌≤◌, ◌<◌}
 use native.Mathlib.Omega.{arith}
 use mathlib.Core.Path.{◌≡◌, refl, sym, ap, ◌∙◌}
-use mathlib.Core.Bool.{Bool, true, false, cond, ◌||◌, or_false, or-true}
+use mathlib.Core.Bool.{Bool, true, false, cond, ◌||◌, or-false, or-true}
 use mathlib.Core.List.{List, [], ◌∷◌, ◌++◌, map-append}
 use lib.ListN.{length, get_or, set, drop, replicate, length-drop, length-replicate}
 use lib.Seq.{sets, length-sets, drop-cons, drop-length, take_all}
@@ -95,7 +95,7 @@ kits_length m n = listed_length (kit_in m) n
 
 some_more : (p : ℕ → Bool) (xs : List ℕ) (y : ℕ) → some p (xs ++ (y ∷ [])) ≡ (some p xs || p y)
 unfolding some
-some_more p [] y = or_false (p y)
+some_more p [] y = or-false (p y)
 some_more p (x ∷ xs) y = go (p x) (some_more p xs y)
   where
     go : (z : Bool) → some p (xs ++ (y ∷ [])) ≡ (some p xs || p y) → (z || some p (xs ++ (y ∷ []))) ≡ ((z || some p xs) || p y)

@@ -5,10 +5,10 @@ use Prim.Native.Nat.{ℕ, ◌≤◌, ◌<◌}
 use native.Mathlib.Omega.{arith}
 use mathlib.Core.Path.{◌≡◌, refl, sym, ap, subst, ◌∙◌}
 use mathlib.Core.Logic.{◌↔◌, ⊎_elim}
-use mathlib.Core.Bool.{Bool, true, false, cond, not}
+use mathlib.Core.Bool.{Bool, true, false, cond}
 use mathlib.Core.List.{List}
 use lib.ListN.{length}
-use borrow.Author.Tests.{not_false}
+use borrow.Author.Tests.{not-false}
 use Rattle.lists.proofs.Tests.{lt_or_ge, fails_by, not_no}
 use Rattle.pmtl.specs.declared.Answer.TheVariants.{False, Open}
 use Rattle.numbers.specs.Refusals.{ACCEPTED, UNKNOWN_BARCODE}
@@ -50,7 +50,7 @@ module _ {kits : List Kit} {es : List Scan} {table m : List ℕ} (made : Made ki
     false_exactly_if =
         let x = stopped (kit_at desk k) (taken desk es) in
         let s = stopped_iff (kit_at desk k) (taken desk es) in
-        (λ h. s.0 (not_false x (sym (value_is made k l) ∙ h)), λ h. value_is made k l ∙ not_no x (s.1 h))
+        (λ h. s.0 (not-false x (sym (value_is made k l) ∙ h)), λ h. value_is made k l ∙ not_no x (s.1 h))
 
     -- so is the settled answer
     pub settled_false_exactly_if : ((verdict_of m k).settled ≡ False) ↔ Stopped (kit_at desk k) (taken desk es)

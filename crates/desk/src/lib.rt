@@ -1,6 +1,8 @@
 // The kit desk: kits with barcodes, scans of them, and the stop slip of a kit that was handed out with no promise. It stands above the
 // library's face, the crate `oracle`. A desk is lent memory, a table of barcodes and the memory of a monitor, and is determined by what
 // it holds.
+#![tactic(auto)]
+
 pub mod book_words;
 pub mod given;
 
@@ -30,14 +32,14 @@ const COUNT: usize = 0;
 const BARCODES: usize = 1;
 
 // Whether a stop slip prints, and of which kit.
-#[derive(Drop)]
+#[derive(Clone, Copy)]
 pub enum Slip {
     Quiet,
     Stop(usize),
 }
 
 // What a scan hands back: its number, and the slip that prints at it.
-#[derive(Drop)]
+#[derive(Clone, Copy)]
 pub struct Scanned {
     pub number: u64,
     pub slip: Slip,

@@ -1,18 +1,18 @@
 -- How long an answer gets: what is said after a line, or at the end of the input, is never longer than the room for it. Assumes nothing.
-use Prim.Native.Nat.{ℕ, zero, suc, ◌*◌, ◌/◌, ◌≤◌, ◌<◌}
+use Prim.Native.Nat.{ℕ, zero, suc, ◌*◌, ◌≤◌, ◌<◌}
 use native.Mathlib.Omega.{arith}
 use native.Mathlib.Decide.{ℕ_discrete}
-use mathlib.Core.Path.{◌≡◌, refl, sym, ap, ◌∙◌}
+use mathlib.Core.Path.{◌≡◌, refl, ap, ◌∙◌}
 use mathlib.Core.Bool.{Bool, true, false, cond, ◌||◌}
 use mathlib.Core.Logic.{inl, inr}
-use mathlib.Core.List.{List, [], ◌++◌}
+use mathlib.Core.List.{List, ◌++◌}
 use lib.ListN.{length, length-append, take, drop}
 use lib.Seq.{take-append_seam}
 use lib.Dec.{ltb, eqb}
 use borrow.Author.Tests.{eq-eqb, ne_eqb, le-leb, ltb-true}
 use Rattle.numbers.specs.Limits.{MAX, LAST_TIME, MOST_KITS}
 use Rattle.numbers.specs.Refusals.{ACCEPTED, BAD_WORD, WRONG_KITS}
-use Rattle.text.specs.Words.{Supply, ends, supply}
+use Rattle.text.specs.Words.{Supply}
 use Rattle.text.specs.Decimals.{decimal}
 use Rattle.text.proofs.Digits.{at_most, at_most_20}
 use Rattle.text.proofs.Few.{small_ending}
@@ -21,7 +21,6 @@ use Rattle.pmtl.specs.Monitor.{State}
 use Rattle.pmtl.specs.declared.Answer.{Answer}
 use Rattle.pmtl.specs.Answer.{is_false}
 use Rattle.memory.specs.Memory.{book_of, state_of}
-use Rattle.property_answers.specs.Verdict.{verdict_in}
 use Rattle.buffer_writer.specs.Buffer.{Handed, handed, in_buffer}
 use Rattle.desk_rules.specs.Scans.{Kit, Scan, codes, windows, repeats, open_number}
 use Rattle.desk_rules.specs.Desk.{place_of, scanned_in}
@@ -34,8 +33,7 @@ use Rattle.desk.proofs.Standing.{after_codes, width_small, ready_scan}
 use Rattle.line_words.specs.Line.{LONGEST_LINE, without_return, line_supply, blank, judged_by, word_at, number_for}
 use Rattle.desk_lines.specs.declared.Stage.{Stage}
 use Rattle.desk_lines.specs.declared.Stage.TheVariants.{Awaited, Giving, Opened, Closed}
-use Rattle.desk_lines.specs.declared.Event.{Event}
-use Rattle.desk_lines.specs.declared.Event.TheVariants.{Nothing, Desk, Scanned, Stopped}
+use Rattle.desk_lines.specs.declared.Event.TheVariants.{Nothing, Desk}
 use Rattle.desk_lines.specs.declared.Heard.{Heard}
 use Rattle.desk_lines.specs.Dialogue.{Held, Reply, says, unchanged, closed_by, COUNT_WORDS, count_heard, count_line, with_kit, open_heard, opening, kit_given, kit_line, SCAN_WORDS, following, scan_of, scan_event, scanning, scan_line, at_stage, reply_to}
 use Rattle.desk_lines.specs.Bytes.{desk_word, slip_word, numbered, kit_word, kit_words, scan_bytes, event_bytes, reply_bytes, last_bytes}

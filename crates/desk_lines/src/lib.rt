@@ -1,4 +1,6 @@
 // What a line of the dialogue with a kit desk does: bytes in, bytes out, and the desk changed in place.
+#![tactic(auto)]
+
 pub mod writes;
 
 ghost use Rattle.std.specs.Prelude.{◌≡◌, ◌<◌};
@@ -24,7 +26,7 @@ const SCAN_WORDS: usize = 2;
 
 // How far the dialogue is: the number of kits is awaited; of so many kits so many are given; the desk is open and had so many lines;
 // or it was refused.
-#[derive(Drop)]
+#[derive(Clone, Copy)]
 pub enum Stage {
     Awaited,
     Giving(usize, usize),
@@ -33,7 +35,7 @@ pub enum Stage {
 }
 
 // What is said after a line: nothing; the desk's number; a scan's line and number; and these with the kit whose slip prints.
-#[derive(Drop)]
+#[derive(Clone, Copy)]
 pub enum Event {
     Nothing,
     Desk(u64),
@@ -42,14 +44,14 @@ pub enum Event {
 }
 
 // What came of a line: the stage after it, and what is to be said.
-#[derive(Drop)]
+#[derive(Clone, Copy)]
 pub struct Heard {
     pub stage: Stage,
     pub event: Event,
 }
 
 // The same where it was said: so many bytes.
-#[derive(Drop)]
+#[derive(Clone, Copy)]
 pub struct Answered {
     pub stage: Stage,
     pub length: u64,

@@ -37,8 +37,8 @@ fine_one (suc n) zero = fine_clear n
 fine_one (suc n) (suc i) = fine_one n i
 
 -- byte y of a state with byte x on
-one_on : (n x y : ℕ) → y < n → eqb (get_or (one_on n x) y 0) 1 ≡ eqb x y
-one_on n x y h = go (eqb x y) refl
+one_on_lem : (n x y : ℕ) → y < n → eqb (get_or (one_on n x) y 0) 1 ≡ eqb x y
+one_on_lem n x y h = go (eqb x y) refl
   where
     go : (z : Bool) → eqb x y ≡ z → eqb (get_or (one_on n x) y 0) 1 ≡ z
     go true z =
@@ -86,7 +86,7 @@ module _ (kits : List Kit) where
   module _ (apart : repeats (codes kits) ≡ false) (e : Scan) (k : ℕ) (l : k < length kits) where
     atom_on : (i : ℕ) → i < 3 → get_or (atoms_in (state_of e)) (atom_of k i) false ≡ eqb (place_of e.barcode (codes kits)) (atom_of k i)
     atom_on i h = get_or-map (λ x. eqb x 1) (state_of e) (atom_of k i) 0
-        ∙ one_on width (place_of e.barcode (codes kits)) (atom_of k i) (omega (arith, codes_length kits))
+        ∙ one_on_lem width (place_of e.barcode (codes kits)) (atom_of k i) (omega (arith, codes_length kits))
 
     pub promise_on : get_or (atoms_in (state_of e)) (atom_of k PROMISE) false ≡ reads (kit_at kits k).promise e
     unfolding reads

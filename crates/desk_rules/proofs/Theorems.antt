@@ -8,7 +8,7 @@ use mathlib.Core.Bool.{Bool, true, false, cond, not}
 use mathlib.Core.List.{List, ◌∷◌}
 use lib.ListN.{length}
 use lib.Dec.{eqb, ltb}
-use borrow.Author.Tests.{not_false, eqb-true, eq-eqb, ne_eqb}
+use borrow.Author.Tests.{not-false, eqb-true, eq-eqb, ne_eqb}
 use Rattle.lists.proofs.Tests.{fails_by, not_no}
 use Rattle.numbers.specs.Limits.{LAST_TIME}
 use Rattle.numbers.specs.Refusals.{ACCEPTED, TOO_EARLY, TOO_LATE, UNKNOWN_BARCODE}
@@ -16,7 +16,7 @@ use Rattle.pmtl.specs.declared.Answer.TheVariants.{False, Open}
 use Rattle.pmtl.specs.Book.{Rows, some}
 use Rattle.pmtl.specs.Monitor.{value}
 use Rattle.pmtl.specs.Settled.{settled}
-use Rattle.pmtl.specs.Calls.{stamped, state, Outcome, call, after}
+use Rattle.pmtl.specs.Calls.{stamped, state, Outcome, call}
 use Rattle.desk_rules.specs.Scans.{Kit, kit_at, Scan, codes, windows, desk_of, reads, promised, stopped, last_hour, scan_number, taken}
 use Rattle.desk_rules.specs.Words.{Promised, Stopped}
 use Rattle.desk_rules.specs.Rows.{PROMISE, HANDOUT, RETURN, atom_of, desk_rows, guarantee}
@@ -77,7 +77,7 @@ module _ (kits : List Kit) (scans : List Scan) where
     -- before that scan, within the window, with no return of it scanned after the promise
     pub false_exactly_if : (value b (desk_after desk scans) (guarantee k) ≡ false) ↔ Stopped (kit_at desk k) (taken desk scans)
     false_exactly_if = let s = stopped_iff (kit_at desk k) (taken desk scans) in rw value_in_desk_terms
-        (λ h. s.0 (not_false (stopped (kit_at desk k) (taken desk scans)) h), λ h. not_no (stopped (kit_at desk k) (taken desk scans)) (s.1 h))
+        (λ h. s.0 (not-false (stopped (kit_at desk k) (taken desk scans)) h), λ h. not_no (stopped (kit_at desk k) (taken desk scans)) (s.1 h))
 
     -- so is the settled answer
     pub settled_false_exactly_if : (settled b (desk_after desk scans) (guarantee k) ≡ False) ↔ Stopped (kit_at desk k) (taken desk scans)

@@ -7,7 +7,7 @@ use mathlib.Core.Logic.{◌↔◌}
 use mathlib.Core.Bool.{true, false, not, ◌&&◌, false≢true}
 use mathlib.Core.List.{List, [], ◌∷◌}
 use lib.Dec.{leb}
-use borrow.Author.Tests.{leb-true, le-leb, not_true, eqb-true, eq-eqb}
+use borrow.Author.Tests.{leb-true, le-leb, not-true, eqb-true, eq-eqb}
 use Rattle.lists.proofs.Tests.{clash, fails_by, and_left, and_right, and_intro, or_left, or_right, or_elim, not_yes}
 use Rattle.desk_rules.specs.Scans.{Kit, Scan, reads, promised, stopped}
 use Rattle.desk_rules.specs.Words.{Ago, Promised, Stopped}
@@ -36,7 +36,7 @@ module _ (x : Kit) where
         in_window = leb-true t (e.hour + x.window) (and_right (reads x.promise e) _ p);
         no_return = λ m r past l a. absurd (not-suc-le-zero l);
       })
-      (λ p. more (not_true (reads x.return e) (and_left _ _ p)) (promised_said t es (and_right (not (reads x.return e)) _ p))) h
+      (λ p. more (not-true (reads x.return e) (and_left _ _ p)) (promised_said t es (and_right (not (reads x.return e)) _ p))) h
     where
       more : reads x.return e ≡ false → Promised x t es → Promised x t (e ∷ es)
       more n q = record {
@@ -78,7 +78,7 @@ module _ (x : Kit) where
         before = es;
         ago = (refl, refl);
         is_handout = reads_is x.handout e (and_left _ _ p);
-        not_promised = λ q. clash ((promised_iff e.hour es).1 q) (not_true (promised x e.hour es) (and_right (reads x.handout e) _ p));
+        not_promised = λ q. clash ((promised_iff e.hour es).1 q) (not-true (promised x e.hour es) (and_right (reads x.handout e) _ p));
       })
       (λ p. let q = stopped_said es p in record { i = suc q.i; scan = q.scan; before = q.before; ago = q.ago; is_handout = q.is_handout; not_promised = q.not_promised }) h
 

@@ -1,5 +1,7 @@
 // Opens desks and scans at them. A desk has a line with the number that it was opened with; a scan has a line with its time and barcode,
 // its number and, for each kit, value, early and settled, of which 2 is open. Where a stop slip prints, its kit follows.
+#![tactic(auto)]
+
 ghost use Rattle.std.specs.Prelude.{◌<◌, ◌≤◌};
 ghost use Rattle.numbers.specs.Limits.{LAST_TIME, MOST_KITS};
 ghost use Rattle.desk.specs.Standing.{Stands};
@@ -36,10 +38,11 @@ fn give(kits: &mut [u64; MOST_KIT_WORDS], kit: usize, promise: u64, window: u64)
 }
 
 // Value, early and settled.
-fn verdict(v: Verdict) {
+fn verdict(rt: &(impl Print + Eprint), v: Verdict) {
     let early = v.early;
     let settled = v.settled;
     show::digits(
+        rt,
         oracle::bit(v.value),
         oracle::digit(early),
         oracle::digit(settled),
@@ -47,28 +50,29 @@ fn verdict(v: Verdict) {
 }
 
 // The answers of every kit.
-fn answers(table: &[u64; TABLE_SIZE], monitor: &[u64; SIZE])
+fn answers(rt: &(impl Print + Eprint), table: &[u64; TABLE_SIZE], monitor: &[u64; SIZE])
     requires { Stands table.now monitor.now }
 {
     let count = desk::kit_count(table);
     let mut kit = 0;
     while kit < count {
-        verdict(desk::of_kit(monitor, kit));
+        verdict(rt, desk::of_kit(monitor, kit));
         kit += 1;
     }
 }
 
-fn slip(printed: Slip) {
+fn slip(rt: &(impl Print + Eprint), printed: Slip) {
     match printed {
         Slip::Quiet => {}
         Slip::Stop(kit) => {
-            text(b" slip ");
-            number(kit as u64);
+            text(rt, b" slip ");
+            number(rt, kit as u64);
         }
     }
 }
 
 fn open(
+    rt: &(impl Print + Eprint),
     kits: &[u64; MOST_KIT_WORDS],
     count: usize,
     table: &mut [u64; TABLE_SIZE],
@@ -77,112 +81,126 @@ fn open(
     ensures { Stands table.new monitor.new }
 {
     let refusal = desk::open(kits, count, table, monitor);
-    text(b"  desk ");
-    number(refusal);
-    answers(table, monitor);
-    text(b"\n");
+    text(rt, b"  desk ");
+    number(rt, refusal);
+    answers(rt, table, monitor);
+    text(rt, b"\n");
 }
 
-fn scan(table: &[u64; TABLE_SIZE], monitor: &mut [u64; SIZE], time: u64, barcode: u64)
+fn scan(
+    rt: &(impl Print + Eprint),
+    table: &[u64; TABLE_SIZE],
+    monitor: &mut [u64; SIZE],
+    time: u64,
+    barcode: u64,
+)
     requires { Stands table.now monitor.old }
     ensures { Stands table.now monitor.new }
 {
     let scanned = desk::scan(time, barcode, table, monitor);
-    text(b"  ");
-    number(time);
-    text(b" ");
-    number(barcode);
-    text(b": ");
-    number(scanned.number);
-    answers(table, monitor);
+    text(rt, b"  ");
+    number(rt, time);
+    text(rt, b" ");
+    number(rt, barcode);
+    text(rt, b": ");
+    number(rt, scanned.number);
+    answers(rt, table, monitor);
     let printed = scanned.slip;
-    slip(printed);
-    text(b"\n");
+    slip(rt, printed);
+    text(rt, b"\n");
 }
 
 // Two counters promise it and it is handed out twice, which the rule allows; after its return neither promise counts any more.
-fn promised_twice(table: &mut [u64; TABLE_SIZE], monitor: &mut [u64; SIZE]) {
-    text(b"The eyepiece that two counters promised\n");
+fn promised_twice(
+    rt: &(impl Print + Eprint),
+    table: &mut [u64; TABLE_SIZE],
+    monitor: &mut [u64; SIZE],
+) {
+    text(rt, b"The eyepiece that two counters promised\n");
     let mut kits = [0u64; MOST_KIT_WORDS];
     give(&mut kits, 0, MICROSCOPE, WINDOW);
     give(&mut kits, 1, EYEPIECE, WINDOW);
-    open(&kits, 2, table, monitor);
-    scan(table, monitor, 1, EYEPIECE);
-    scan(table, monitor, 2, EYEPIECE);
-    scan(table, monitor, 9, EYEPIECE + HANDOUT);
-    scan(table, monitor, 10, EYEPIECE + HANDOUT);
-    scan(table, monitor, 30, EYEPIECE + RETURN);
-    scan(table, monitor, 31, EYEPIECE + HANDOUT);
-    scan(table, monitor, 32, EYEPIECE);
-    scan(table, monitor, 33, EYEPIECE + HANDOUT);
+    open(rt, &kits, 2, table, monitor);
+    scan(rt, table, monitor, 1, EYEPIECE);
+    scan(rt, table, monitor, 2, EYEPIECE);
+    scan(rt, table, monitor, 9, EYEPIECE + HANDOUT);
+    scan(rt, table, monitor, 10, EYEPIECE + HANDOUT);
+    scan(rt, table, monitor, 30, EYEPIECE + RETURN);
+    scan(rt, table, monitor, 31, EYEPIECE + HANDOUT);
+    scan(rt, table, monitor, 32, EYEPIECE);
+    scan(rt, table, monitor, 33, EYEPIECE + HANDOUT);
 }
 
 // A gun that sends everything twice: the slip prints once.
-fn doubled(table: &mut [u64; TABLE_SIZE], monitor: &mut [u64; SIZE]) {
-    text(b"A gun that sends everything twice\n");
+fn doubled(rt: &(impl Print + Eprint), table: &mut [u64; TABLE_SIZE], monitor: &mut [u64; SIZE]) {
+    text(rt, b"A gun that sends everything twice\n");
     let mut kits = [0u64; MOST_KIT_WORDS];
     give(&mut kits, 0, MICROSCOPE, WINDOW);
-    open(&kits, 1, table, monitor);
-    scan(table, monitor, 1, MICROSCOPE);
-    scan(table, monitor, 1, MICROSCOPE);
-    scan(table, monitor, 5, MICROSCOPE + HANDOUT);
-    scan(table, monitor, 5, MICROSCOPE + HANDOUT);
-    scan(table, monitor, 7, MICROSCOPE + RETURN);
-    scan(table, monitor, 7, MICROSCOPE + RETURN);
-    scan(table, monitor, 8, MICROSCOPE + HANDOUT);
-    scan(table, monitor, 8, MICROSCOPE + HANDOUT);
+    open(rt, &kits, 1, table, monitor);
+    scan(rt, table, monitor, 1, MICROSCOPE);
+    scan(rt, table, monitor, 1, MICROSCOPE);
+    scan(rt, table, monitor, 5, MICROSCOPE + HANDOUT);
+    scan(rt, table, monitor, 5, MICROSCOPE + HANDOUT);
+    scan(rt, table, monitor, 7, MICROSCOPE + RETURN);
+    scan(rt, table, monitor, 7, MICROSCOPE + RETURN);
+    scan(rt, table, monitor, 8, MICROSCOPE + HANDOUT);
+    scan(rt, table, monitor, 8, MICROSCOPE + HANDOUT);
 }
 
 // Refused scans change nothing: an hour that goes back, one above the last, a barcode of no kit.
-fn refused(table: &mut [u64; TABLE_SIZE], monitor: &mut [u64; SIZE]) {
-    text(b"An hour that goes back, and a barcode of no kit\n");
+fn refused(rt: &(impl Print + Eprint), table: &mut [u64; TABLE_SIZE], monitor: &mut [u64; SIZE]) {
+    text(rt, b"An hour that goes back, and a barcode of no kit\n");
     let mut kits = [0u64; MOST_KIT_WORDS];
     give(&mut kits, 0, MICROSCOPE, WINDOW);
-    open(&kits, 1, table, monitor);
-    scan(table, monitor, 10, MICROSCOPE);
-    scan(table, monitor, 9, MICROSCOPE + RETURN);
-    scan(table, monitor, 9, EYEPIECE);
-    scan(table, monitor, LAST_TIME + 1, MICROSCOPE + RETURN);
-    scan(table, monitor, 11, MICROSCOPE + HANDOUT);
-    scan(table, monitor, LAST_TIME, MICROSCOPE + HANDOUT);
+    open(rt, &kits, 1, table, monitor);
+    scan(rt, table, monitor, 10, MICROSCOPE);
+    scan(rt, table, monitor, 9, MICROSCOPE + RETURN);
+    scan(rt, table, monitor, 9, EYEPIECE);
+    scan(rt, table, monitor, LAST_TIME + 1, MICROSCOPE + RETURN);
+    scan(rt, table, monitor, 11, MICROSCOPE + HANDOUT);
+    scan(rt, table, monitor, LAST_TIME, MICROSCOPE + HANDOUT);
 }
 
 // The last hour of a window counts, the next does not.
-fn windows(table: &mut [u64; TABLE_SIZE], monitor: &mut [u64; SIZE]) {
-    text(b"The last hour of a window, and a window of none\n");
+fn windows(rt: &(impl Print + Eprint), table: &mut [u64; TABLE_SIZE], monitor: &mut [u64; SIZE]) {
+    text(rt, b"The last hour of a window, and a window of none\n");
     let mut kits = [0u64; MOST_KIT_WORDS];
     give(&mut kits, 0, MICROSCOPE, WINDOW);
     give(&mut kits, 1, EYEPIECE, WINDOW - 1);
     give(&mut kits, 2, TRIPOD, 0);
-    open(&kits, 3, table, monitor);
-    scan(table, monitor, 0, MICROSCOPE);
-    scan(table, monitor, 0, EYEPIECE);
-    scan(table, monitor, WINDOW, TRIPOD);
-    scan(table, monitor, WINDOW, MICROSCOPE + HANDOUT);
-    scan(table, monitor, WINDOW, EYEPIECE + HANDOUT);
-    scan(table, monitor, WINDOW, TRIPOD + HANDOUT);
-    scan(table, monitor, WINDOW + 1, TRIPOD + HANDOUT);
+    open(rt, &kits, 3, table, monitor);
+    scan(rt, table, monitor, 0, MICROSCOPE);
+    scan(rt, table, monitor, 0, EYEPIECE);
+    scan(rt, table, monitor, WINDOW, TRIPOD);
+    scan(rt, table, monitor, WINDOW, MICROSCOPE + HANDOUT);
+    scan(rt, table, monitor, WINDOW, EYEPIECE + HANDOUT);
+    scan(rt, table, monitor, WINDOW, TRIPOD + HANDOUT);
+    scan(rt, table, monitor, WINDOW + 1, TRIPOD + HANDOUT);
 }
 
 // What is wrong with kits, each number before the next; a refused desk knows no barcode.
-fn wrong_kits(table: &mut [u64; TABLE_SIZE], monitor: &mut [u64; SIZE]) {
-    text(b"Desks that are refused\n");
+fn wrong_kits(
+    rt: &(impl Print + Eprint),
+    table: &mut [u64; TABLE_SIZE],
+    monitor: &mut [u64; SIZE],
+) {
+    text(rt, b"Desks that are refused\n");
     let mut kits = [0u64; MOST_KIT_WORDS];
     give(&mut kits, 0, MICROSCOPE, LAST_TIME);
     give(&mut kits, 1, EYEPIECE, LAST_TIME + 1);
-    open(&kits, 0, table, monitor);
-    open(&kits, MOST_KITS + 1, table, monitor);
-    open(&kits, 1, table, monitor);
-    open(&kits, 2, table, monitor);
-    scan(table, monitor, 1, MICROSCOPE);
+    open(rt, &kits, 0, table, monitor);
+    open(rt, &kits, MOST_KITS + 1, table, monitor);
+    open(rt, &kits, 1, table, monitor);
+    open(rt, &kits, 2, table, monitor);
+    scan(rt, table, monitor, 1, MICROSCOPE);
     give(&mut kits, 1, MICROSCOPE + RETURN, LAST_TIME + 1);
-    open(&kits, 2, table, monitor);
-    scan(table, monitor, 1, MICROSCOPE);
+    open(rt, &kits, 2, table, monitor);
+    scan(rt, table, monitor, 1, MICROSCOPE);
 }
 
 // As many kits as a desk has.
-fn all_kits(table: &mut [u64; TABLE_SIZE], monitor: &mut [u64; SIZE]) {
-    text(b"Sixteen kits\n");
+fn all_kits(rt: &(impl Print + Eprint), table: &mut [u64; TABLE_SIZE], monitor: &mut [u64; SIZE]) {
+    text(rt, b"Sixteen kits\n");
     let mut kits = [0u64; MOST_KIT_WORDS];
     let mut kit = 0;
     let mut promise = MICROSCOPE;
@@ -191,19 +209,19 @@ fn all_kits(table: &mut [u64; TABLE_SIZE], monitor: &mut [u64; SIZE]) {
         kit += 1;
         promise += HANDOUT + RETURN;
     }
-    open(&kits, MOST_KITS, table, monitor);
-    scan(table, monitor, 1, promise - 3);
-    scan(table, monitor, 2, promise - 2);
-    scan(table, monitor, 3, MICROSCOPE + HANDOUT);
+    open(rt, &kits, MOST_KITS, table, monitor);
+    scan(rt, table, monitor, 1, promise - 3);
+    scan(rt, table, monitor, 2, promise - 2);
+    scan(rt, table, monitor, 3, MICROSCOPE + HANDOUT);
 }
 
-fn main() {
+fn main(rt: HostRuntime) {
     let mut table = [0u64; TABLE_SIZE];
     let mut monitor = [0u64; SIZE];
-    promised_twice(&mut table, &mut monitor);
-    doubled(&mut table, &mut monitor);
-    refused(&mut table, &mut monitor);
-    windows(&mut table, &mut monitor);
-    wrong_kits(&mut table, &mut monitor);
-    all_kits(&mut table, &mut monitor);
+    promised_twice(&rt, &mut table, &mut monitor);
+    doubled(&rt, &mut table, &mut monitor);
+    refused(&rt, &mut table, &mut monitor);
+    windows(&rt, &mut table, &mut monitor);
+    wrong_kits(&rt, &mut table, &mut monitor);
+    all_kits(&rt, &mut table, &mut monitor);
 }

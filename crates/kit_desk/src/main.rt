@@ -1,4 +1,6 @@
 // The kit desk, live: lines of decimal words on standard input, and each is answered on standard output before the next is awaited.
+#![tactic(auto)]
+
 ghost use Rattle.std.specs.Prelude.{◌≤◌, length as list_length};
 ghost use Rattle.desk_lines.specs.Does.{Good};
 ghost use Rattle.kit_desk.specs.Keeps.{Keeps};
@@ -10,6 +12,7 @@ use desk_lines::{LONGEST_ANSWER, Stage};
 use line_words::LONGEST_LINE;
 use numbers::MAX;
 use oracle::SIZE;
+use std::io::Read;
 
 // A byte more than the longest line that is read, so that a longer one is seen to be longer.
 const ROOM: usize = LONGEST_LINE + 1;
@@ -17,7 +20,7 @@ const ROOM: usize = LONGEST_LINE + 1;
 const LINE_FEED: u8 = b'\n';
 
 // A line that was read: how many of its bytes were kept, and whether the input ended after it.
-#[derive(Drop)]
+#[derive(Clone, Copy)]
 struct Line {
     held: usize,
     ended: bool,
@@ -37,14 +40,14 @@ fn keep(line: &mut [u8], held: usize, byte: u8) -> usize
 
 // Reads a line to its end, byte by byte, so that nothing is awaited that the line does not need. A proved loop has to end: it counts its
 // turns down from a number that no run uses up.
-fn read_line(line: &mut [u8]) -> Line
+fn read_line(rt: &impl Eprint, from: &mut impl Read, line: &mut [u8]) -> Line
     ensures { result.held ≤ list_length line.old }
 {
     let mut one = [0u8; 1];
     let mut held = 0;
     let mut turns = MAX;
     while 0 < turns {
-        let came = console::read_some(&mut one);
+        let came = console::read_some(rt, from, &mut one);
         let Came::Bytes(n) = came else {
             return Line { held, ended: true };
         };
@@ -61,15 +64,16 @@ fn read_line(line: &mut [u8]) -> Line
 }
 
 // Prints an answer of so many bytes: there is always room for it.
-fn print_answer(out: &[u8], length: u64)
+fn print_answer(rt: &(impl Print + Eprint), out: &[u8], length: u64)
     requires { length ≤ list_length out.now }
 {
     let n = length as usize;
-    console::print(&out[..n]);
+    console::print(rt, &out[..n]);
 }
 
 // Answers a line, and prints the answer.
 fn answer_line(
+    rt: &(impl Print + Eprint),
     stage: Stage,
     line: &[u8],
     kits: &mut [u64; MOST_KIT_WORDS],
@@ -81,18 +85,19 @@ fn answer_line(
 {
     let mut out = [0u8; LONGEST_ANSWER];
     let answered = desk_lines::answer(stage, line, kits, table, monitor, &mut out);
-    print_answer(&out, answered.length);
+    print_answer(rt, &out, answered.length);
     answered.stage
 }
 
 // Prints what is said at the end of the input.
-fn say_last(stage: Stage) {
+fn say_last(rt: &(impl Print + Eprint), stage: Stage) {
     let mut said = [0u8; LONGEST_ANSWER];
     let length = desk_lines::last(stage, &mut said);
-    print_answer(&said, length);
+    print_answer(rt, &said, length);
 }
 
-fn main() {
+fn main(rt: HostRuntime) {
+    let mut from = rt.reader();
     let mut line = [0u8; ROOM];
     let mut kits = [0u64; MOST_KIT_WORDS];
     let mut table = [0u64; TABLE_SIZE];
@@ -100,11 +105,18 @@ fn main() {
     let mut stage = desk_lines::start(&kits, &mut table, &mut monitor);
     let mut turns = MAX;
     while 0 < turns {
-        let read = read_line(&mut line);
+        let read = read_line(&rt, &mut from, &mut line);
         let held = read.held;
-        stage = answer_line(stage, &line[..held], &mut kits, &mut table, &mut monitor);
+        stage = answer_line(
+            &rt,
+            stage,
+            &line[..held],
+            &mut kits,
+            &mut table,
+            &mut monitor,
+        );
         if read.ended {
-            say_last(stage);
+            say_last(&rt, stage);
             return;
         }
         turns -= 1;

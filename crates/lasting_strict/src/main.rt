@@ -1,7 +1,9 @@
 // Reads standard input and prints its report, the book loaded for the lasting way and strictly: of one that is accepted no line ever
 // says 11.
+#![tactic(auto)]
+
 use book::loading::Loading;
 
-fn main() {
-    reporter::run(Loading::LastingStrict);
+fn main(rt: HostRuntime) {
+    reporter::run(&rt, Loading::LastingStrict);
 }

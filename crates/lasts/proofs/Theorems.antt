@@ -24,7 +24,7 @@ use Rattle.pmtl.specs.Past.{run_by, run, held, SomeCall, SinceCall}
 use Rattle.pmtl.specs.Kept.{NoneBefore, Full}
 use Rattle.pmtl.specs.Strict.{Strict}
 use Rattle.pmtl.proofs.History.{Legal, now_run}
-use Rattle.pmtl.proofs.Values.{values_mean, sets_mean}
+use Rattle.pmtl.proofs.Values.{values_mean}
 use Rattle.pmtl.proofs.Ago.{once_held, historically_held, since_held}
 use Rattle.pmtl.proofs.Settled.{settles}
 use Rattle.pmtl.proofs.Calls.{after_refused}

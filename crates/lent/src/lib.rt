@@ -1,4 +1,6 @@
 // The set lent whole: an addition alters the lent set itself, and hands back its number with the count; dropping what is over alters it, too.
+#![tactic(auto)]
+
 ghost use Rattle.std.specs.Prelude.{◌≡◌, length};
 ghost use Rattle.numset.specs.Runs.{Good, runs, kept, pack, add_number, add_words, add_count};
 

@@ -1,4 +1,6 @@
 // Additions to a set that is lent, printed and compared with a stored output: P1 to P5, a full set, and what lapses.
+#![tactic(auto)]
+
 ghost use Rattle.std.specs.Prelude.{◌<◌, ◌≤◌};
 ghost use Rattle.numset.specs.Runs.{Good};
 
@@ -18,21 +20,21 @@ fn added(set: NumSet, lower: u64, upper: u64) -> Added
 }
 
 // Adds, and prints the number, the count and the set that came back.
-fn add(set: NumSet, lower: u64, upper: u64) -> NumSet
+fn add(rt: &(impl Print + Eprint), set: NumSet, lower: u64, upper: u64) -> NumSet
     requires { Good set.words }
     ensures { Good result.words }
 {
     let sum = added(set, lower, upper);
     let after = sum.set;
     let words = after.words;
-    text(b"  add ");
-    interval(lower, upper);
-    text(b": ");
-    number(sum.tally.number);
-    text(b", count ");
-    number(sum.tally.count);
-    text(b" ");
-    runs(&words);
+    text(rt, b"  add ");
+    interval(rt, lower, upper);
+    text(rt, b": ");
+    number(rt, sum.tally.number);
+    text(rt, b", count ");
+    number(rt, sum.tally.count);
+    text(rt, b" ");
+    runs(rt, &words);
     after
 }
 
@@ -45,16 +47,16 @@ fn dropped(set: NumSet, t: u64) -> NumSet
 }
 
 // Drops what ends before `t`, and prints the set that came back.
-fn drop_before(set: NumSet, t: u64) -> NumSet
+fn drop_before(rt: &(impl Print + Eprint), set: NumSet, t: u64) -> NumSet
     requires { Good set.words }
     ensures { Good result.words }
 {
     let after = dropped(set, t);
     let words = after.words;
-    text(b"  drop before ");
-    number(t);
-    text(b": ");
-    runs(&words);
+    text(rt, b"  drop before ");
+    number(rt, t);
+    text(rt, b": ");
+    runs(rt, &words);
     after
 }
 
@@ -65,23 +67,23 @@ fn start() -> NumSet
     NumSet::from_interval(0, 1)
 }
 
-fn first_examples() {
-    text(b"P1\n");
-    add(start(), 2, 3);
-    text(b"P2\n");
-    let apart = add(start(), 4, 5);
-    add(apart, 2, 3);
-    text(b"P3\n");
-    add(start(), 3, 2);
+fn first_examples(rt: &(impl Print + Eprint)) {
+    text(rt, b"P1\n");
+    add(rt, start(), 2, 3);
+    text(rt, b"P2\n");
+    let apart = add(rt, start(), 4, 5);
+    add(rt, apart, 2, 3);
+    text(rt, b"P3\n");
+    add(rt, start(), 3, 2);
 }
 
-fn last_examples() {
-    text(b"P4\n");
-    let two = add(start(), 10, 20);
-    add(two, 5, 9);
-    text(b"P5\n");
-    let three = add(two, 30, 40);
-    add(three, 15, 29);
+fn last_examples(rt: &(impl Print + Eprint)) {
+    text(rt, b"P4\n");
+    let two = add(rt, start(), 10, 20);
+    add(rt, two, 5, 9);
+    text(rt, b"P5\n");
+    let three = add(rt, two, 30, 40);
+    add(rt, three, 15, 29);
 }
 
 // Every other instant from 0 on.
@@ -99,24 +101,24 @@ fn full() -> NumSet
 }
 
 // A full set refuses one more run and stays as it is; what touches a run is joined to it.
-fn limit() {
-    text(b"full\n");
-    let set = add(full(), 128, 129);
-    add(set, 127, 129);
+fn limit(rt: &(impl Print + Eprint)) {
+    text(rt, b"full\n");
+    let set = add(rt, full(), 128, 129);
+    add(rt, set, 127, 129);
 }
 
 // What ends before an instant goes; what ends at it stays.
-fn lapses() {
-    text(b"lapses\n");
-    let two = add(start(), 10, 20);
-    drop_before(two, 1);
-    let one = drop_before(two, 20);
-    drop_before(one, 21);
+fn lapses(rt: &(impl Print + Eprint)) {
+    text(rt, b"lapses\n");
+    let two = add(rt, start(), 10, 20);
+    drop_before(rt, two, 1);
+    let one = drop_before(rt, two, 20);
+    drop_before(rt, one, 21);
 }
 
-fn main() {
-    first_examples();
-    last_examples();
-    limit();
-    lapses();
+fn main(rt: HostRuntime) {
+    first_examples(&rt);
+    last_examples(&rt);
+    limit(&rt);
+    lapses(&rt);
 }

@@ -1,4 +1,6 @@
 // A line of decimal words, as somebody types it or a barcode gun sends it.
+#![tactic(auto)]
+
 ghost use Rattle.std.specs.Prelude.{◌≡◌, length, get_or};
 ghost use Rattle.text.specs.Words.{supply};
 ghost use Rattle.line_words.specs.Line.{without_return, line_supply, no_word, judged_by, blank, word_at, number_for};
@@ -13,7 +15,7 @@ pub const LONGEST_LINE: usize = 255;
 const CARRIAGE_RETURN: u8 = 13;
 
 // How many words a line has, and the number that ends them.
-#[derive(Drop)]
+#[derive(Clone, Copy)]
 struct Ending {
     count: usize,
     number: u64,

@@ -1,4 +1,6 @@
 // Zeros, copies and parts of lent words. The laws of lists and tests that every crate shares stand in proofs/.
+#![tactic(auto)]
+
 ghost use Rattle.std.specs.Prelude.{◌≡◌, ◌+◌, ◌≤◌, length, replicate};
 ghost use Rattle.lists.specs.Lists.{part, put};
 

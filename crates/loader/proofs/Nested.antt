@@ -30,13 +30,13 @@ not_not : (b : Bool) → b ≡ not (not b)
 not_not true = refl
 not_not false = refl
 
-not_false : {v : Bool} (b : Bool) → v ≡ not b → v ≡ false → b ≡ true
-not_false true e h = refl
-not_false false e h = sym h ∙ e
+not-false : {v : Bool} (b : Bool) → v ≡ not b → v ≡ false → b ≡ true
+not-false true e h = refl
+not-false false e h = sym h ∙ e
 
-not_true : {v : Bool} (b : Bool) → v ≡ not b → v ≡ true → b ≡ false
-not_true true e h = sym h ∙ e
-not_true false e h = refl
+not-true : {v : Bool} (b : Bool) → v ≡ not b → v ≡ true → b ≡ false
+not-true true e h = sym h ∙ e
+not-true false e h = refl
 
 -- ---- a row, by its words
 plain_flat : (f : ℕ → Bool) (kind arg lower upper : ℕ) (os : List ℕ) → kind < 7 → false ≡ not (flat_rule (map_row f (row_from kind arg lower upper os)))
@@ -109,11 +109,11 @@ module _ (m : List ℕ) (r : ℕ) (inside : r < row_count m) {v : Bool} (ev : v 
   flat_more h f i l =
       ⊎_elim
       (f i)
-      (λ g. let e : i ≡ r = omega arith in rw e (as_row (not_false _ ev h)))
+      (λ g. let e : i ≡ r = omega arith in rw e (as_row (not-false _ ev h)))
       (lt_or_ge i r)
 
   pub flat_stop : v ≡ true → false ≡ flat (rows_of m)
-  flat_stop h = sym (nested_by (rows_of m) r (as_row (not_true _ ev h)))
+  flat_stop h = sym (nested_by (rows_of m) r (as_row (not-true _ ev h)))
 
 pub flat_done : (m : List ℕ) {r : ℕ} → row_count m ≤ r → FlatTo m r → true ≡ flat (rows_of m)
 flat_done m h f = sym (flat_by_rows (rows_of m) (λ i l. f i (omega (arith, rows_length m))))

@@ -1,4 +1,6 @@
 // Loading: a book's words judged, and an accepted book put into a monitor's lent memory.
+#![tactic(auto)]
+
 mod flat;
 
 ghost use Rattle.std.specs.Prelude.{◌≡◌, ◌+◌, ◌*◌, ◌/◌, ◌≤◌, ◌<◌, max, length, replicate};
@@ -26,7 +28,7 @@ use memory::{
 use numbers::{ACCEPTED, NESTED, ROW_WORDS};
 
 // What the head of a memory says of its rows: the largest atom plus 1, and how many are temporal.
-#[derive(Drop)]
+#[derive(Clone, Copy)]
 struct Totals {
     width: u64,
     temporals: u64,

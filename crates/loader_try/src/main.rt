@@ -1,4 +1,6 @@
 // Loads a book from each line of the input, and shows the number that it is answered with. A line that begins with # is shown as it is.
+#![tactic(auto)]
+
 ghost use Rattle.std.specs.Prelude.{◌≤◌, length};
 
 use console::Came;
@@ -54,29 +56,29 @@ fn number_of(line: &[u8]) -> u64 {
     oracle::load(&words[..count], &mut monitor)
 }
 
-fn show_line(line: &[u8]) {
+fn show_line(rt: &(impl Print + Eprint), line: &[u8]) {
     if line.len() > 0 && line[0] == b'#' {
-        show::text(line);
+        show::text(rt, line);
     } else {
-        number(number_of(line));
+        number(rt, number_of(line));
     }
-    show::text(b"\n");
+    show::text(rt, b"\n");
 }
 
-fn show_lines(input: &[u8]) {
+fn show_lines(rt: &(impl Print + Eprint), input: &[u8]) {
     let mut at = 0;
     while at < input.len() {
         let end = line_end(input, at);
-        show_line(&input[at..end]);
+        show_line(rt, &input[at..end]);
         at = end + 1;
     }
 }
 
-fn main() {
+fn main(rt: HostRuntime) {
     let mut input = [0u8; LONGEST_INPUT];
-    let came = console::read_all(&mut input);
+    let came = console::read_all(&rt, &mut input);
     let Came::Bytes(count) = came else {
         return;
     };
-    show_lines(&input[..count]);
+    show_lines(&rt, &input[..count]);
 }

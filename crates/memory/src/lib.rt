@@ -1,4 +1,6 @@
 // A monitor's memory: where things stand in it, and the words that are read off it.
+#![tactic(auto)]
+
 ghost use Rattle.std.specs.Prelude.{◌≡◌, ◌<◌, get_or};
 ghost use Rattle.numbers.specs.Limits.{MOST_ROWS, MOST_OPERANDS, MOST_PROPERTIES, MOST_TEMPORALS};
 ghost use Rattle.memory.specs.Layout.{ENTRY, SIZE};
@@ -233,7 +235,7 @@ pub fn slot_at(monitor: &[u64; SIZE], row: usize) -> usize
 }
 
 // What a row's answer is made from, besides its operands' answers and its set.
-#[derive(Drop)]
+#[derive(Clone, Copy)]
 pub struct RowWords {
     pub kind: u64,
     pub arg: usize,

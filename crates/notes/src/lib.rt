@@ -1,4 +1,6 @@
 // What is noted of a call: its number, and of an accepted one what it left of each property.
+#![tactic(auto)]
+
 ghost use Rattle.std.specs.Prelude.{◌≡◌, ◌+◌, ◌≤◌, ◌<◌, length, set};
 ghost use Rattle.numbers.specs.Limits.{MOST_PROPERTIES};
 ghost use Rattle.ledger.specs.Ledger.{LAST_COUNTED};

@@ -1,4 +1,5 @@
 // Limits and refusals, once for all crates. The definitions (specs/) have the same names.
+#![tactic(auto)]
 
 // The largest number of 64 bits: the last instant, and an upper bound that means none.
 pub const MAX: u64 = 0xffff_ffff_ffff_ffff;

@@ -1,7 +1,7 @@
 -- What the look of `contains` from the newest run backwards knows at each turn. Assumes nothing.
 use Prim.Native.Nat.{ℕ, ◌+◌, ◌-◌, ◌^◌, ◌≤◌, ◌<◌}
 use mathlib.Core.Path.{◌≡◌, refl, sym, ap, ◌∙◌}
-use mathlib.Core.Bool.{false, or_false}
+use mathlib.Core.Bool.{false, or-false}
 use mathlib.Core.List.{List}
 use native.Mathlib.Omega.{arith}
 use lib.ListN.{get_or}
@@ -40,4 +40,4 @@ module _ {m : List ℕ} {t i : ℕ} (w : Looking m t i) where
     looking_decides p =
         let n = newest _ m i h w.apart in
         sym (w.same
-        ∙ rw (runs_pos m i h, le-leb (lo m (i - 1)) t p, under_has (lo m (i - 1)) (runs_to m (i - 1)) t n.older (omega arith), or_false))
+        ∙ rw (runs_pos m i h, le-leb (lo m (i - 1)) t p, under_has (lo m (i - 1)) (runs_to m (i - 1)) t n.older (omega arith), or-false))

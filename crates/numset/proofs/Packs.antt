@@ -27,7 +27,8 @@ runs_words x (run l u ∷ rs) t =
     let a : lo m (length rs) ≡ l = at m (2 * length rs + 1) (suc (2 * length rs)) (omega arith) ∙ get_or_at (words rs) l (u ∷ t) 0 (2 * length rs) k in
     let b : hi m (length rs) ≡ u =
     at m (2 * length rs + 2) (suc (2 * length rs + 1)) (omega arith) ∙ rw (← k) (get_or-append-add (words rs) (l ∷ u ∷ t) 1 0) in
-    rw (e, a, b, runs_words x rs (l ∷ u ∷ t))
+    let c : run (lo m (length rs)) (hi m (length rs)) ∷ runs_to m (length rs) ≡ run l u ∷ rs = rw (a, b, runs_words x rs (l ∷ u ∷ t)) in
+    ap (λ (s : List ℕ). runs_to (x ∷ s) (suc (length rs))) e ∙ c
 
 pub length_pack : (n : ℕ) (rs : Runs) → 2 * length rs < n → length (pack n rs) ≡ n
 unfolding pack

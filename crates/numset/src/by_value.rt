@@ -8,13 +8,13 @@ use numbers::MOST_RUNS;
 // The words of a set with room for the most runs: how many there are, and two for each.
 pub const SET_WORDS: usize = 1 + 2 * MOST_RUNS;
 
-#[derive(Drop)]
+#[derive(Clone, Copy)]
 pub struct NumSet {
     pub words: [u64; SET_WORDS],
 }
 
 // What an addition to a set by value hands back: its number with the count, and the set.
-#[derive(Drop)]
+#[derive(Clone, Copy)]
 pub struct Added {
     pub tally: Tally,
     pub set: NumSet,

@@ -5,6 +5,8 @@
 // The slice's length decides how many runs there is room for.
 //
 // A monitor's sets stand in rings (the crate `ring`), which come here only for what belongs between their runs.
+#![tactic(auto)]
+
 ghost use Rattle.std.specs.Prelude.{◌≡◌, true, false, [], ◌↔◌, ◌+◌, ◌*◌, ◌-◌, ◌<◌, ◌≤◌, min, max, length, get_or, replicate};
 ghost use Rattle.numset.specs.Runs.{Good, Covers, empty_number, runs, has, lo, hi, kept, union, fits, pack, kept_words, add_number, add_words, add_count, set_to_number, set_to_words};
 ghost use Rattle.numset.specs.Private.{Shifted, Cleared, Replaced, Ended, Spanned, oldest_lapsed, Lapsed, Dropped, takes_in, with_run};
@@ -125,7 +127,7 @@ fn greater(a: u64, b: u64) -> u64
 }
 
 // The runs `start .. end` that an interval joins, and the run that they become with it.
-#[derive(Drop)]
+#[derive(Clone, Copy)]
 struct Span {
     start: usize,
     end: usize,
@@ -307,7 +309,7 @@ fn join_in(set: &mut [u64], lower: u64, upper: u64) -> u64
 }
 
 // What an addition hands back: its number, and how many runs the set then holds.
-#[derive(Drop)]
+#[derive(Clone, Copy)]
 pub struct Tally {
     pub number: u64,
     pub count: u64,

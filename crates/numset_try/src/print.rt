@@ -4,47 +4,47 @@ ghost use Rattle.numset.specs.Runs.{Good};
 use numset::{NumSet, Tally};
 use show::{instant, interval, runs, text};
 
-fn answer(yes: bool) {
+fn answer(rt: &(impl Print + Eprint), yes: bool) {
     if yes {
-        text(b": yes\n");
+        text(rt, b": yes\n");
         return;
     }
-    text(b": no\n");
+    text(rt, b": no\n");
 }
 
-fn result(number: u64, set: &[u64])
+fn result(rt: &(impl Print + Eprint), number: u64, set: &[u64])
     requires { Good set.now }
 {
-    text(b": ");
-    instant(number);
-    text(b" ");
-    runs(set);
+    text(rt, b": ");
+    instant(rt, number);
+    text(rt, b" ");
+    runs(rt, set);
 }
 
 // What an addition hands back.
-fn handed(number: u64, count: u64) {
-    text(b": ");
-    instant(number);
-    text(b", count ");
-    instant(count);
+fn handed(rt: &(impl Print + Eprint), number: u64, count: u64) {
+    text(rt, b": ");
+    instant(rt, number);
+    text(rt, b", count ");
+    instant(rt, count);
 }
 
-fn counted(number: u64, count: u64, set: &[u64])
+fn counted(rt: &(impl Print + Eprint), number: u64, count: u64, set: &[u64])
     requires { Good set.now }
 {
-    handed(number, count);
-    text(b" ");
-    runs(set);
+    handed(rt, number, count);
+    text(rt, b" ");
+    runs(rt, set);
 }
 
-pub fn set_to(set: &mut [u64], lower: u64, upper: u64)
+pub fn set_to(rt: &(impl Print + Eprint), set: &mut [u64], lower: u64, upper: u64)
     requires { Good set.old }
     ensures { Good set.new }
 {
-    text(b"  set to ");
-    interval(lower, upper);
+    text(rt, b"  set to ");
+    interval(rt, lower, upper);
     let number = numset::set_to(set, lower, upper);
-    result(number, set);
+    result(rt, number, set);
 }
 
 // The set's own `add`, of which only this is needed here: it gives a set again.
@@ -55,36 +55,36 @@ pub fn added(set: &mut [u64], lower: u64, upper: u64) -> Tally
     numset::add(set, lower, upper)
 }
 
-pub fn add(set: &mut [u64], lower: u64, upper: u64)
+pub fn add(rt: &(impl Print + Eprint), set: &mut [u64], lower: u64, upper: u64)
     requires { Good set.old }
     ensures { Good set.new }
 {
-    text(b"  add ");
-    interval(lower, upper);
+    text(rt, b"  add ");
+    interval(rt, lower, upper);
     let sum = added(set, lower, upper);
-    counted(sum.number, sum.count, set);
+    counted(rt, sum.number, sum.count, set);
 }
 
 // Adds, where the set is too long to print whole.
-pub fn add_to_many(set: &mut [u64], lower: u64, upper: u64)
+pub fn add_to_many(rt: &(impl Print + Eprint), set: &mut [u64], lower: u64, upper: u64)
     requires { Good set.old }
     ensures { Good set.new }
 {
-    text(b"  add ");
-    interval(lower, upper);
+    text(rt, b"  add ");
+    interval(rt, lower, upper);
     let sum = added(set, lower, upper);
-    handed(sum.number, sum.count);
-    text(b", ");
-    many(set);
+    handed(rt, sum.number, sum.count);
+    text(rt, b", ");
+    many(rt, set);
 }
 
-pub fn clear(set: &mut [u64])
+pub fn clear(rt: &(impl Print + Eprint), set: &mut [u64])
     requires { Good set.old }
     ensures { Good set.new }
 {
     numset::clear(set);
-    text(b"  clear: ");
-    runs(set);
+    text(rt, b"  clear: ");
+    runs(rt, set);
 }
 
 // The set's own `drop_before`, of which only this is needed here: it gives a set again.
@@ -95,104 +95,104 @@ fn dropped(set: &mut [u64], t: u64)
     numset::drop_before(set, t);
 }
 
-pub fn drop_before(set: &mut [u64], t: u64)
+pub fn drop_before(rt: &(impl Print + Eprint), set: &mut [u64], t: u64)
     requires { Good set.old }
     ensures { Good set.new }
 {
-    text(b"  drop before ");
-    instant(t);
+    text(rt, b"  drop before ");
+    instant(rt, t);
     dropped(set, t);
-    text(b": ");
-    runs(set);
+    text(rt, b": ");
+    runs(rt, set);
 }
 
 // Drops, where the set is too long to print whole.
-pub fn drop_of_many(set: &mut [u64], t: u64)
+pub fn drop_of_many(rt: &(impl Print + Eprint), set: &mut [u64], t: u64)
     requires { Good set.old }
     ensures { Good set.new }
 {
-    text(b"  drop before ");
-    instant(t);
+    text(rt, b"  drop before ");
+    instant(rt, t);
     dropped(set, t);
-    text(b": ");
-    many(set);
+    text(rt, b": ");
+    many(rt, set);
 }
 
-pub fn ask(set: &[u64], t: u64)
+pub fn ask(rt: &(impl Print + Eprint), set: &[u64], t: u64)
     requires { Good set.now }
 {
-    text(b"  contains ");
-    instant(t);
-    answer(numset::contains(set, t));
+    text(rt, b"  contains ");
+    instant(rt, t);
+    answer(rt, numset::contains(set, t));
 }
 
-pub fn ask_cover(set: &[u64], from: u64)
+pub fn ask_cover(rt: &(impl Print + Eprint), set: &[u64], from: u64)
     requires { Good set.now }
 {
-    text(b"  covers ");
-    instant(from);
-    answer(numset::covers(set, from));
+    text(rt, b"  covers ");
+    instant(rt, from);
+    answer(rt, numset::covers(set, from));
 }
 
-pub fn ask_room(set: &[u64], lower: u64, upper: u64)
+pub fn ask_room(rt: &(impl Print + Eprint), set: &[u64], lower: u64, upper: u64)
     requires { Good set.now }
 {
-    text(b"  has room for ");
-    interval(lower, upper);
-    answer(numset::has_room(set, lower, upper));
+    text(rt, b"  has room for ");
+    interval(rt, lower, upper);
+    answer(rt, numset::has_room(set, lower, upper));
 }
 
 // The number of runs, with the first and the last.
-pub fn many(set: &[u64])
+pub fn many(rt: &(impl Print + Eprint), set: &[u64])
     requires { Good set.now }
 {
     let n = set[0] as usize;
-    instant(n as u64);
+    instant(rt, n as u64);
     if n == 0 {
-        text(b" runs\n");
+        text(rt, b" runs\n");
         return;
     }
-    text(b" runs from ");
-    interval(set[1], set[2]);
-    text(b" to ");
-    interval(set[2 * n - 1], set[2 * n]);
-    text(b"\n");
+    text(rt, b" runs from ");
+    interval(rt, set[1], set[2]);
+    text(rt, b" to ");
+    interval(rt, set[2 * n - 1], set[2 * n]);
+    text(rt, b"\n");
 }
 
 // An addition to a set by value, which is printed before and after.
-pub fn add_value(set: NumSet, lower: u64, upper: u64)
+pub fn add_value(rt: &(impl Print + Eprint), set: NumSet, lower: u64, upper: u64)
     requires { Good set.words }
 {
     let before = set.words;
-    text(b"  ");
-    runs(&before);
+    text(rt, b"  ");
+    runs(rt, &before);
     let sum = set.add(lower, upper);
     let after = sum.set;
     let words = after.words;
-    text(b"  add ");
-    interval(lower, upper);
-    counted(sum.tally.number, sum.tally.count, &words);
+    text(rt, b"  add ");
+    interval(rt, lower, upper);
+    counted(rt, sum.tally.number, sum.tally.count, &words);
 }
 
 // What is left of a set by value.
-pub fn drop_value(set: NumSet, t: u64)
+pub fn drop_value(rt: &(impl Print + Eprint), set: NumSet, t: u64)
     requires { Good set.words }
 {
     let left = set.drop_before(t);
     let words = left.words;
-    text(b"  drop before ");
-    instant(t);
-    text(b": ");
-    runs(&words);
+    text(rt, b"  drop before ");
+    instant(rt, t);
+    text(rt, b": ");
+    runs(rt, &words);
 }
 
-pub fn ask_value(set: NumSet, t: u64)
+pub fn ask_value(rt: &(impl Print + Eprint), set: NumSet, t: u64)
     requires { Good set.words }
 {
-    text(b"  contains ");
-    instant(t);
-    answer(set.contains(t));
-    text(b"  covers ");
-    instant(t);
-    answer(set.covers(t));
+    text(rt, b"  contains ");
+    instant(rt, t);
+    answer(rt, set.contains(t));
+    text(rt, b"  covers ");
+    instant(rt, t);
+    answer(rt, set.covers(t));
 }

@@ -1,5 +1,7 @@
 // The library's face, `PmtlOracle` of the original in lent words: a book is loaded into a memory, calls are made on it, and it answers
 // of its properties and tells what was counted of them. A program uses this crate and none of those below it.
+#![tactic(auto)]
+
 ghost use Rattle.std.specs.Prelude.{◌≡◌};
 ghost use Rattle.memory.specs.Kept.{Kept};
 ghost use Rattle.property_answers.specs.Verdict.{properties_in};

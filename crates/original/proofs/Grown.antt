@@ -84,15 +84,15 @@ from_grown b w r = answer_only b ValPmtl.False (λ r row. tree_rule (fresh b).at
 
 -- ---- its value
 -- what is run and does not panic
-and_done : (x y : Bool) → (done x and-run done y) ≡ done (x && y)
+and_done : (x y : Bool) → (done x and_run done y) ≡ done (x && y)
 and_done true y = refl
 and_done false y = refl
 
-or_done : (x y : Bool) → (done x or-run done y) ≡ done (x || y)
+or_done : (x y : Bool) → (done x or_run done y) ≡ done (x || y)
 or_done true y = refl
 or_done false y = refl
 
-implies_done : (x y : Bool) → (done y or-run not_run (done x)) ≡ done (not x || y)
+implies_done : (x y : Bool) → (done y or_run not_run (done x)) ≡ done (not x || y)
 implies_done x y = or_done y (not x) ∙ ap done (or_comm y (not x))
 
 module _ (r : ℕ) (tree : ℕ → ValPmtl) (m : ℕ → Fact) (h : History) (c : ℕ) (below : (o : ℕ) → o < r → output (tree o) c ≡ done (m o h)) where
@@ -115,7 +115,7 @@ module _ (r : ℕ) (tree : ℕ → ValPmtl) (m : ℕ → Fact) (h : History) (c 
   output_row b (conj os) w set e = all_same os w
   output_row b (disj os) w set e = any_same os w
   output_row b (neg o) w set e = ap not_run (below o w)
-  output_row b (implies p q) w set e = ap₂ (λ y z. z or-run not_run y) (below p w.0) (below q w.1) ∙ implies_done (m p h) (m q h)
+  output_row b (implies p q) w set e = ap₂ (λ y z. z or_run not_run y) (below p w.0) (below q w.1) ∙ implies_done (m p h) (m q h)
   output_row b (historically g o) w set e = ap not_run e
   output_row b (once g o) w set e = e
   output_row b (since g p q) w set e = e

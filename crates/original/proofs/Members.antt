@@ -4,7 +4,7 @@ use native.Mathlib.Omega.{arith}
 use native.Mathlib.Nat.{not-suc-le-zero, le_of_suc-le-suc}
 use mathlib.Core.Path.{◌≡◌, refl, sym, ap, ◌∙◌}
 use mathlib.Core.Logic.{⊎_elim}
-use mathlib.Core.Bool.{Bool, true, false, cond, ◌&&◌, ◌||◌, or_false}
+use mathlib.Core.Bool.{Bool, true, false, cond, ◌&&◌, ◌||◌, or-false}
 use mathlib.Core.List.{List, [], ◌∷◌, ◌++◌, append-nil}
 use lib.ListN.{length}
 use lib.Dec.{leb, ltb, eqb}
@@ -80,7 +80,7 @@ module _ (a b t : ℕ) (rs : Runs) (ys : NumSet) (o : a ≤ b) (w : Under a rs) 
 
   has_over : a ≤ t → has (run a b ∷ rs) t ≡ leb t b
   unfolding has
-  has_over p = rw (le-leb a t p, under_has a rs t w (omega arith)) (or_false (leb t b))
+  has_over p = rw (le-leb a t p, under_has a rs t w (omega arith)) (or-false (leb t b))
 
 -- with pairs behind them that all begin after t
 contains_on : (t : ℕ) (s : Runs) (ys : NumSet) → Canonical s → binary_search_by_key ys t lower_of ≡ Err 0 → contains (turned s ++ ys) t ≡ done (has s t)
@@ -128,7 +128,7 @@ unfolding Canonical contains_unbounded_interval covers turned
 unbounded_covers from l u rs w h =
     ap (λ x. is_some_and x (λ p. leb (lower_of p) from && eqb (upper_of p) MAX)) (last_on (turned rs) (run l u))
     ∙ ap (λ x. leb l from && x) (same_end u h)
-    ∙ sym (ap (λ x. leb l from && leb MAX u || x) (short from l rs w.1 (omega arith)) ∙ or_false (leb l from && leb MAX u))
+    ∙ sym (ap (λ x. leb l from && leb MAX u || x) (short from l rs w.1 (omega arith)) ∙ or-false (leb l from && leb MAX u))
 
 -- two canonical sets with the same instants from c on cover alike
 pub covers_alike : (c : ℕ) (s s' : Runs) → Canonical s → Canonical s' → c ≤ MAX → ((t : ℕ) → c ≤ t → has s t ≡ has s' t) → covers c s ≡ covers c s'

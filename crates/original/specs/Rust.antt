@@ -21,16 +21,16 @@ not_run (done x) = done (not x)
 -- `x && y`: y is run only where x is true
 infixl 30 ◌and_run◌
 abbrev pub ◌and_run◌ : Ran Bool → Ran Bool → Ran Bool
-panic and-run y = panic
-done true and-run y = y
-done false and-run y = done false
+panic and_run y = panic
+done true and_run y = y
+done false and_run y = done false
 
 -- `x || y`: y is run only where x is false
 infixl 25 ◌or_run◌
 abbrev pub ◌or_run◌ : Ran Bool → Ran Bool → Ran Bool
-panic or-run y = panic
-done true or-run y = done true
-done false or-run y = y
+panic or_run y = panic
+done true or_run y = done true
+done false or_run y = y
 
 -- `iter().map(f)` taken to its end, and `iter_mut().for_each(f)`: f on each in turn
 unfoldable pub each : {A B : Type 0} → (A → Ran B) → List A → Ran (List B)

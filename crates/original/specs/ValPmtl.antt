@@ -64,18 +64,18 @@ unfoldable mutual
   output (ValPmtl.And subs) time = all_output subs time
   output (ValPmtl.Or subs) time = any_output subs time
   output (ValPmtl.Not sub) time = not_run (output sub time)
-  output (ValPmtl.Implies lhs rhs) time = output rhs time or-run not_run (output lhs time)
+  output (ValPmtl.Implies lhs rhs) time = output rhs time or_run not_run (output lhs time)
   output (ValPmtl.Historically sub range valuation) time = not_run (contains valuation time)
   output (ValPmtl.Once sub range valuation) time = contains valuation time
   output (ValPmtl.Since lhs rhs range valuation) time = contains valuation time
 
   pub all_output : ValPmtls → ℕ → Ran Bool
   all_output ValPmtls.nil time = done true
-  all_output (ValPmtls.cons f fs) time = output f time and-run all_output fs time
+  all_output (ValPmtls.cons f fs) time = output f time and_run all_output fs time
 
   pub any_output : ValPmtls → ℕ → Ran Bool
   any_output ValPmtls.nil time = done false
-  any_output (ValPmtls.cons f fs) time = output f time or-run any_output fs time
+  any_output (ValPmtls.cons f fs) time = output f time or_run any_output fs time
 
 -- `if out { *valuation += range.shift(time); }`
 unfoldable pub add_if : Bool → NumSet → Range → ℕ → Ran NumSet

@@ -3,7 +3,7 @@ use Rattle.std.specs.Prelude.{ℕ, ◌+◌, ◌≤◌, ◌<◌, min, ◌≡◌, 
 use Rattle.std.specs.Bool.{beq}
 use Rattle.numbers.specs.Limits.{MAX, LAST_TIME, MOST_ROWS}
 use Rattle.lists.specs.Lists.{listed, filled_from}
-use Rattle.numset.specs.Runs.{Runs, runs, has, fits, SET_WORDS}
+use Rattle.numset.specs.Runs.{Runs, has, fits, SET_WORDS}
 use Rattle.ring.specs.Ring.{ringed}
 use Rattle.pmtl.specs.Answer.{bit_of}
 use Rattle.pmtl.specs.Book.{start, stop, map_row}

@@ -1,5 +1,7 @@
 // The plan of a step of a call: the rows from 0 upward get their new values in place, and how each set is to change is noted beside the
 // monitor. No set changes yet.
+#![tactic(auto)]
+
 ghost use Rattle.std.specs.Prelude.{◌≡◌, true, false, cond, not, map, ◌+◌, ◌≤◌, ◌<◌, length, get_or, set, eqb};
 ghost use Rattle.pmtl.specs.Answer.{bit_of};
 ghost use Rattle.pmtl.specs.Book.{start, stop, map_row};
@@ -19,7 +21,7 @@ use numbers::{MAX, MOST_ROWS};
 use tables::joined_at;
 
 // What is planned for a temporal row: the change of its set, whether the set will contain the clock, and whether there is room.
-#[derive(Drop)]
+#[derive(Clone, Copy)]
 pub struct RowPlan {
     pub mode: u8,
     pub here: bool,
@@ -164,7 +166,7 @@ fn put_value(monitor: &mut [u64; SIZE], row: usize, value: bool) -> bool
 }
 
 // What came of trying a row: whether its set has room, and whether its value is another than before.
-#[derive(Drop)]
+#[derive(Clone, Copy)]
 pub struct Trial {
     pub room: bool,
     pub turned: bool,

@@ -7,7 +7,7 @@ use mathlib.Core.Logic.{◌↔◌}
 use mathlib.Core.Bool.{Bool, true, not, ◌&&◌, false≢true}
 use mathlib.Core.List.{[], ◌∷◌}
 use lib.ListN.{drop}
-use borrow.Author.Tests.{not_true}
+use borrow.Author.Tests.{not-true}
 use Rattle.lists.proofs.Tests.{clash, and_left, and_right, and_intro, or_left, or_right, or_elim, not_yes, fails_by}
 use Rattle.pmtl.specs.Book.{Range, in_range, Row, map_row, Rows, row_at, Ordered}
 use Rattle.pmtl.specs.Book.Row.{historically, once, since}
@@ -47,7 +47,7 @@ some_iff b g q h t =
     (λ x. let a = some_ago b g (λ k. true) q h t x in (a.0, a.1), λ a. ago_some b g (λ k. true) q h t a.0 a.1 (λ j l. refl))
 
 not_iff : {a : Bool} {P : Type 0} → ((a ≡ true) ↔ P) → (not a ≡ true) ↔ ¬ P
-not_iff e = (λ h p. clash (e.1 p) (not_true _ h), λ n. not_yes _ (fails_by _ (λ h. n (e.0 h))))
+not_iff e = (λ h p. clash (e.1 p) (not-true _ h), λ n. not_yes _ (fails_by _ (λ h. n (e.0 h))))
 
 -- t is the clock now
 module _ (b : Rows) (w : Ordered b) (r : ℕ) (h : History) (l : Legal b h) (t : ℕ) (now : t ≡ (now_of b h).clock) where

@@ -7,7 +7,7 @@ use mathlib.Core.Bool.{Bool, true, false, cond, not, ◌&&◌, ◌||◌, false�
 use mathlib.Core.List.{List, [], ◌∷◌, ◌++◌, map}
 use lib.ListN.{length}
 use lib.Dec.{eqb}
-use borrow.Author.Tests.{eqb-true, eqb-false, not_true}
+use borrow.Author.Tests.{eqb-true, eqb-false, not-true}
 use Rattle.numbers.specs.Limits.{MAX}
 use Rattle.numset.specs.Runs.{Runs, has, covers, Canonical}
 use Rattle.lists.proofs.Tests.{clash, and_left, and_right, and_intro, and_no_left, and_no_right, or_left, or_right, or_no, or_elim, not_yes, not_no, and_mono, or_mono, or_not_and, and_not_or}
@@ -157,7 +157,7 @@ module _ (now : Snap) (small : now.clock ≤ MAX) (r : ℕ) (a : ℕ → Answer)
     or_elim _ _ (λ h. covers_has _ s small (and_right (is_true (a x)) _ h))
         (λ h. added (v x) (v y) g _ old ok small s e ((below y w.1).0 (and_left _ _ h)) (and_right (is_true (a y)) _ h)),
     or_elim _ _ (λ h. gone_now _ s (made (map_row v (since g x y)) s e) (and_right (is_false (a y)) _ h))
-        (λ h. dropped (v x) (v y) g _ old ok small s e ((below x w.0).1 (and_left _ _ h)) (not_true _ (and_right (is_false (a x)) _ h))),
+        (λ h. dropped (v x) (v y) g _ old ok small s e ((below x w.0).1 (and_left _ _ h)) (not-true _ (and_right (is_false (a x)) _ h))),
   )
 
 -- one row from one state to the next: its tests stay. d, old and a are of the state before; now, b and v of the state after
@@ -324,7 +324,7 @@ tests_apart cv gn n (once g x) h k = or_elim cv _ (λ c. n c (and_right (is_fals
 tests_apart cv gn n (since g l r) h k = or_elim (is_true l && cv) _
     (λ t. or_elim (is_false r && gn) _ (λ f. n (and_right (is_true l) _ t) (and_right (is_false r) _ f)) (λ f. one_answer l (and_left _ _ t) (and_left _ _ f)) k)
     (λ t. or_elim (is_false r && gn) _ (λ f. one_answer r (and_left _ _ t) (and_left _ _ f))
-    (λ f. clash (and_right (is_true r) _ t) (not_true _ (and_right (is_false l) _ f))) k) h
+    (λ f. clash (and_right (is_true r) _ t) (not-true _ (and_right (is_false l) _ f))) k) h
 
 -- a set that covers from a clock is not gone there
 pub covers_not_gone : (c : ℕ) (s : Runs) → Canonical s → c ≤ MAX → covers c s ≡ true → gone c s ≡ true → ⊥

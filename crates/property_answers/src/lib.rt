@@ -1,4 +1,6 @@
 // What a loaded monitor answers of its properties: looks into the tables of its memory.
+#![tactic(auto)]
+
 ghost use Rattle.std.specs.Prelude.{◌≡◌, ◌<◌, length, get_or};
 ghost use Rattle.lists.specs.Lists.{listed};
 ghost use Rattle.memory.specs.Tables.{property_count};
@@ -12,7 +14,7 @@ use numbers::{ACCEPTED, LIST_TOO_SHORT, MOST_PROPERTIES};
 use pmtl::Answer;
 
 // The answers of a property.
-#[derive(Drop)]
+#[derive(Clone, Copy)]
 pub struct Verdict {
     pub value: bool,
     pub early: Answer,
@@ -20,7 +22,7 @@ pub struct Verdict {
 }
 
 // The answers of all properties, assumes first, and how many properties there are.
-#[derive(Drop)]
+#[derive(Clone, Copy)]
 pub struct Verdicts {
     pub count: usize,
     pub list: [Verdict; MOST_PROPERTIES],
@@ -92,7 +94,7 @@ pub fn all(monitor: &[u64; SIZE]) -> Verdicts
 }
 
 // What is to be stored into a lent list: how many records, and the number to hand back.
-#[derive(Drop)]
+#[derive(Clone, Copy)]
 struct Filling {
     number: u64,
     count: usize,

@@ -1,4 +1,6 @@
 // What was counted of each property of a loaded monitor: looks into the ledger of its memory.
+#![tactic(auto)]
+
 ghost use Rattle.std.specs.Prelude.{◌≡◌, ◌<◌, length, get_or};
 ghost use Rattle.lists.specs.Lists.{listed};
 ghost use Rattle.memory.specs.Tables.{property_count};
@@ -54,7 +56,7 @@ pub fn summary_of(monitor: &[u64; SIZE], i: usize) -> Summary
 }
 
 // The summaries of all properties, assumes first, and how many properties there are.
-#[derive(Drop)]
+#[derive(Clone, Copy)]
 struct Listing {
     count: usize,
     list: [Summary; MOST_PROPERTIES],
@@ -77,7 +79,7 @@ fn all(monitor: &[u64; SIZE]) -> Listing
 }
 
 // What is to be stored into a lent list: how many records, and the number to hand back.
-#[derive(Drop)]
+#[derive(Clone, Copy)]
 struct Filling {
     number: u64,
     count: usize,

@@ -14,8 +14,6 @@ use Rattle.book.specs.Judging.{loaded}
 use Rattle.buffer_writer.specs.Buffer.{Handed, in_buffer}
 use Rattle.buffer_writer.specs.Finish.{finish, Wrote}
 use Rattle.buffer_writer.proofs.Writes.{and_then, at_end, whole}
-use Rattle.trees.specs.Forest.{Forest}
-use Rattle.trees.specs.Building.{words_of}
 use Rattle.rule_scanner.specs.Reading.{Outcome, read, wrong, read_text}
 use Rattle.rule_reader.specs.Rules.{read_book, result_of}
 use Rattle.rule_reader.specs.Words.{ReadAs}

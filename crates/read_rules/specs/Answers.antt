@@ -6,7 +6,7 @@ use Rattle.text.specs.Words.{space}
 use Rattle.text.specs.Decimals.{decimal}
 use Rattle.trees.specs.Building.{words_of}
 use Rattle.rule_scanner.specs.Reading.{Outcome, read, wrong, read_text}
-use Rattle.rule_reader.specs.Rules.{Result, read_book}
+use Rattle.rule_reader.specs.Rules.{read_book}
 use Rattle.book_writer.specs.Layout.{book_word, ended, book_said}
 
 -- the line of a number; 13 has its place

@@ -7,22 +7,20 @@ use native.Mathlib.Numerals.{add-one}
 use lib.ListN.{length}
 use borrow.Author.Tests.{eq-eqb, ne_eqb}
 use Rattle.lists.specs.Lists.{listed}
-use Rattle.lists.proofs.Listed.{listed_length, listed_at, listed_agree}
-use Rattle.text.specs.Words.{space, line_feed, next_word, supply_from}
+use Rattle.lists.proofs.Listed.{listed_length, listed_at}
+use Rattle.text.specs.Words.{line_feed, next_word, supply_from}
 use Rattle.text.specs.Decimals.{decimal}
 use Rattle.text.specs.declared.words.Read.TheVariants.{Word, Refused}
 use Rattle.text.proofs.Supplies.{word, refused as ended}
-use Rattle.numbers.specs.Limits.{MOST_PROPERTIES}
 use Rattle.numbers.specs.Refusals.{BAD_WORD, WRONG_LENGTH}
-use Rattle.ledger.specs.declared.Summary.{Summary}
-use Rattle.ledger.specs.Ledger.{Ledger, Entry, no_entry, summary_from, summary_at}
+use Rattle.ledger.specs.Ledger.{Ledger, no_entry, summary_from, summary_at}
 use Rattle.memory.specs.Layout.{FAILED, FIRST, LAST, LONGEST, SETTLED_CALL}
 use Rattle.memory.specs.Memory.{taken_word, entry_word, entry_of, ledger_of}
 use Rattle.memory.specs.Tables.{property_count}
 use Rattle.buffer_writer.specs.Buffer.{Handed}
 use Rattle.buffer_writer.specs.Finish.{finish, Wrote}
 use Rattle.buffer_writer.proofs.Writes.{and_then, at_end}
-use Rattle.report.specs.Lines.{Line, summed, last, end, stop, Ending, ending_of, summaries_of, end_lines}
+use Rattle.report.specs.Lines.{Line, summed, last, end, ending_of, summaries_of, end_lines}
 use Rattle.report.specs.Report.{summary_line, stop_line, end_line, last_line, line, written}
 use Rattle.report.specs.Private.{number_after, fail_words, span_words, summary_words, all_summary_words}
 

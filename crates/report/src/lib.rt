@@ -1,4 +1,6 @@
 // Text in, report out.
+#![tactic(auto)]
+
 mod lines;
 mod sums;
 mod text_calls;
@@ -109,33 +111,29 @@ pub fn report_by(way: Loading, input: &[u8], out: &mut [u8]) -> u64
     loaded_book(way, input, next, &words[..end], out)
 }
 
-// For C: a book is loaded as any that is in order.
-#[unsafe(no_mangle)]
-pub extern "C" fn binefdar_report(input: &[u8], out: &mut [u8]) -> u64
+// The report, its book loaded as any that is in order. The crate report_c hands these four to C, under the same names.
+pub fn binefdar_report(input: &[u8], out: &mut [u8]) -> u64
     ensures { handed result out.new ≡ in_buffer out.old (report Loading.Ordinary input.now) }
 {
     report_by(Loading::Ordinary, input, out)
 }
 
-// For C: a book is loaded strictly.
-#[unsafe(no_mangle)]
-pub extern "C" fn binefdar_report_strict(input: &[u8], out: &mut [u8]) -> u64
+// The book loaded strictly.
+pub fn binefdar_report_strict(input: &[u8], out: &mut [u8]) -> u64
     ensures { handed result out.new ≡ in_buffer out.old (report Loading.Strict input.now) }
 {
     report_by(Loading::Strict, input, out)
 }
 
-// For C: a book is loaded for the lasting way, in which a state lasts until the next call.
-#[unsafe(no_mangle)]
-pub extern "C" fn binefdar_report_lasting(input: &[u8], out: &mut [u8]) -> u64
+// The book loaded for the lasting way, in which a state lasts until the next call.
+pub fn binefdar_report_lasting(input: &[u8], out: &mut [u8]) -> u64
     ensures { handed result out.new ≡ in_buffer out.old (report Loading.Lasting input.now) }
 {
     report_by(Loading::Lasting, input, out)
 }
 
-// For C: for that way, and strictly.
-#[unsafe(no_mangle)]
-pub extern "C" fn binefdar_report_lasting_strict(input: &[u8], out: &mut [u8]) -> u64
+// For that way, and strictly.
+pub fn binefdar_report_lasting_strict(input: &[u8], out: &mut [u8]) -> u64
     ensures { handed result out.new ≡ in_buffer out.old (report Loading.LastingStrict input.now) }
 {
     report_by(Loading::LastingStrict, input, out)

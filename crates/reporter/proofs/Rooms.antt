@@ -1,7 +1,7 @@
 -- Which rooms hold a report. Assumes nothing.
 use Prim.Native.Nat.{ℕ, ◌≤◌, ◌<◌}
 use native.Mathlib.Omega.{arith}
-use mathlib.Core.Path.{◌≡◌, refl, sym, ap, subst, ◌∙◌}
+use mathlib.Core.Path.{◌≡◌, refl, sym, ap, ◌∙◌}
 use mathlib.Core.Bool.{Bool, true, false, cond}
 use mathlib.Core.List.{List}
 use lib.Dec.{leb}
@@ -35,10 +35,7 @@ module _ (way : Loading) (input out exit : List ℕ) (n : ℕ) (e : handed n exi
       go true f = sym f
       go false f = absurd (omega (arith, number false f))
 
--- a room made of zeros is as long as it says, and no length is taken for a full one
-pub room_small : (n : ℕ) → n ≤ LONGEST_REPORT → length (replicate {A = ℕ} n 0) < MAX
-room_small n h = subst (λ k. k < MAX) (sym (length-replicate {0} {A = ℕ} n 0)) (omega arith)
-
+-- a room made of zeros is as long as it says
 pub in_room : (way : Loading) (n : ℕ) (input : List ℕ) (r : Bool) → r ≡ holds way (length (replicate {A = ℕ} n 0)) input → r ≡ holds way n input
 in_room way n input r e = e ∙ ap (λ k. holds way k input) (length-replicate {0} {A = ℕ} n 0)
 

@@ -1,6 +1,7 @@
 // Reads standard input and prints its report, for the programs that load a book in one way or the other.
-ghost use Rattle.std.specs.Prelude.{◌≡◌, true, ◌<◌, length};
-ghost use Rattle.numbers.specs.Limits.{MAX};
+#![tactic(auto)]
+
+ghost use Rattle.std.specs.Prelude.{◌≡◌, true, length};
 ghost use Rattle.reporter.specs.Rooms.{SHORT_REPORT, holds, one_holds};
 
 use book::loading::Loading;
@@ -33,57 +34,56 @@ fn largest_room(way: Loading, input: &[u8]) -> u64
 }
 
 // Prints the report if it fits into `out`, and answers whether it did.
-fn shown(way: Loading, input: &[u8], out: &mut [u8]) -> bool
-    requires { length out.old < MAX }
+fn shown(rt: &(impl Print + Eprint), way: Loading, input: &[u8], out: &mut [u8]) -> bool
     ensures { result ≡ holds way (length out.old) input.now }
 {
     let length = report::report_by(way, input, out) as usize;
     if out.len() < length {
         return false;
     }
-    console::print(&out[..length]);
+    console::print(rt, &out[..length]);
     true
 }
 
-fn show_short(way: Loading, input: &[u8]) -> bool
+fn show_short(rt: &(impl Print + Eprint), way: Loading, input: &[u8]) -> bool
     ensures { result ≡ holds way SHORT_REPORT input.now }
 {
     let mut out = [0u8; SHORT_REPORT];
-    shown(way, input, &mut out)
+    shown(rt, way, input, &mut out)
 }
 
 // The long room holds every report.
-fn show_long(way: Loading, input: &[u8]) -> bool
+fn show_long(rt: &(impl Print + Eprint), way: Loading, input: &[u8]) -> bool
     ensures { result ≡ true }
 {
     let mut out = [0u8; LONGEST_REPORT];
-    shown(way, input, &mut out)
+    shown(rt, way, input, &mut out)
 }
 
 // Prints the report, in the smallest of the rooms up to `room` that holds it, and answers whether one did. It calls
 // itself, so the compiler leaves the long room in a frame of its own, which is made only where it is needed.
-fn show(way: Loading, input: &[u8], room: u64) -> bool
+fn show(rt: &(impl Print + Eprint), way: Loading, input: &[u8], room: u64) -> bool
     ensures { result ≡ one_holds way room input.now }
 {
     if room == SHORT {
-        return show_short(way, input);
+        return show_short(rt, way, input);
     }
-    show(way, input, room - 1) || show_long(way, input)
+    show(rt, way, input, room - 1) || show_long(rt, way, input)
 }
 
 // Prints the report: a room always holds it.
-fn show_report(way: Loading, input: &[u8]) -> bool
+fn show_report(rt: &(impl Print + Eprint), way: Loading, input: &[u8]) -> bool
     ensures { result ≡ true }
 {
-    show(way, input, largest_room(way, input))
+    show(rt, way, input, largest_room(way, input))
 }
 
 // What a program does: standard input to its end, and the report of it, its book loaded in this way.
-pub fn run(way: Loading) {
+pub fn run(rt: &(impl Input + Print + Eprint), way: Loading) {
     let mut input = [0u8; ROOM];
-    let came = console::read_all(&mut input);
+    let came = console::read_all(rt, &mut input);
     let Came::Bytes(n) = came else {
         return;
     };
-    show_report(way, &input[..n]);
+    show_report(rt, way, &input[..n]);
 }

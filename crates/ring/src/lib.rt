@@ -3,6 +3,8 @@
 // Word 0 is the number of runs, word 1 the place of the oldest (the lowest). The run at place `p` is words 2 * p + 2 and 2 * p + 3, its
 // lower and its upper end, both in the set; the next newer run stands at the next place, and after the last place comes the first. Words
 // not in use are 0, so that a set whose oldest run stands at a place has one form only.
+#![tactic(auto)]
+
 ghost use Rattle.std.specs.Prelude.{◌≡◌, true, false, [], ◌↔◌, ◌+◌, ◌*◌, ◌-◌, ◌%◌, ◌<◌, ◌≤◌, max, length, get_or};
 ghost use Rattle.numbers.specs.Limits.{MOST_RUNS};
 ghost use Rattle.numset.specs.Runs.{Covers, SET_WORDS, within, has, lo, hi, kept, union, fits};
@@ -329,7 +331,7 @@ pub fn inside(lower: u64, upper: u64, t: u64) -> bool
 }
 
 // What will become of a set: whether it will contain an instant, and whether there is room.
-#[derive(Drop)]
+#[derive(Clone, Copy)]
 pub struct Outlook {
     pub here: bool,
     pub room: bool,

@@ -76,7 +76,7 @@ unfolding above
 above_most zero s = omega arith
 above_most {m} {r} {place} (suc n) s =
     let one : suc n - 1 ≡ n = omega arith in
-    let rest = above_most n (rw one at (span_rest s (omega arith))) in
+    let rest = above_most {place = place + 1} n (rw one at (span_rest s (omega arith))) in
     let first : operand_at m place < r = first_below s (omega arith) refl in
     omega arith
 

@@ -87,9 +87,9 @@ once_asked false gone g x h = refl
 once_asked true gone g x h = cc
 
 -- ---- Since
-or_false : (a : Bool) → a || false ≡ a
-or_false true = refl
-or_false false = refl
+or-false : (a : Bool) → a || false ≡ a
+or-false true = refl
+or-false false = refl
 
 by_left : (zero covers gone : Bool) (l r : Answer) → is_open (settled_left zero covers l) ≡ false
     → decided (is_true l && covers || is_true r && zero) (is_false r && gone || is_false l && not zero) ≡ settled_left zero covers l
@@ -105,10 +105,10 @@ by_left zero covers gone Open r h = cc
 by_right : (zero covers gone : Bool) (l r : Answer) → is_open (settled_left zero covers l) ≡ true
     → decided (is_true l && covers || is_true r && zero) (is_false r && gone || is_false l && not zero) ≡ settled_once zero gone r
 by_right zero true gone True r h = cc
-by_right zero false gone True r h = ap (decided (is_true r && zero)) (or_false (is_false r && gone))
-by_right true covers gone False r h = ap (decided (is_true r && true)) (or_false (is_false r && gone))
+by_right zero false gone True r h = ap (decided (is_true r && zero)) (or-false (is_false r && gone))
+by_right true covers gone False r h = ap (decided (is_true r && true)) (or-false (is_false r && gone))
 by_right false covers gone False r h = cc
-by_right zero covers gone Open r h = ap (decided (is_true r && zero)) (or_false (is_false r && gone))
+by_right zero covers gone Open r h = ap (decided (is_true r && zero)) (or-false (is_false r && gone))
 
 pub since_left : (covers gone : Bool) (g : Range) (l r : Answer) → is_open (settled_left (from_now g) covers l) ≡ false
     → settled_rule covers gone (since g l r) ≡ settled_left (from_now g) covers l

@@ -1,4 +1,6 @@
 // The answers of a row of a monitor's book: `ValPmtl` of the original.
+#![tactic(auto)]
+
 ghost use Rattle.std.specs.Prelude.{◌≡◌, map, ◌+◌, ◌≤◌, ◌<◌, eqb};
 ghost use Rattle.numbers.specs.Limits.{MOST_ATOMS, MOST_ROWS, MOST_TEMPORALS};
 ghost use Rattle.numset.specs.Runs.{has};

@@ -1,7 +1,7 @@
 -- What is printed is read back. Assumes nothing.
-use Prim.Native.Nat.{ℕ, zero, suc, ◌+◌, ◌≤◌, ◌<◌}
+use Prim.Native.Nat.{ℕ, ◌≤◌}
 use mathlib.Core.Path.{◌≡◌, refl, sym, ap, ◌∙◌}
-use mathlib.Core.Bool.{Bool, true, false, ◌&&◌, and-false}
+use mathlib.Core.Bool.{Bool, true, false, and-false}
 use mathlib.Core.List.{List, [], ◌∷◌, ◌++◌, append-nil, append_assoc, map}
 use native.Mathlib.Omega.{arith}
 use lib.Dec.{eqb}
@@ -11,12 +11,12 @@ use Rattle.text.specs.Decimals.{decimal}
 use Rattle.rule_scanner.specs.Symbols.{goes_on, Placed, symbols}
 use Rattle.trees.specs.Forest.{Head, head_of, Forest, none, tree, count, Fit, Good}
 use Rattle.rule_scanner.specs.Writing.{upper_said, range_said, head_said, shut, one_said, written, file_said}
-use Rattle.rule_scanner.specs.Reading.{Outcome, read, wrong, read_text}
+use Rattle.rule_scanner.specs.Reading.{read, read_text}
 use Rattle.rule_scanner.proofs.Theorems.{read_written}
 use Rattle.trees.specs.declared.Word.{Word}
 use Rattle.trees.specs.declared.Word.TheVariants.{False, True, Atom, And, Or, Not, Implies, Hist, Once, Since}
 use Rattle.rule_scanner.specs.declared.symbols.Symbol.{Symbol}
-use Rattle.rule_scanner.specs.declared.symbols.Symbol.TheVariants.{Name, Number, Left, Right, Opens, Closes, Comma, Star, Bad, End}
+use Rattle.rule_scanner.specs.declared.symbols.Symbol.TheVariants.{Number, Right, Opens, Closes, Comma, Star}
 use Rattle.rule_printer.specs.Printing.{spell, spelled, lines, section_printed, printed, printed_of, Ranged, Sayable}
 use Rattle.rule_printer.proofs.Spelled.{found, symbols_found, kind, Plain, Apart, found_spelled}
 

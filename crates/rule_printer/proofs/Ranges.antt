@@ -1,26 +1,26 @@
 -- The numbers of a text are in range, so that what is read can be printed. Assumes nothing.
-use Prim.Native.Nat.{ℕ, zero, suc, ◌+◌, ◌≤◌, ◌<◌}
+use Prim.Native.Nat.{ℕ, ◌≤◌}
 use mathlib.Core.Path.{◌≡◌, refl, sym, ap, ◌∙◌}
 use mathlib.Core.Bool.{Bool, true, false, ◌&&◌, false≢true}
-use mathlib.Core.List.{List, [], ◌∷◌, ◌++◌, append_assoc, map}
+use mathlib.Core.List.{List, [], ◌∷◌, ◌++◌, map}
 use native.Mathlib.Omega.{arith}
 use lib.Dec.{eqb, leb}
 use lib.ListN.{length}
 use borrow.Author.Tests.{leb-true, eqb-true}
 use Rattle.numbers.specs.Limits.{MAX}
 use Rattle.text.specs.Words.{pick, all_digits, plain, said, good, most_digits}
-use Rattle.rule_scanner.specs.Symbols.{class_of, run_of, same, name_of, number_of, mark_of, symbol_of, begins, Placed, symbols, false_word, true_word, atom_word, and_word, or_word, not_word, implies_word, hist_word, once_word, since_word}
-use Rattle.trees.specs.Forest.{Head, head_of, Forest, none, tree, count, Fit, Good}
-use Rattle.rule_scanner.specs.Writing.{upper_said, range_said, head_said, shut, one_said, written, file_said}
-use Rattle.rule_scanner.specs.Starred.{is_comma, plainly, starred_one, starred}
-use Rattle.rule_scanner.specs.Reading.{Outcome, read, wrong, read_text}
+use Rattle.rule_scanner.specs.Symbols.{class_of, run_of, name_of, number_of, mark_of, symbol_of, begins, Placed, symbols}
+use Rattle.trees.specs.Forest.{head_of, Forest, none, tree, count, Fit, Good}
+use Rattle.rule_scanner.specs.Writing.{upper_said, head_said, shut, one_said, written, file_said}
+use Rattle.rule_scanner.specs.Starred.{is_comma, starred_one, starred}
+use Rattle.rule_scanner.specs.Reading.{read, read_text}
 use Rattle.rule_reader.specs.Rules.{result_of, read_book}
-use Rattle.rule_scanner.proofs.Theorems.{WrittenAs, read_is_written}
+use Rattle.rule_scanner.proofs.Theorems.{read_is_written}
 use Rattle.trees.specs.declared.Word.{Word}
 use Rattle.trees.specs.declared.Word.TheVariants.{False, True, Atom, And, Or, Not, Implies, Hist, Once, Since}
 use Rattle.rule_scanner.specs.declared.symbols.Symbol.{Symbol}
 use Rattle.rule_scanner.specs.declared.symbols.Symbol.TheVariants.{Name, Number, Left, Right, Opens, Closes, Comma, Star, Bad, End}
-use Rattle.rule_printer.specs.Printing.{printed, printed_of, Ranged, Sayable}
+use Rattle.rule_printer.specs.Printing.{printed, Ranged, Sayable}
 use Rattle.rule_printer.proofs.Spelled.{found, symbols_found}
 use Rattle.rule_printer.proofs.Printed.{printed_read}
 

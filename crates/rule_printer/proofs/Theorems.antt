@@ -1,6 +1,6 @@
 -- What is proved of a printed book: read back, it has the same trees, which mean what the book's properties mean. Assumes nothing.
 use Prim.Native.Nat.{ℕ, zero, suc, ◌≤◌, ◌<◌}
-use mathlib.Core.Path.{◌≡◌, refl, sym, ap, ◌∙◌}
+use mathlib.Core.Path.{◌≡◌, refl, sym, ◌∙◌}
 use mathlib.Core.Bool.{Bool, true, false}
 use mathlib.Core.List.{List, [], ◌∷◌, map}
 use native.Mathlib.Omega.{arith}
@@ -8,16 +8,16 @@ use lib.ListN.{length, get_or}
 use lib.Seq.{take-length}
 use lib.Dec.{eqb}
 use borrow.Author.Tests.{eqb-true, eqb-false}
-use Rattle.numbers.specs.Limits.{MAX, LAST_TIME, MOST_ATOMS}
+use Rattle.numbers.specs.Limits.{MAX, LAST_TIME}
 use Rattle.numbers.specs.Refusals.{ACCEPTED}
-use Rattle.pmtl.specs.Book.{Row, Rows, row_at, Book, AllBelow, Ordered}
+use Rattle.pmtl.specs.Book.{Rows, row_at, Book, AllBelow, Ordered}
 use Rattle.pmtl.specs.Meaning.{meaning}
 use Rattle.pmtl.proofs.Table.{by_rows}
 use Rattle.book.specs.Reading.{Sections}
 use Rattle.book.specs.Private.{Few}
 use Rattle.book.specs.Judging.{kind_in, arg_in, lower_in, upper_in, rows_in, judged, book_in, loaded}
 use Rattle.book.proofs.Accepted.{form, range, atom_small, lower_small, upper_small, assume_below, guarantee_below}
-use Rattle.trees.specs.Forest.{Head, Forest, none, tree, ◌then◌, count, Good}
+use Rattle.trees.specs.Forest.{Head, Forest, none, tree, ◌then◌}
 use Rattle.trees.specs.Numbered.{meanings}
 use Rattle.trees.specs.Building.{word_of, atom_of}
 use Rattle.trees.specs.Books.{head_in, parts_in, joined, tree_at, trees_of}

@@ -6,7 +6,7 @@ use Rattle.text.specs.Decimals.{decimal}
 use Rattle.rule_scanner.specs.Symbols.{false_word, true_word, atom_word, and_word, or_word, not_word, implies_word, hist_word, once_word, since_word}
 use Rattle.pmtl.specs.Book.{Book}
 use Rattle.trees.specs.Books.{trees_of}
-use Rattle.trees.specs.Forest.{Head, Forest, none, tree, count}
+use Rattle.trees.specs.Forest.{Forest, none, tree, count}
 use Rattle.rule_scanner.specs.Writing.{one_said, written}
 use Rattle.rule_scanner.specs.Reading.{Outcome, read, wrong}
 use Rattle.trees.specs.declared.Word.{Word}

@@ -1,6 +1,6 @@
 -- Laws of the rows that are built as a text is read. Assumes nothing.
 use Prim.Native.Nat.{ℕ, zero, suc, ◌+◌, ◌*◌, ◌-◌, ◌≤◌, ◌<◌}
-use mathlib.Core.Path.{◌≡◌, refl, sym, ap, ◌∙◌}
+use mathlib.Core.Path.{◌≡◌, refl, sym, ap, subst, ◌∙◌}
 use mathlib.Core.Bool.{Bool, true, false}
 use mathlib.Core.List.{List, [], ◌∷◌}
 use native.Mathlib.Omega.{arith}
@@ -17,7 +17,6 @@ use Rattle.trees.specs.declared.rows.Spot.{Spot}
 use Rattle.trees.specs.declared.Word.{Word}
 use Rattle.trees.specs.declared.Word.TheVariants.{False, True, And, Or, Not, Implies, Hist, Once, Since}
 use Rattle.rule_scanner.specs.declared.turns.Mode.{Mode}
-use Rattle.rule_scanner.specs.declared.turns.Mode.TheVariants as mode
 use Rattle.rule_scanner.specs.declared.turns.Turn.{Turn}
 use Rattle.rule_scanner.specs.declared.turns.Turn.TheVariants.{Refused, Go, Leaf, Open, Part, Close, Counted, Ended}
 use Rattle.rule_reader.specs.Laying.{laid, forest, FramesIn, Lies, LiesAfter, NotAtom, NoAtoms, Sane, site_of, Lays, LaysRows}
@@ -104,6 +103,7 @@ not_atom Implies a n k = refl
 not_atom Hist a n k = refl
 not_atom Once a n k = refl
 not_atom Since a n k = refl
+not_atom Rattle.trees.specs.declared.Word.TheVariants.Atom a n k = elim k [ ]
 
 -- there are no fewer rows than when it opened
 pub base_low : {l : Laid} {fm rs os ts : List ℕ} (depth top : ℕ) (r : State) → (depth ≡ 0 → ⊥) → top ≡ depth - 1 → depth ≡ length r.stack → Lies r l fm rs os ts → arg_in fm top ≤ l.height
@@ -217,7 +217,7 @@ module _ {fm fm' rs os ts : List ℕ} (depth row : ℕ) (l : Laid) where
             arg_set fm depth kind base x u room ∙ eb ∙ y.height,
             lower_set fm depth kind base x u room,
             upper_set fm depth kind base x u room,
-            frames_keep fm depth kind base x u room r.stack (r.before then r.here) low y.frames,
+            subst (λ (m : List ℕ). FramesIn m r.stack (r.before then r.here)) (sym e) (frames_keep fm depth kind base x u room r.stack (r.before then r.here) low y.frames),
           );
         };
     frames_size = ap length e ∙ length-sets fm (4 * depth) (kind ∷ base ∷ x ∷ u ∷ []);

@@ -1,5 +1,5 @@
 -- Laws of the loop that builds a book's rows. Assumes nothing.
-use Prim.Native.Nat.{ℕ, zero, suc, ◌+◌, ◌*◌, ◌-◌, ◌≤◌}
+use Prim.Native.Nat.{ℕ, zero, suc, ◌+◌, ◌*◌, ◌≤◌}
 use mathlib.Core.Path.{◌≡◌, refl, sym, ap, ◌∙◌}
 use mathlib.Core.Bool.{Bool, true, false, false≢true}
 use mathlib.Core.List.{List, [], ◌∷◌}
@@ -19,7 +19,6 @@ use Rattle.rule_scanner.proofs.Passing.{Reader, refused_is, ended_is, going_is, 
 use Rattle.trees.specs.declared.Word.{Word}
 use Rattle.trees.specs.declared.Word.TheVariants.{False, True, Atom, And, Or, Not, Implies, Hist, Once, Since}
 use Rattle.rule_scanner.specs.declared.symbols.Symbol.{Symbol}
-use Rattle.rule_scanner.specs.declared.symbols.Symbol.TheVariants as symbol
 use Rattle.rule_scanner.specs.declared.turns.Mode.{Mode}
 use Rattle.rule_scanner.specs.declared.turns.Mode.TheVariants as mode
 use Rattle.rule_scanner.specs.declared.turns.Form.{Form}
@@ -119,6 +118,7 @@ not_count (mode.Upper w l) h k = tt
 not_count (mode.Right w l u) h k = tt
 not_count (mode.Open w l u) h k = tt
 not_count mode.Over h k = tt
+not_count mode.Count h k = elim k [ ]
 
 pub record Tidy (r : State) : Type 0 where
   pub first : r.second ≡ false → r.before ≡ none
@@ -166,6 +166,9 @@ not_atom Implies a l u k = tt
 not_atom Hist a l u k = tt
 not_atom Once a l u k = tt
 not_atom Since a l u k = tt
+not_atom False a l u k = elim k [ ]
+not_atom True a l u k = elim k [ ]
+not_atom Atom a l u k = elim k [ ]
 
 one_frame : (f : Frame) (n : ℕ) → FrameOk f n → NotAtom f.head.word
 one_frame f n k = not_atom f.head.word f.head.atom f.head.lower f.head.upper k.op

@@ -10,14 +10,14 @@ use trees::rows::{RowWords, Spot, emit, put_row};
 use trees::{Word, kind_of};
 
 // How many operands there are so far, and how many rows that no other has taken yet.
-#[derive(Drop)]
+#[derive(Clone, Copy)]
 pub struct Laid {
     pub operands: usize,
     pub height: usize,
 }
 
 // Where a turn is taken: how many brackets are open, the number of the next row, and what is laid so far.
-#[derive(Drop)]
+#[derive(Clone, Copy)]
 pub struct Site {
     pub depth: usize,
     pub row: usize,

@@ -13,7 +13,7 @@ use trees::book_words::{Counts, put_sections};
 
 // What a text is refused with, 0 where nothing is wrong; the place of what is wrong in its form; and how many words its
 // book has, 0 where it is refused.
-#[derive(Drop)]
+#[derive(Clone, Copy)]
 pub struct BookRead {
     pub number: u64,
     pub place: usize,

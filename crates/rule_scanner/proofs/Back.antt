@@ -1,5 +1,5 @@
 -- Written properties are read back. Assumes nothing.
-use Prim.Native.Nat.{ℕ, suc, ◌+◌, ◌<◌}
+use Prim.Native.Nat.{ℕ, suc, ◌<◌}
 use mathlib.Core.Path.{◌≡◌, refl, sym, ◌∙◌}
 use mathlib.Core.Bool.{Bool, true, false}
 use mathlib.Core.List.{List, [], ◌∷◌, ◌++◌, append-nil, append_assoc, map}
@@ -16,7 +16,7 @@ use Rattle.rule_scanner.specs.Reading.{parting, closing, form_of, first_mode, pa
 use Rattle.trees.specs.declared.Word.{Word}
 use Rattle.trees.specs.declared.Word.TheVariants.{False, True, Atom, And, Or, Not, Implies, Hist, Once, Since}
 use Rattle.rule_scanner.specs.declared.symbols.Symbol.{Symbol}
-use Rattle.rule_scanner.specs.declared.symbols.Symbol.TheVariants.{Name, Number, Left, Opens, Closes, Comma, End}
+use Rattle.rule_scanner.specs.declared.symbols.Symbol.TheVariants.{Name, Number, Opens, Closes, Comma, End}
 use Rattle.rule_scanner.specs.declared.turns.Mode.{Mode}
 use Rattle.rule_scanner.specs.declared.turns.Mode.TheVariants as mode
 use Rattle.rule_scanner.specs.declared.turns.Form.{Form}

@@ -1,10 +1,9 @@
 -- The end stands last among the symbols of a text, at its length, and nowhere else. Assumes nothing.
 use Prim.Native.Nat.{ℕ, suc, ◌+◌}
-use mathlib.Core.Path.{◌≡◌, refl, sym, ap, ◌∙◌}
+use mathlib.Core.Path.{◌≡◌, ap}
 use mathlib.Core.Bool.{Bool, true, false}
 use mathlib.Core.List.{List, [], ◌∷◌, ◌++◌}
 use native.Mathlib.Omega.{arith}
-use lib.Dec.{eqb}
 use lib.ListN.{length}
 use Rattle.text.specs.Words.{pick}
 use Rattle.rule_scanner.specs.Symbols.{class_of, run_of, name_of, number_of, mark_of, symbol_of, Placed, begins, symbols_after, symbols}

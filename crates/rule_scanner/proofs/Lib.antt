@@ -1,4 +1,3 @@
-mod Refusing
 mod Scanning
 pub mod Passing
 pub mod Back

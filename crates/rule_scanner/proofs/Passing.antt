@@ -4,12 +4,11 @@ use mathlib.Core.Path.{◌≡◌, refl, sym, ap, ◌∙◌}
 use mathlib.Core.Bool.{Bool, true, false, not, false≢true}
 use mathlib.Core.List.{List, [], ◌∷◌}
 use native.Mathlib.Omega.{arith}
-use lib.Dec.{eqb}
 use lib.ListN.{length, get_or, set, length-set}
 use lib.Seq.{get_or-set_same, get_or-set_other}
 use borrow.Author.Tests.{eq-eqb, ne_eqb, eqb-true, eqb-false}
 use Rattle.trees.specs.Forest.{Head, head_of, Forest, none, tree, one, ◌then◌, count, size}
-use Rattle.rule_scanner.specs.Reading.{turn, form_of, first_mode, parted, Frame, frame_of, State, state_of, start, form_in, between, completed, Step, refused, going, ended, finished, next_part, closed, taken, move, Outcome, read, wrong, onward, reading, read_text}
+use Rattle.rule_scanner.specs.Reading.{turn, form_of, first_mode, parted, Frame, frame_of, State, state_of, start, form_in, between, completed, refused, going, ended, finished, next_part, closed, taken, move, onward, reading, read_text}
 use Rattle.rule_scanner.specs.Symbols.{symbols}
 use Rattle.rule_scanner.specs.Steps.{symbols_from, Next}
 use Rattle.rule_scanner.specs.Scanning.{scanned, form_byte, byte_form, form_top, less_one, refuses, ends, pass_of, between_pass, completed_pass, FormsAre, stack_size, Rel, Bound, Follows, Steps}
@@ -23,7 +22,6 @@ use Rattle.rule_scanner.specs.declared.turns.Form.TheVariants as form
 use Rattle.rule_scanner.specs.declared.turns.Turn.{Turn}
 use Rattle.rule_scanner.specs.declared.turns.Turn.TheVariants.{Refused, Go, Leaf, Open, Part, Close, Counted, Ended}
 use Rattle.rule_scanner.specs.declared.scan.Pass.{Pass}
-use Rattle.rule_scanner.specs.declared.scan.Scan.{Scan}
 use Rattle.rule_scanner.specs.declared.scan.Scan.TheVariants.{Wrong, Right}
 
 pub begin_pass : (s : Bool) (l r h p b : ℕ) → (l ≡ 0 → ⊥) → pass_of mode.Begin 0 s l r h p b ≡ between_pass s l r h p b

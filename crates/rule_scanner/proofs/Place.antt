@@ -1,19 +1,19 @@
 -- The place of a refusal is where the first symbol begins that cannot stand there: what was read before it can be completed, and with it nothing can. Assumes nothing.
-use Prim.Native.Nat.{ℕ, zero, suc, ◌+◌, ◌≤◌, ◌<◌}
-use mathlib.Core.Path.{◌≡◌, refl, sym, ap, ◌∙◌}
+use Prim.Native.Nat.{ℕ, zero, suc}
+use mathlib.Core.Path.{◌≡◌, refl, ap}
 use mathlib.Core.Bool.{Bool, true, false}
 use mathlib.Core.Logic.{◌⊎◌, inl, inr, ⊎_elim}
 use mathlib.Core.List.{List, [], ◌∷◌, ◌++◌, map}
 use native.Mathlib.Omega.{arith}
 use Rattle.rule_scanner.specs.Symbols.{Placed}
 use Rattle.trees.specs.Forest.{Head, head_of, Forest, none, one, ◌then◌}
-use Rattle.rule_scanner.specs.Reading.{turn, closing, parting, form_of, first_mode, parted, Frame, frame_of, State, state_of, start, form_in, between, completed, Step, refused, going, ended, finished, taken, move, Outcome, read, wrong, onward, reading}
-use Rattle.rule_scanner.proofs.Back.{and_then, through, and_on}
+use Rattle.rule_scanner.specs.Reading.{form_of, first_mode, Frame, frame_of, State, state_of, between, completed, Step, refused, going, ended, move, wrong, onward, reading}
+use Rattle.rule_scanner.proofs.Back.{through}
 use Rattle.rule_scanner.proofs.Sound.{Ok, OkOf, ok_next}
 use Rattle.trees.specs.declared.Word.{Word}
 use Rattle.trees.specs.declared.Word.TheVariants.{True, Atom}
 use Rattle.rule_scanner.specs.declared.symbols.Symbol.{Symbol}
-use Rattle.rule_scanner.specs.declared.symbols.Symbol.TheVariants.{Name, Number, Left, Right, Opens, Closes, Comma, Star, Bad, End}
+use Rattle.rule_scanner.specs.declared.symbols.Symbol.TheVariants.{Name, Number, Left, Right, Opens, Closes, Comma, End}
 use Rattle.rule_scanner.specs.declared.turns.Mode.{Mode}
 use Rattle.rule_scanner.specs.declared.turns.Mode.TheVariants as mode
 use Rattle.rule_scanner.specs.declared.turns.Form.{Form}

@@ -1,22 +1,22 @@
 -- Laws of symbols, for the proofs of `symbols`. Assumes nothing.
-use Prim.Native.Nat.{ℕ, zero, suc, ◌+◌, ◌-◌, ◌≤◌, ◌<◌}
+use Prim.Native.Nat.{ℕ, suc, ◌+◌, ◌-◌, ◌≤◌, ◌<◌}
 use mathlib.Core.Path.{◌≡◌, refl, sym, ap, ◌∙◌}
 use mathlib.Core.Bool.{Bool, true, false, not, ◌&&◌, ◌||◌, and-false, false≢true}
 use mathlib.Core.List.{List, [], ◌∷◌}
 use native.Mathlib.Omega.{arith}
 use native.Mathlib.Numerals.{add-one}
 use lib.Dec.{leb, eqb}
-use lib.ListN.{length, get_or, take, drop, drop_of_length-le, length-drop}
+use lib.ListN.{length, get_or, take, drop, drop_of_length-le}
 use lib.Seq.{drop-cons, drop-drop}
 use borrow.Author.Tests.{le-leb, lt-leb, eq-eqb, ne_eqb, eqb-true, eqb-false, leb-true}
 use Rattle.text.specs.Words.{pick, parts, digit, letters, all_digits, said, good, word_here, next_in, next_word}
 use Rattle.numbers.specs.Refusals.{BAD_WORD}
 use Rattle.text.specs.declared.words.Read.{Read}
 use Rattle.text.specs.declared.words.Read.TheVariants.{Word, Refused}
-use Rattle.rule_scanner.specs.Symbols.{letter, class_of, goes_on, run_of, same, name_of, number_of, mark_of, symbol_of, Placed, begins, symbols_after}
+use Rattle.rule_scanner.specs.Symbols.{letter, class_of, goes_on, run_of, same, name_of, number_of, mark_of, symbol_of, begins, symbols_after}
 use Rattle.rule_scanner.specs.Steps.{symbols_from, Next}
 use Rattle.rule_scanner.specs.declared.symbols.Symbol.{Symbol}
-use Rattle.rule_scanner.specs.declared.symbols.Symbol.TheVariants.{Name, Number, Left, Right, Opens, Closes, Comma, Star, Bad, End}
+use Rattle.rule_scanner.specs.declared.symbols.Symbol.TheVariants.{Number, Bad, End}
 
 -- ---- letters, classes
 pub low : (b : ℕ) → b < 65 → false ≡ letter b

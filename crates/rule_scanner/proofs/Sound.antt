@@ -1,5 +1,5 @@
 -- What the reader accepts is the writing of some properties. Assumes nothing.
-use Prim.Native.Nat.{ℕ, zero, suc, ◌+◌, ◌≤◌, ◌<◌}
+use Prim.Native.Nat.{ℕ, zero, suc, ◌+◌, ◌<◌}
 use mathlib.Core.Path.{◌≡◌, refl, sym, ap, ◌∙◌}
 use mathlib.Core.Bool.{Bool, true, false}
 use mathlib.Core.List.{List, [], ◌∷◌, ◌++◌, append-nil, append_assoc, map}
@@ -11,7 +11,7 @@ use Rattle.rule_scanner.specs.Symbols.{Placed}
 use Rattle.trees.specs.Forest.{Head, head_of, Forest, none, tree, one, ◌then◌, count, Fit, Good}
 use Rattle.rule_scanner.specs.Writing.{upper_said, range_said, head_said, shut, one_said, written, file_said}
 use Rattle.rule_scanner.specs.Starred.{is_comma, plainly, starred_one, starred}
-use Rattle.rule_scanner.specs.Reading.{on, turn, begun, parting, closing, form_of, first_mode, parted, Frame, frame_of, State, state_of, start, form_in, between, completed, Step, refused, going, ended, finished, next_part, closed, taken, move, Outcome, read, wrong, onward, reading}
+use Rattle.rule_scanner.specs.Reading.{on, turn, begun, parting, closing, form_of, first_mode, parted, Frame, frame_of, State, state_of, start, form_in, between, completed, Step, refused, going, ended, taken, move, read, onward, reading}
 use Rattle.trees.specs.declared.Word.{Word}
 use Rattle.trees.specs.declared.Word.TheVariants.{False, True, Atom, And, Or, Not, Implies, Hist, Once, Since}
 use Rattle.rule_scanner.specs.declared.symbols.Symbol.{Symbol}
@@ -21,7 +21,7 @@ use Rattle.rule_scanner.specs.declared.turns.Mode.TheVariants as mode
 use Rattle.rule_scanner.specs.declared.turns.Form.{Form}
 use Rattle.rule_scanner.specs.declared.turns.Form.TheVariants as form
 use Rattle.rule_scanner.specs.declared.turns.Turn.{Turn}
-use Rattle.rule_scanner.specs.declared.turns.Turn.TheVariants.{Refused, Go, Leaf, Open, Part, Close, Counted, Ended}
+use Rattle.rule_scanner.specs.declared.turns.Turn.TheVariants.{Refused, Open, Part, Close}
 
 abbrev commas : List Symbol
 commas = Comma ∷ []
@@ -409,6 +409,13 @@ module _ (o : List Frame) (s : Bool) (n : ℕ) (h b : Forest) (gh : Good h) (gb 
     right_step Hist x u t = onward_in (mode.Open Hist x u) (mode_said (mode.Right Hist x u)) Right (as_it_is (so_far_of (st (mode.Right Hist x u))) Right refl) (record { mode = (k, l, refl); here = gh; past = gb }) refl
     right_step Once x u t = onward_in (mode.Open Once x u) (mode_said (mode.Right Once x u)) Right (as_it_is (so_far_of (st (mode.Right Once x u))) Right refl) (record { mode = (k, l, refl); here = gh; past = gb }) refl
     right_step Since x u t = onward_in (mode.Open Since x u) (mode_said (mode.Right Since x u)) Right (as_it_is (so_far_of (st (mode.Right Since x u))) Right refl) (record { mode = (k, l, refl); here = gh; past = gb }) refl
+    right_step False x u t = elim t [ ]
+    right_step True x u t = elim t [ ]
+    right_step Atom x u t = elim t [ ]
+    right_step And x u t = elim t [ ]
+    right_step Or x u t = elim t [ ]
+    right_step Not x u t = elim t [ ]
+    right_step Implies x u t = elim t [ ]
 
     -- a bracket opens
     head_all_lem : (w : Word) (x u : ℕ) → Op w 0 x u → head_all (head_of w 0 x u) ≡ mode_said (mode.Open w x u) ++ (Opens ∷ [])
@@ -420,6 +427,9 @@ module _ (o : List Frame) (s : Bool) (n : ℕ) (h b : Forest) (gh : Good h) (gb 
     head_all_lem Hist x u t = refl
     head_all_lem Once x u t = refl
     head_all_lem Since x u t = refl
+    head_all_lem False x u t = elim t [ ]
+    head_all_lem True x u t = elim t [ ]
+    head_all_lem Atom x u t = elim t [ ]
 
     first_owes : (f : Form) → Owes f f 0
     first_owes form.Many = tt
@@ -453,6 +463,11 @@ takes_one w f n = by_forms (form_of w) f
     by_forms form.One form.One c e = omega arith
     by_forms form.Two form.One c e = omega arith
     by_forms form.Two form.Two c e = let z : ◌≡◌ {A = ℕ} 0 1 = cc in absurd (omega arith)
+    by_forms form.Many form.One c e = elim e [ ]
+    by_forms form.Many form.Two c e = elim e [ ]
+    by_forms form.One form.Many c e = elim e [ ]
+    by_forms form.One form.Two c e = elim e [ ]
+    by_forms form.Two form.Many c e = elim e [ ]
 
 owes_more : (w : Word) (f : Form) (n : ℕ) → parting f ≡ Part → Owes (form_of w) f n → Owes (form_of w) (parted f) (suc n)
 owes_more w f n = by_forms (form_of w) f
@@ -462,6 +477,11 @@ owes_more w f n = by_forms (form_of w) f
     by_forms form.One form.One c e = let z : ◌≡◌ {A = ℕ} 0 1 = cc in absurd (omega arith)
     by_forms form.Two form.One c e = let z : ◌≡◌ {A = ℕ} 0 1 = cc in absurd (omega arith)
     by_forms form.Two form.Two c e = omega arith
+    by_forms form.Many form.One c e = elim e [ ]
+    by_forms form.Many form.Two c e = elim e [ ]
+    by_forms form.One form.Many c e = elim e [ ]
+    by_forms form.One form.Two c e = elim e [ ]
+    by_forms form.Two form.Many c e = elim e [ ]
 
 fit_of : (w : Word) (a l u n : ℕ) → Op w a l u → Takes (form_of w) n → Fit w a l u n
 fit_of And a l u n p t = p
@@ -471,6 +491,9 @@ fit_of Implies a l u n p t = (t, p.0, p.1, p.2)
 fit_of Hist a l u n p t = (t, p)
 fit_of Once a l u n p t = (t, p)
 fit_of Since a l u n p t = (t, p)
+fit_of False a l u n p t = elim p [ ]
+fit_of True a l u n p t = elim p [ ]
+fit_of Atom a l u n p t = elim p [ ]
 
 shuts : (w : Word) (a l u : ℕ) → Op w a l u → shut w ≡ Closes ∷ []
 unfolding shut
@@ -481,6 +504,9 @@ shuts Implies a l u p = refl
 shuts Hist a l u p = refl
 shuts Once a l u p = refl
 shuts Since a l u p = refl
+shuts False a l u p = elim p [ ]
+shuts True a l u p = elim p [ ]
+shuts Atom a l u p = elim p [ ]
 
 module _ (i : Head) (f : Form) (p : Forest) (fs : List Frame) (s : Bool) (n : ℕ) (h b : Forest) (gh : Good h) (gb : Good b) (k : Frames fs) (l : 0 < n) where
   close_step : Op i.word i.atom i.lower i.upper → Takes (form_of i.word) (count p) → Good p → Stepped h b (sections s n h b ++ ((opened fs ++ (head_all i ++ written [] commas p)) ++ [])) Closes (going (completed (one i p) fs s n h b))
@@ -517,6 +543,7 @@ first_step : (o : List Frame) (s : Bool) (n : ℕ) (h b : Forest) → Good h →
 unfolding opened trailed written count
 first_step (f ∷ fs) s n h b gh gb k l q =
     rw q.0 (close_step f.head f.form none fs s n h b gh gb k.1 l k.0.op (rw q.1 tt) tt)
+first_step [] s n h b gh gb k l q = elim q [ ]
 
 sound : (m : Mode) (o : List Frame) (s : Bool) (n : ℕ) (h b : Forest) → Ok m o s n h b → (y : Symbol) → Stepped h b (so_far m o s n h b) y (taken (turn m (form_in o) y) o s n h b)
 unfolding one_said head_said shut written opened last_of

@@ -1,5 +1,5 @@
 -- The reader of written properties, symbol by symbol: 02, Ask 3. Definitions only.
-use Rattle.std.specs.Prelude.{ℕ, zero, suc, Bool, true, false, cond, List, [], ◌∷◌}
+use Rattle.std.specs.Prelude.{ℕ, zero, suc, Bool, true, false, List, [], ◌∷◌}
 use Rattle.numbers.specs.Limits.{MAX}
 use Rattle.rule_scanner.specs.Symbols.{Placed, symbols}
 use Rattle.trees.specs.Forest.{Head, head_of, Forest, none, one, ◌then◌}
@@ -16,16 +16,16 @@ use Rattle.rule_scanner.specs.declared.turns.Turn.TheVariants.{Refused, Go, Leaf
 
 -- a line of the table below: what each symbol does
 abbrev pub on : (Word → Turn) → (ℕ → Turn) → Turn → Turn → Turn → Turn → Turn → Turn → Turn → Symbol → Turn
-on name number left right opens closes comma star end (symbol.Name w) = name w
-on name number left right opens closes comma star end (symbol.Number n) = number n
-on name number left right opens closes comma star end symbol.Left = left
-on name number left right opens closes comma star end symbol.Right = right
-on name number left right opens closes comma star end symbol.Opens = opens
-on name number left right opens closes comma star end symbol.Closes = closes
-on name number left right opens closes comma star end symbol.Comma = comma
-on name number left right opens closes comma star end symbol.Star = star
-on name number left right opens closes comma star end symbol.Bad = Refused
-on name number left right opens closes comma star end symbol.End = end
+on name number left right opens shuts comma star end (symbol.Name w) = name w
+on name number left right opens shuts comma star end (symbol.Number n) = number n
+on name number left right opens shuts comma star end symbol.Left = left
+on name number left right opens shuts comma star end symbol.Right = right
+on name number left right opens shuts comma star end symbol.Opens = opens
+on name number left right opens shuts comma star end symbol.Closes = shuts
+on name number left right opens shuts comma star end symbol.Comma = comma
+on name number left right opens shuts comma star end symbol.Star = star
+on name number left right opens shuts comma star end symbol.Bad = Refused
+on name number left right opens shuts comma star end symbol.End = end
 
 -- what the word does that a property begins with
 abbrev pub begun : Word → Turn

@@ -1,7 +1,7 @@
 -- Steps of scanning a written text with a byte for each open bracket. No public contract but that of `scan` cites these. Definitions only.
-use Rattle.std.specs.Prelude.{ℕ, zero, suc, ◌+◌, ◌≤◌, ◌<◌, ◌≡◌, Bool, true, false, cond, not, List, [], ◌∷◌, length, get_or, eqb}
-use Rattle.trees.specs.Forest.{Forest, count, size}
-use Rattle.rule_scanner.specs.Reading.{Frame, State, Step, refused, going, ended, finished, taken, Outcome, read, wrong}
+use Rattle.std.specs.Prelude.{ℕ, zero, suc, ◌+◌, ◌≤◌, ◌≡◌, Bool, true, false, cond, not, List, [], ◌∷◌, length, get_or, eqb}
+use Rattle.trees.specs.Forest.{count, size}
+use Rattle.rule_scanner.specs.Reading.{Frame, State, Step, refused, going, ended, taken, Outcome, read, wrong}
 use Rattle.rule_scanner.specs.declared.turns.Mode.{Mode}
 use Rattle.rule_scanner.specs.declared.turns.Mode.TheVariants as mode
 use Rattle.rule_scanner.specs.declared.turns.Form.{Form}

@@ -1,7 +1,6 @@
 -- How a text may differ from the writing of what it is read as: the largest number as an upper bound, in digits, is `*`: 02, Ask 3. Definitions only.
-use Rattle.std.specs.Prelude.{ℕ, Bool, true, false, List, [], ◌∷◌}
+use Rattle.std.specs.Prelude.{Bool, true, false, List, [], ◌∷◌}
 use Rattle.rule_scanner.specs.Writing.{upper_said}
-use Rattle.trees.specs.declared.Word.{Word}
 use Rattle.rule_scanner.specs.declared.symbols.Symbol.{Symbol}
 use Rattle.rule_scanner.specs.declared.symbols.Symbol.TheVariants.{Name, Number, Left, Right, Opens, Closes, Comma, Star, Bad, End}
 

@@ -10,7 +10,7 @@ use trees::Word;
 
 // How far a reader is: what is wanted, how many brackets are open, whether the guarantees are being read, how many
 // properties of the section are still to come, its rows and properties so far, and those of the section before.
-#[derive(Drop)]
+#[derive(Clone, Copy)]
 pub struct Pass {
     pub mode: Mode,
     pub depth: usize,
@@ -23,7 +23,7 @@ pub struct Pass {
 }
 
 // What a text comes to: the place of the first symbol that cannot stand there; or how many rows, assumes and guarantees.
-#[derive(Drop)]
+#[derive(Clone, Copy)]
 pub enum Scan {
     Wrong(usize),
     Right(usize, usize, usize),

@@ -34,7 +34,7 @@ const DIGIT: u64 = 2;
 const OTHER: u64 = 3;
 
 // A symbol. `Bad` is one that can stand nowhere, `End` the end of the text.
-#[derive(Drop)]
+#[derive(Clone, Copy)]
 pub enum Symbol {
     Name(Word),
     Number(u64),
@@ -49,7 +49,7 @@ pub enum Symbol {
 }
 
 // A symbol that was found: where it begins, and the place after it.
-#[derive(Drop)]
+#[derive(Clone, Copy)]
 pub struct Found {
     pub symbol: Symbol,
     pub at: usize,

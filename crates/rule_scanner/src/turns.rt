@@ -9,7 +9,7 @@ use numbers::MAX;
 use trees::Word;
 
 // What is wanted next.
-#[derive(Drop)]
+#[derive(Clone, Copy)]
 pub enum Mode {
     Count,
     Begin,
@@ -26,7 +26,7 @@ pub enum Mode {
 }
 
 // How many parts the innermost open operator still takes: any number, this one, this one and another.
-#[derive(Drop)]
+#[derive(Clone, Copy)]
 pub enum Form {
     Many,
     One,
@@ -34,7 +34,7 @@ pub enum Form {
 }
 
 // What a symbol does.
-#[derive(Drop)]
+#[derive(Clone, Copy)]
 pub enum Turn {
     Refused,
     Go(Mode),

@@ -2,7 +2,7 @@
 use Prim.Native.Nat.{ℕ, zero, suc, ◌+◌, ◌*◌, ◌≤◌, ◌<◌, min}
 use mathlib.Core.Path.{◌≡◌, refl, sym, ap, ap₂, ◌∙◌}
 use mathlib.Core.Logic.{◌⊎◌, ⊎_elim}
-use mathlib.Core.Bool.{Bool, true, false, cond, not, or_false, true≢false}
+use mathlib.Core.Bool.{Bool, true, false, cond, not, or-false, true≢false}
 use mathlib.Core.List.{List, []}
 use native.Mathlib.Omega.{arith}
 use lib.ListN.{length}
@@ -122,7 +122,7 @@ changed_under top (suc (suc (suc (suc k)))) l u c rs w f = union_under top l u (
 -- ---- `look_ahead`, arm by arm
 none_has : (l u t : ℕ) → has (union l u []) t ≡ within l u t
 unfolding has Canonical
-none_has l u t = union_has l u [] t tt ∙ or_false (within l u t)
+none_has l u t = union_has l u [] t tt ∙ or-false (within l u t)
 
 module _ (k l u c : ℕ) (rs : Runs) where
   -- the clock is in what is kept exactly where it is in the set

@@ -1,6 +1,8 @@
 // What a call does to one set: which change, whether the set will then hold the clock and whether there is room for it, and the
 // change itself. Whoever plans asks the first two, reading only. Whatever the change, runs that end before the clock that
 // the call leaves are dropped first.
+#![tactic(auto)]
+
 ghost use Rattle.std.specs.Prelude.{◌≡◌, true};
 ghost use Rattle.numset.specs.Runs.{SET_WORDS, has, fits};
 ghost use Rattle.ring.specs.Ring.{ringed, Rolling, rolled, turn_after};

@@ -19,10 +19,10 @@ use Rattle.text.proofs.Few.{Small, few_words, small_ending}
 use Rattle.slip.proofs.Words.{ReadCall, call_read, call_back, sections_got}
 
 -- ---- words of calls
-pub all_words : (xs ys : List Call) → all_words (xs ++ ys) ≡ all_words xs ++ all_words ys
+pub all_words_lem : (xs ys : List Call) → all_words (xs ++ ys) ≡ all_words xs ++ all_words ys
 unfolding all_words
-all_words [] ys = refl
-all_words (k ∷ xs) ys = ap (λ l. call_words k ++ l) (all_words xs ys) ∙ sym (append_assoc (call_words k) (all_words xs) (all_words ys))
+all_words_lem [] ys = refl
+all_words_lem (k ∷ xs) ys = ap (λ l. call_words k ++ l) (all_words_lem xs ys) ∙ sym (append_assoc (call_words k) (all_words xs) (all_words ys))
 
 -- a call takes two words at least
 two_words : (k : Call) → 2 ≤ length (call_words k)

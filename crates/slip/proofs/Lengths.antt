@@ -1,5 +1,5 @@
 -- How long a report gets. Assumes nothing.
-use Prim.Native.Nat.{ℕ, zero, suc, ◌+◌, ◌*◌, ◌-◌, ◌≤◌, ◌<◌}
+use Prim.Native.Nat.{ℕ, zero, suc, ◌+◌, ◌*◌, ◌≤◌, ◌<◌}
 use native.Mathlib.Omega.{arith}
 use native.Mathlib.Decide.{dec_lt, ℕ_discrete}
 use borrow.Author.Tests.{eq-eqb, ne_eqb, lt-ltb}
@@ -38,7 +38,7 @@ use Rattle.report.specs.Report.{excess_words, book_line, stop_line, end_line, la
 use Rattle.summaries.proofs.Counting.{from_blank}
 use Rattle.slip.specs.Says.{sections_said, final_line}
 use Rattle.slip.specs.Longest.{most_calls, WORD_BYTES, COUNT_BYTES, LINE_BYTES, FIRST_BYTES, LAST_BYTES, SUMMARY_BYTES, END_BYTES, longest, longest_stopped}
-use Rattle.text.proofs.Few.{Small, few_words, small_ending}
+use Rattle.text.proofs.Few.{few_words, small_ending}
 use Rattle.slip.proofs.Words.{Few, sections_got, sections_refused}
 use Rattle.slip.proofs.Calls.{EndsSmall, after_read, few_calls}
 use Rattle.slip.proofs.Places.{lines_length as each_line, lines_loaded, lines_refused, lines_unread, whole_of, read_as}

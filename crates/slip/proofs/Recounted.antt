@@ -6,7 +6,7 @@ use mathlib.Core.Path.{◌≡◌, refl, sym, ap, subst, ◌∙◌}
 use mathlib.Core.List.{List, [], ◌∷◌, ◌++◌, map, map-append, append-nil, append_assoc}
 use lib.ListN.{length, get_or}
 use borrow.Author.Tests.{ne_eqb}
-use Rattle.numbers.specs.Refusals.{ACCEPTED, PAST_LIMIT}
+use Rattle.numbers.specs.Refusals.{ACCEPTED}
 use Rattle.lists.specs.Lists.{listed}
 use Rattle.pmtl.specs.Book.{Book, properties}
 use Rattle.pmtl.specs.Calls.{Outcome}
@@ -14,7 +14,7 @@ use Rattle.book.specs.declared.loading.Loading.{Loading}
 use Rattle.book.specs.declared.strict.Excess.{Excess}
 use Rattle.book.specs.declared.strict.Excess.TheVariants.{Within}
 use Rattle.ledger.specs.declared.Summary.{Summary}
-use Rattle.report.specs.Lines.{nothing, CallLine, Ending, end, stop, Line, book, called, summed, last, line_of, lines}
+use Rattle.report.specs.Lines.{CallLine, Ending, end, stop, Line, book, called, summed, last, line_of, lines}
 use Rattle.summaries.specs.Recount.{recount}
 use Rattle.summaries.proofs.Theorems.{none_failed}
 use Rattle.slip.specs.Back.{Proper, AllProper}

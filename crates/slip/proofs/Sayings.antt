@@ -1,7 +1,7 @@
 -- What a word on an accepted call's line says: the answers after the calls up to that line. Assumes nothing.
 use Prim.Native.Nat.{ℕ, suc, ◌+◌, ◌-◌, ◌≤◌, ◌<◌}
 use native.Mathlib.Omega.{arith}
-use mathlib.Core.Path.{◌≡◌, refl, sym, ap, subst, ◌∙◌}
+use mathlib.Core.Path.{◌≡◌, sym, ap, subst, ◌∙◌}
 use mathlib.Core.List.{List, [], ◌++◌, reverse, reverse-append}
 use lib.ListN.{length, get_or, take, drop}
 use lib.Seq.{take-add}
@@ -17,7 +17,7 @@ use Rattle.book.specs.Loading.{way_in}
 use Rattle.lasts.specs.Flat.{Fit}
 use Rattle.lasts.proofs.Loaded.{sections_fit, empty_fit}
 use Rattle.property_answers.specs.Verdict.{verdict_in}
-use Rattle.report.specs.Lines.{PropertyWord, nothing, words_in, count_in, CallLine, book, word_of, line_of, lines}
+use Rattle.report.specs.Lines.{PropertyWord, nothing, words_in, count_in, CallLine, word_of, line_of, lines}
 use Rattle.slip.specs.Says.{loaded_of, book_said, calls_said, first_calls, missing_call, Says}
 use Rattle.summaries.specs.Recount.{no_word}
 use Rattle.slip.proofs.Places.{one_more, CalledLine, called_line}

@@ -15,7 +15,7 @@ use Rattle.pmtl.specs.declared.Answer.{Answer}
 use Rattle.pmtl.specs.declared.Answer.TheVariants.{False, True, Open}
 use Rattle.pmtl.specs.Answer.{digit_of, bit_of, known}
 use Rattle.pmtl.specs.Sets.{Way, lasting}
-use Rattle.pmtl.specs.Monitor.{fullest, value}
+use Rattle.pmtl.specs.Monitor.{fullest}
 use Rattle.pmtl.specs.Settled.{settled}
 use Rattle.pmtl.specs.Calls.{after_in}
 use Rattle.pmtl.specs.Meaning.{meaning}

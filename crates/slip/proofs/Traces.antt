@@ -32,7 +32,7 @@ use Rattle.summaries.proofs.Theorems.{refused_line_no_trace}
 use Rattle.slip.specs.Says.{sections_said, words_after, calls_said, no_line, missing_call, recounts, closing}
 use Rattle.slip.specs.TakenOut.{call_words, all_words, Fits, AllFit, CallAt, TakenOut, lower_from, lowered, without, unsummed}
 use Rattle.text.proofs.Few.{small_ending}
-use Rattle.slip.proofs.Calls.{all_words, Heard, calls_read, calls_then, first_call, first_calls_lem}
+use Rattle.slip.proofs.Calls.{all_words_lem, Heard, calls_read, calls_then, first_call, first_calls_lem}
 use Rattle.slip.proofs.Places.{at_place, lines_length, lines_at, lines_recounted, loads_as, read_as, called_line}
 
 -- ---- lines of calls, one after the other
@@ -319,7 +319,7 @@ split_words j ks left h =
     let a = all_words (take j ks) in
     let k = call_words (get_or ks j missing_call) in
     let d = all_words (drop (suc j) ks) in
-    ap (λ xs. xs ++ left) (ap all_words (split_at ks j missing_call h) ∙ all_words (take j ks) (get_or ks j missing_call ∷ drop (suc j) ks))
+    ap (λ xs. xs ++ left) (ap all_words (split_at ks j missing_call h) ∙ all_words_lem (take j ks) (get_or ks j missing_call ∷ drop (suc j) ks))
     ∙ append_assoc a (k ++ d) left
     ∙ ap (λ l. a ++ l) (append_assoc k d left)
 

@@ -5,7 +5,7 @@ use Rattle.text.specs.Words.{space, line_feed, digit0, said}
 use Rattle.book.specs.declared.strict.Excess.{Excess}
 use Rattle.book.specs.declared.strict.Excess.TheVariants.{Within, Over}
 use Rattle.ledger.specs.declared.Summary.{Summary}
-use Rattle.report.specs.Lines.{PropertyWord, Rest, nothing, told, CallLine, end, stop, Line, book, called, summed, last}
+use Rattle.report.specs.Lines.{PropertyWord, Rest, nothing, told, end, stop, Line, book, called, summed, last}
 use Rattle.report.specs.Report.{book_word, stop_word}
 
 -- a byte more at the front of the first piece

@@ -1,6 +1,8 @@
 // Reads standard input and prints its report, the book loaded strictly: of one that is accepted no line ever says 11.
+#![tactic(auto)]
+
 use book::loading::Loading;
 
-fn main() {
-    reporter::run(Loading::Strict);
+fn main(rt: HostRuntime) {
+    reporter::run(&rt, Loading::Strict);
 }

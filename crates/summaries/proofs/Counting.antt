@@ -1,5 +1,5 @@
 -- The ledger after calls is what a recount of their lines comes to, as far as calls are counted. Assumes nothing.
-use Prim.Native.Nat.{ℕ, zero, suc, ◌+◌, ◌-◌, ◌<◌, ◌≤◌, min}
+use Prim.Native.Nat.{ℕ, zero, suc, ◌+◌, ◌<◌, ◌≤◌, min}
 use native.Mathlib.Omega.{arith}
 use native.Mathlib.Decide.{dec_lt, ℕ_discrete}
 use mathlib.Core.Path.{◌≡◌, refl, sym, ap, ◌∙◌}
@@ -39,9 +39,9 @@ unfolding recount accepted_of numbers_if longest_of open_from
 tally_none b = ap (λ es. record { number = 0; accepted = 0; entries = es }) (sym (listed_all (λ p. entry_from p []) no_entry (length (properties b)) (λ p h. refl)))
 
 -- ---- one call more, and its line
-word_on : (b : Book) (i : ℕ) (o : Outcome) → o.number ≡ ACCEPTED → (p : ℕ) → p < length (properties b) → word_on p (line_of b i o) ≡ word_of (verdict_in b o.state p)
+word_on_lem : (b : Book) (i : ℕ) (o : Outcome) → o.number ≡ ACCEPTED → (p : ℕ) → p < length (properties b) → word_on p (line_of b i o) ≡ word_of (verdict_in b o.state p)
 unfolding line_of
-word_on b i o e p inside = rw (eq-eqb o.number ACCEPTED e) (listed_at (λ p. word_of (verdict_in b o.state p)) no_word (length (properties b)) p inside)
+word_on_lem b i o e p inside = rw (eq-eqb o.number ACCEPTED e) (listed_at (λ p. word_of (verdict_in b o.state p)) no_word (length (properties b)) p inside)
 
 module _ (b : Book) (o : Outcome) (ls : List CallLine) (ok : Numbered ls) where
   abbrev line : CallLine
@@ -57,7 +57,7 @@ module _ (b : Book) (o : Outcome) (ls : List CallLine) (ok : Numbered ls) where
   entry_now : o.number ≡ ACCEPTED → (p : ℕ) → p < length (properties b) → noted_at b o (tally b ls) p ≡ entry_from p (ls ++ line ∷ [])
   unfolding verdict_in line_of
   entry_now e p inside =
-      let w = word_on b (suc (length ls)) o e p inside in
+      let w = word_on_lem b (suc (length ls)) o e p inside in
       rw (tally_entry b ls p inside)
       (sym (entry_accepted p ls line ok e (value b.rows o.state (property_at b p)) (ap (λ w. w.value) w) (settled b.rows o.state (property_at b p)) (ap (λ w. w.settled) w)))
 

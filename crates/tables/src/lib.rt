@@ -1,4 +1,6 @@
 // The tables of a monitor's memory, worked out from the book, the clock, the atoms and the sets.
+#![tactic(auto)]
+
 ghost use Rattle.std.specs.Prelude.{◌≡◌, cond, ◌&&◌, map, ◌+◌, ◌≤◌, ◌<◌, min, max, length, leb, ltb};
 ghost use Rattle.ring.specs.Ring.{ringed, Rolling};
 ghost use Rattle.pmtl.specs.Sets.{gone};
@@ -173,7 +175,7 @@ fn lower_row(a: usize, b: usize) -> usize
 }
 
 // The rows whose sets are told something new lie from `first` up to `end`; where `end` is 0 there are none.
-#[derive(Drop)]
+#[derive(Clone, Copy)]
 pub struct News {
     pub first: usize,
     pub end: usize,

@@ -234,9 +234,9 @@ module _ (s : List ℕ) (at i n d : ℕ) (g : Going s at i n) (e : d ≡ kind_at
     sized : length (letters (drop at s)) ≡ i - at
     sized = omega (arith, g.size ∙ ap (λ (x : List ℕ). (i - at) + length x) ends)
 
-    all_digits : all_digits (letters (drop at s)) ≡ true
+    all_digits_lem : all_digits (letters (drop at s)) ≡ true
     unfolding all_digits
-    all_digits = g.digs ∙ rw ends
+    all_digits_lem = g.digs ∙ rw ends
 
     says_n : said 0 (letters (drop at s)) ≡ n
     unfolding said
@@ -245,11 +245,11 @@ module _ (s : List ℕ) (at i n d : ℕ) (g : Going s at i n) (e : d ≡ kind_at
     is_good : (b : ℕ) (w : List ℕ) → letters (drop at s) ≡ b ∷ w → (b ≡ 48 → ⊥) → good (letters (drop at s)) ≡ true
     unfolding good all_digits plain pick
     is_good b w ls y =
-        let d : digit b ≡ true = (both_hold (digit b) (all_digits w) (rw ls at all_digits)).0 in
+        let d : digit b ≡ true = (both_hold (digit b) (all_digits w) (rw ls at all_digits_lem)).0 in
         let l : 48 < b = omega (arith, (within_digits b d).0) in
         let v : said 0 (letters (drop at s)) ≤ MAX = omega (arith, says_n) in
         let k : length (b ∷ w) ≤ most_digits = few b w l (rw ls at v) in
-        rw (all_digits, says_n, le-leb n MAX f, ls, le-leb (length (b ∷ w)) most_digits k, ne_eqb b 48 y)
+        rw (all_digits_lem, says_n, le-leb n MAX f, ls, le-leb (length (b ∷ w)) most_digits k, ne_eqb b 48 y)
 
     pub is_word : Word n i ≡ word_here (drop at s) at
     is_word =

@@ -1,6 +1,6 @@
 -- REFERENCE 7.3: numbers in decimal digits. Definitions only.
 use Rattle.std.specs.Prelude.{◌≡◌, ℕ, zero, suc, ◌+◌, ◌-◌, ◌/◌, ◌%◌, Bool, true, false, List, [], ◌∷◌, ◌++◌, length, take, drop, ◌==◌, nat_le}
-use Rattle.std.specs.Borrow.{Bor}
+use Rattle.std.specs.Borrow.{MutBor}
 use Rattle.text.specs.Words.{digit0, pick}
 
 -- l where the test holds, else what f makes of d, which is not computed before
@@ -35,6 +35,6 @@ pub record Counted (n : ℕ) (m : List ℕ) (first : ℕ) : Type 0 where
   pub digits : drop first m ≡ decimal n
 
 -- r is a last part of s: it lies in the same memory, and ends where s ends
-pub record LastOf (s r : Bor (List ℕ)) : Type 0 where
+pub record LastOf (s r : MutBor (List ℕ)) : Type 0 where
   pub block : r.ref_ptr.0 ≡ s.ref_ptr.0
   pub ends : r.ref_ptr.1 + length r.now ≡ s.ref_ptr.1 + length s.now

@@ -1,4 +1,6 @@
 // Text, REFERENCE 7: its words, read forwards, and its numbers, written in decimal digits.
+#![tactic(auto)]
+
 mod decimals;
 mod words;
 

@@ -33,7 +33,7 @@ const MAX_TENTH: u64 = MAX / TEN;
 const MAX_LAST: u64 = MAX % TEN;
 
 // What reading finds: a word and the place after it, or the number that ends the reading.
-#[derive(Drop)]
+#[derive(Clone, Copy)]
 pub enum Read {
     Word(u64, usize),
     Refused(u64),

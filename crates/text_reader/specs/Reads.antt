@@ -3,7 +3,7 @@ use Rattle.std.specs.Prelude.{◌≡◌, ℕ, ◌+◌, ◌-◌, ◌*◌, ◌<◌
 use Rattle.text.specs.Words.{parts, Supply, supply_from}
 use Rattle.text.specs.declared.words.Read as text
 use Rattle.numbers.specs.Limits.{MOST_ATOMS}
-use Rattle.book.specs.Reading.{Read, got, refused, section, Sections, sections}
+use Rattle.book.specs.Reading.{got, refused, section, Sections, sections}
 use Rattle.text_reader.specs.declared.Part.{Part}
 use Rattle.text_reader.specs.declared.Part.TheVariants.{Words, Refused}
 use Rattle.numbers.specs.Refusals.{ACCEPTED, WRONG_LENGTH, BAD_WORD}

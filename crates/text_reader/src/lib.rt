@@ -1,4 +1,6 @@
 // The book and the states of a text, read word by word into lent memory.
+#![tactic(auto)]
+
 ghost use Rattle.std.specs.Prelude.{◌≡◌, ◌+◌, ◌*◌, ◌%◌, ◌<◌, ◌≤◌, min, max, true, length, slice_index};
 ghost use Rattle.numbers.specs.Limits.{MOST_ATOMS};
 ghost use Rattle.text.specs.Words.{parts, supply_from};
@@ -40,7 +42,7 @@ const NARROW: usize = 16;
 
 // What was read: the words stand in the memory up to a place, and the next word is looked for from another in the text; or
 // the number that ends the reading.
-#[derive(Drop)]
+#[derive(Clone, Copy)]
 pub enum Part {
     Words(usize, usize),
     Refused(u64),

@@ -1,5 +1,5 @@
 -- Laws of what the program that tidies a book prints. Assumes nothing.
-use Prim.Native.Nat.{ℕ, ◌+◌, ◌≤◌, ◌<◌}
+use Prim.Native.Nat.{ℕ, ◌≤◌, ◌<◌}
 use mathlib.Core.Path.{◌≡◌, refl, sym, ap, ap₂, ◌∙◌}
 use mathlib.Core.List.{List, ◌++◌}
 use mathlib.Core.Logic.{⊎_elim}
@@ -9,7 +9,6 @@ use borrow.Author.Tests.{lt-ltb, le-ltb, eq-eqb, ne_eqb}
 use Rattle.numbers.specs.Limits.{LONGEST_INPUT}
 use Rattle.numbers.specs.Refusals.{ACCEPTED, PAST_LIMIT}
 use Rattle.text.specs.Words.{supply_from}
-use Rattle.book.specs.Reading.{refused}
 use Rattle.book.specs.Judging.{loaded, loaded_from, whole}
 use Rattle.book_writer.specs.Layout.{book_word, book_said}
 use Rattle.text_reader.specs.Reads.{left_in, left_over, BookTook, BookRead}

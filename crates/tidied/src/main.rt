@@ -1,4 +1,6 @@
 // Reads a book in words and steps from standard input and prints the tidied book, or what is refused.
+#![tactic(auto)]
+
 ghost use Rattle.std.specs.Prelude.{◌≡◌, ◌≤◌, length};
 ghost use Rattle.numbers.specs.Limits.{LONGEST_INPUT};
 ghost use Rattle.numbers.specs.Refusals.{ACCEPTED};
@@ -130,21 +132,21 @@ fn answer(input: &[u8], out: &mut [u8]) -> u64
     finished(out, end)
 }
 
-fn show(input: &[u8], out: &mut [u8]) {
+fn show(rt: &(impl Print + Eprint), input: &[u8], out: &mut [u8]) {
     let length = answer(input, out) as usize;
     if out.len() < length {
-        console::complain(b"No room holds the answer.");
+        console::complain(rt, b"No room holds the answer.");
         return;
     }
-    console::print(&out[..length]);
+    console::print(rt, &out[..length]);
 }
 
-fn main() {
+fn main(rt: HostRuntime) {
     let mut input = [0u8; ROOM];
-    let came = console::read_all(&mut input);
+    let came = console::read_all(&rt, &mut input);
     let Came::Bytes(n) = came else {
         return;
     };
     let mut out = [0u8; LONGEST_ANSWER];
-    show(&input[..n], &mut out);
+    show(&rt, &input[..n], &mut out);
 }

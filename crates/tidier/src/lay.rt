@@ -18,7 +18,7 @@ use trees::walk::{count_at, operand_at};
 
 // How many rows there are so far, how many operands, and how many rows that no other has taken yet. More than MOST_ROWS
 // rows are not laid: the book has grown too long, and nothing is known of the rest.
-#[derive(Drop)]
+#[derive(Clone, Copy)]
 pub struct Laid {
     pub rows: usize,
     pub operands: usize,
@@ -27,7 +27,7 @@ pub struct Laid {
 
 // Where a walk stands: the step; the row whose parts are laid, and how many of them are left; how many rows no other had
 // taken when it came to that row; and what is laid.
-#[derive(Drop)]
+#[derive(Clone, Copy)]
 pub struct Site {
     pub step: Step,
     pub row: usize,

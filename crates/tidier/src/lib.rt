@@ -1,4 +1,6 @@
 // Tidies a book: makes steps that fit, and refuses others, whoever proposed them.
+#![tactic(auto)]
+
 pub mod fit;
 pub mod lay;
 pub mod tidy;

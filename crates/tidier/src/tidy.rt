@@ -18,7 +18,7 @@ use trees::book_words::{Counts, MOST_WORDS, put_sections};
 const STEP_WORDS: usize = 2;
 
 // What a step came to: what it is refused with, 0 where nothing is wrong, and how many words the book after it has.
-#[derive(Drop)]
+#[derive(Clone, Copy)]
 pub struct Stepped {
     pub number: u64,
     pub length: usize,
@@ -26,7 +26,7 @@ pub struct Stepped {
 
 // What a list of steps came to: what it is refused with and at which step, counted from 1, or 0 where it is the book that is
 // refused; both 0 where nothing is wrong; and how many words the new book has, 0 where there is none.
-#[derive(Drop)]
+#[derive(Clone, Copy)]
 pub struct Tidied {
     pub number: u64,
     pub step: usize,

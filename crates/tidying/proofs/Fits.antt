@@ -10,7 +10,7 @@ use lib.Dec.{eqb, ltb}
 use borrow.Author.Tests.{eqb-true, ltb-true}
 use Rattle.lists.proofs.Tests.{and_left, and_right}
 use Rattle.pmtl.specs.Book.{Range, Row, Rows, row_at, Ordered}
-use Rattle.pmtl.specs.Book.Row.{atom, conj, disj, neg, implies, historically}
+use Rattle.pmtl.specs.Book.Row.{conj, disj, neg, implies, historically}
 use Rattle.trees.specs.Forest.{Head, head_of}
 use Rattle.trees.specs.Numbered.{row_with}
 use Rattle.trees.specs.Building.{kind_of, word_of}

@@ -1,7 +1,7 @@
 -- A flat book stays flat: a temporal row lies below another in the book after a step exactly where one did before it. Assumes nothing.
 use Prim.Native.Nat.{ℕ, ◌<◌}
 use mathlib.Core.Path.{◌≡◌, refl, sym, ap, ap₂, ◌∙◌}
-use mathlib.Core.Bool.{Bool, true, false, not, ◌&&◌, ◌||◌, or_false}
+use mathlib.Core.Bool.{Bool, true, false, not, ◌&&◌, ◌||◌, or-false}
 use mathlib.Core.List.{List, [], ◌∷◌, ◌++◌}
 use lib.ListN.{length}
 use lib.Dec.{ltb}
@@ -40,10 +40,10 @@ module _ (b : Rows) (w : Ordered b) (s : Step) (fit : fits b s ≡ true)
   move_laws = record {
     by_same = λ row row' i i' k y p. move_in b w i ∙ ap move_rule (rows_alike row row' k p) ∙ sym (move_in b' w' i');
     by_not_not = λ i j e. move_in b w i ∙ move_in b w j ∙ e;
-    by_and = λ {r} {o} i e. move_in b w i ∙ or_false (moves b o) ∙ e;
-    by_or = λ {r} {o} i e. move_in b w i ∙ or_false (moves b o) ∙ e;
+    by_and = λ {r} {o} i e. move_in b w i ∙ or-false (moves b o) ∙ e;
+    by_or = λ {r} {o} i e. move_in b w i ∙ or-false (moves b o) ∙ e;
     by_implies = λ {r} {x} {y} {r'} {n} {x'} {y'} z i i₁ i₂ p q. move_in b w i ∙ ap₂ ◌||◌ p q
-        ∙ sym (move_in b' w' i₁ ∙ ap₂ ◌||◌ (move_in b' w' i₂) (or_false (moves b' y')));
+        ∙ sym (move_in b' w' i₁ ∙ ap₂ ◌||◌ (move_in b' w' i₂) (or-false (moves b' y')));
     by_history = λ i i₁ i₂ i₃ y e. move_in b w i ∙ sym (move_in b' w' i₁ ∙ move_in b' w' i₂);
   }
 

@@ -8,7 +8,7 @@ use lib.ListN.{length, length-map}
 use lib.Dec.{eqb}
 use borrow.Author.Tests.{eqb-true, eqb-false, eq-eqb, ne_eqb}
 use Rattle.pmtl.specs.Book.{Range, Row, Rows, row_at, AllBelow, Ordered}
-use Rattle.pmtl.specs.Book.Row.{atom, conj, disj, neg, implies, historically}
+use Rattle.pmtl.specs.Book.Row.{conj, disj, neg, implies, historically}
 use Rattle.pmtl.proofs.Table.{by_rows, answer_in}
 use Rattle.book.specs.Judging.{arg_good, form_good, range_good}
 use Rattle.trees.specs.Forest.{Head, head_of, Forest, none, tree, one, ◌then◌, count, Fit, Good}

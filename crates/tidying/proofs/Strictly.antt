@@ -1,9 +1,9 @@
 -- A strict book stays strict: no row of the book after a step can need more runs than a set may have, where none could before it.
 -- Assumes nothing.
-use Prim.Native.Nat.{ℕ, ◌+◌, ◌≤◌}
+use Prim.Native.Nat.{ℕ, ◌≤◌}
 use Rattle.lists.proofs.Tests.{lt_or_ge}
 use mathlib.Core.Path.{◌≡◌, refl, sym, ap, ◌∙◌}
-use mathlib.Core.Logic.{⊎_elim, ◌⊎◌}
+use mathlib.Core.Logic.{⊎_elim}
 use mathlib.Core.Bool.{Bool, true, false}
 use mathlib.Core.List.{[], map, map-append}
 use native.Mathlib.Omega.{arith}

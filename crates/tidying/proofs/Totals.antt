@@ -31,7 +31,6 @@ use Rattle.trees.proofs.Books.{parts_map}
 use Rattle.trees.proofs.Judged.{HeadGood}
 use Rattle.trees.proofs.Sections.{rows_there, operands_at, parts_are, book_ordered}
 use Rattle.trees.proofs.Sums.{sum_to, sum_over, sum_append, properties_weigh}
-use Rattle.tidying.specs.declared.Form.TheVariants as form
 use Rattle.tidying.specs.declared.Step.{Step}
 use Rattle.tidying.specs.Steps.{parts_at, fits}
 use Rattle.tidying.proofs.Fits.{In}

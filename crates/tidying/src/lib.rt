@@ -1,10 +1,12 @@
 // Steps that tidy a book. The definitions (specs/) say what a step makes of a book, the theorems (proofs/Theorems) what it keeps.
+#![tactic(auto)]
+
 ghost use Rattle.std.specs.Prelude.{◌≡◌};
 ghost use Rattle.tidying.specs.Steps.{form_of};
 
 // The forms of a step: not(not(x)) to x; an and, or an or, of one part to that part; implies(x,y) to or(not(x),y); hist to
 // not, once and not; and none of these.
-#[derive(Drop)]
+#[derive(Clone, Copy)]
 pub enum Form {
     Nots,
     Single,
@@ -14,7 +16,7 @@ pub enum Form {
 }
 
 // A step: its form, and the row that it names.
-#[derive(Drop)]
+#[derive(Clone, Copy)]
 pub struct Step {
     pub form: Form,
     pub row: usize,

@@ -1,7 +1,7 @@
 -- The words of numbered properties are accepted where their heads are and there are not too many. Assumes nothing.
-use Prim.Native.Nat.{ℕ, zero, suc, ◌+◌, ◌*◌, ◌-◌, ◌/◌, ◌≤◌, ◌<◌}
+use Prim.Native.Nat.{ℕ, zero, suc, ◌+◌, ◌*◌, ◌-◌, ◌≤◌, ◌<◌}
 use mathlib.Core.Path.{◌≡◌, refl, sym, ap, ◌∙◌}
-use mathlib.Core.Bool.{Bool, true, false, cond, not, ◌&&◌}
+use mathlib.Core.Bool.{Bool, true, false, ◌&&◌}
 use mathlib.Core.List.{List, [], ◌∷◌, ◌++◌, append-nil}
 use native.Mathlib.Omega.{arith}
 use native.Mathlib.Decide.{dec_lt}
@@ -17,14 +17,14 @@ use Rattle.pmtl.specs.Answer.{bit_of}
 use Rattle.pmtl.specs.Book.{AllBelow, every}
 use Rattle.book.specs.Reading.{Sections, got, sections, section, next}
 use Rattle.book.specs.Rows.{count_of, temporal}
-use Rattle.book.specs.Judging.{kind_in, arg_in, lower_in, upper_in, rows_in, start_in, temporals_in, first_of, first_to, all_to, form_good, range_good, row_number, operands_good, links_good, times_in, uses_of, used_once, judged, loaded_from, whole, loaded}
+use Rattle.book.specs.Judging.{kind_in, arg_in, lower_in, upper_in, rows_in, start_in, temporals_in, first_to, all_to, form_good, range_good, row_number, operands_good, links_good, times_in, uses_of, used_once, judged, whole, loaded}
 use Rattle.book.proofs.Placing.{number_judged}
 use Rattle.book.proofs.Uses.{times_append}
-use Rattle.trees.specs.Forest.{Head, Forest, none, tree, ◌then◌, count, size, roots, Entry, entries, Fit, Good}
+use Rattle.trees.specs.Forest.{Head, Forest, none, tree, ◌then◌, count, size, roots, Entry, entries, Good}
 use Rattle.trees.specs.Building.{kind_of, arg_of, all_rows, all_operands, words_of}
-use Rattle.trees.proofs.Numbered.{entries_length, roots_length, size_then, roots_then, roots_below, below_more, below_at, good_then}
-use Rattle.trees.proofs.Built.{rows_length, operands_append, count_then}
-use Rattle.trees.proofs.Words.{no as gap, FitE, AllFit, fit_at, entries_fit, count_fits, kind_at_lem, arg_at_lem, lower_at_lem, upper_at_lem, start_at_lem, section_got, said}
+use Rattle.trees.proofs.Numbered.{entries_length, roots_length, roots_then, roots_below, below_at, good_then}
+use Rattle.trees.proofs.Built.{rows_length, operands_append}
+use Rattle.trees.proofs.Words.{no as gap, AllFit, fit_at, entries_fit, count_fits, kind_at_lem, arg_at_lem, lower_at_lem, upper_at_lem, start_at_lem, section_got, said}
 use Rattle.trees.proofs.Sums.{weight}
 
 -- ---- each entry, by its row

@@ -1,21 +1,19 @@
 -- Rows mean what their properties mean. Assumes nothing.
 use Prim.Native.Nat.{ℕ, zero, suc, ◌+◌, ◌≤◌, ◌<◌}
 use mathlib.Core.Path.{◌≡◌, refl, sym, ap, ◌∙◌, fun_ext}
-use mathlib.Core.Bool.{Bool, true, false}
-use mathlib.Core.Logic.{◌⊎◌, inl, inr, ⊎_elim}
+use mathlib.Core.Bool.{false}
 use mathlib.Core.List.{List, [], ◌∷◌, ◌++◌, append-nil, append_assoc, map, map-append}
 use native.Mathlib.Omega.{arith}
 use native.Mathlib.Decide.{dec_lt}
-use lib.ListN.{length, get_or, length-append, length-map, replicate, get_or-map, get_or-append, get_or-eq_default}
-use lib.Seq.{get_or_at, get_or-append-add}
-use Rattle.pmtl.specs.Book.{Range, Row, map_row, Rows, row_at, Book, AllBelow, Below, Ordered, answer}
+use lib.ListN.{length, get_or, length-append, length-map, replicate, get_or-map, get_or-eq_default}
+use lib.Seq.{get_or_at}
+use Rattle.pmtl.specs.Book.{Row, map_row, Rows, row_at, AllBelow, Below, Ordered, answer}
 use Rattle.pmtl.specs.Book.Row.{never, always, atom, conj, disj, neg, implies, historically, once, since}
 use Rattle.pmtl.specs.Book.{width_of}
-use Rattle.pmtl.specs.Calls.{History, now_of}
-use Rattle.pmtl.specs.Monitor.{fresh}
-use Rattle.pmtl.specs.Meaning.{Fact, instants, meaning_rule, meaning}
+use Rattle.pmtl.specs.Calls.{History}
+use Rattle.pmtl.specs.Meaning.{Fact, meaning_rule, meaning}
 use Rattle.pmtl.proofs.Table.{answer_in}
-use Rattle.trees.specs.Forest.{Head, Forest, none, tree, one, ◌then◌, count, size, roots, Entry, entries, Fit, Good}
+use Rattle.trees.specs.Forest.{Head, Forest, none, tree, ◌then◌, count, size, roots, entries, Fit, Good}
 use Rattle.trees.specs.Numbered.{row_with, row_of, rows_from, book_of, folded, meanings}
 use Rattle.trees.specs.declared.Word.{Word}
 use Rattle.trees.specs.declared.Word.TheVariants.{False, True, Atom, And, Or, Not, Implies, Hist, Once, Since}

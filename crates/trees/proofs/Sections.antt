@@ -1,7 +1,6 @@
 -- The rows that accepted words say: their heads and their parts, word by word. Assumes nothing.
-use Prim.Native.Nat.{ℕ, zero, suc, ◌+◌, ◌≤◌, ◌<◌}
-use mathlib.Core.Path.{◌≡◌, refl, sym, ap, ◌∙◌}
-use mathlib.Core.Bool.{true}
+use Prim.Native.Nat.{ℕ, zero, suc, ◌≤◌, ◌<◌}
+use mathlib.Core.Path.{◌≡◌, refl, ap, ◌∙◌}
 use mathlib.Core.List.{List, [], ◌∷◌}
 use native.Mathlib.Omega.{arith}
 use native.Mathlib.Decide.{dec_lt}
@@ -9,12 +8,12 @@ use lib.ListN.{length, get_or, take, drop, length-drop}
 use lib.Seq.{get_or-drop}
 use Rattle.lists.specs.Lists.{part}
 use Rattle.lists.proofs.Listed.{listed_length, listed_at}
-use Rattle.pmtl.specs.Book.{Range, Row, Rows, row_at, AllBelow, Below, Ordered}
+use Rattle.pmtl.specs.Book.{Row, row_at, AllBelow, Below, Ordered}
 use Rattle.pmtl.specs.Book.Row.{never, always, atom, conj, disj, neg, implies, historically, once, since}
 use Rattle.pmtl.proofs.Table.{row_out}
 use Rattle.book.specs.Reading.{Sections}
 use Rattle.book.specs.Rows.{row_from, count_of}
-use Rattle.book.specs.Judging.{kind_in, arg_in, lower_in, upper_in, rows_in, start_in, form_good, judged, row_in, book_in}
+use Rattle.book.specs.Judging.{kind_in, arg_in, lower_in, upper_in, rows_in, start_in, judged, row_in, book_in}
 use Rattle.book.proofs.Accepted.{form, form_kind, bounds_none, operands_there, operand_below}
 use Rattle.trees.specs.Forest.{Head, head_of}
 use Rattle.trees.specs.Building.{word_of, atom_of}

@@ -1,26 +1,26 @@
 -- The words of numbered properties say their book. Assumes nothing.
-use Prim.Native.Nat.{ℕ, zero, suc, ◌+◌, ◌*◌, ◌-◌, ◌/◌, ◌≤◌, ◌<◌}
+use Prim.Native.Nat.{ℕ, zero, suc, ◌+◌, ◌*◌, ◌≤◌, ◌<◌}
 use mathlib.Core.Path.{◌≡◌, refl, sym, ap, ◌∙◌}
 use mathlib.Core.Bool.{Bool, true, false}
-use mathlib.Core.List.{List, [], ◌∷◌, ◌++◌, append-nil, append_assoc, map, map-append}
+use mathlib.Core.List.{List, [], ◌∷◌, ◌++◌, append-nil, map, map-append}
 use native.Mathlib.Omega.{arith}
 use lib.ListN.{length, get_or, take, drop, length-append, get_or-append}
-use lib.Seq.{take_at, drop_at, take-suc, split_at, get_or-append-add, length-take-le, take-length}
-use Rattle.pmtl.specs.Book.{Row, Book}
+use lib.Seq.{take_at, drop_at, take-suc, split_at, get_or-append-add, take-length}
+use Rattle.pmtl.specs.Book.{Book}
 use Rattle.book.specs.Rows.{row_from, count_of}
 use Rattle.lists.specs.Lists.{listed}
 use mathlib.Core.Bool.{cond}
 use mathlib.Core.Logic.{◌⊎◌, inl, inr, ⊎_elim}
 use lib.Dec.{ltb, eqb}
-use borrow.Author.Tests.{le-ltb, eqb-true, eqb-false}
+use borrow.Author.Tests.{le-ltb, eqb-false}
 use Rattle.book.specs.Reading.{Sections, got, refused, section, sections, next}
 use Rattle.trees.specs.Building.{words_of}
 use Rattle.book.specs.Judging.{kind_in, arg_in, lower_in, upper_in, rows_in, start_in, row_in, book_in, judged, loaded_from, whole, loaded}
-use Rattle.trees.specs.Forest.{Head, head_of, Forest, none, tree, one, ◌then◌, count, size, roots, Entry, entries, Fit, Good}
+use Rattle.trees.specs.Forest.{head_of, Forest, none, tree, ◌then◌, count, size, roots, Entry, entries, Fit, Good}
 use Rattle.trees.specs.Numbered.{row_with, row_of, rows_from, book_of}
 use Rattle.trees.specs.Building.{kind_of, arg_of, row_words, all_rows, all_operands}
 use Rattle.trees.proofs.Numbered.{entries_length, roots_length, good_then}
-use Rattle.trees.proofs.Built.{rows_append, operands_append, rows_length}
+use Rattle.trees.proofs.Built.{operands_append, rows_length}
 use Rattle.trees.specs.declared.Word.{Word}
 use Rattle.trees.specs.declared.Word.TheVariants.{False, True, Atom, And, Or, Not, Implies, Hist, Once, Since}
 
@@ -102,18 +102,18 @@ start_at_lem es (suc r) h a =
 first_in : (xs ys : List ℕ) (i : ℕ) → i < length xs → get_or (xs ++ ys) i 0 ≡ get_or xs i 0
 first_in xs ys i h = get_or-append xs ys 0 i h
 
-row_from : (w : Word) (a l u : ℕ) (xs ys : List ℕ) → Fit w a l u (length xs) → row_from (kind_of w) (arg_of w a (length xs)) l u (xs ++ ys) ≡ row_with 0 (head_of w a l u) xs
+row_from_lem : (w : Word) (a l u : ℕ) (xs ys : List ℕ) → Fit w a l u (length xs) → row_from (kind_of w) (arg_of w a (length xs)) l u (xs ++ ys) ≡ row_with 0 (head_of w a l u) xs
 unfolding row_from row_with
-row_from False a l u xs ys f = refl
-row_from True a l u xs ys f = refl
-row_from Atom a l u xs ys f = refl
-row_from And a l u xs ys f = rw (take_at xs ys (length xs) refl)
-row_from Or a l u xs ys f = rw (take_at xs ys (length xs) refl)
-row_from Not a l u xs ys f = rw (first_in xs ys 0 (omega arith))
-row_from Implies a l u xs ys f = rw (first_in xs ys 0 (omega arith), first_in xs ys 1 (omega arith))
-row_from Hist a l u xs ys f = rw (first_in xs ys 0 (omega arith))
-row_from Once a l u xs ys f = rw (first_in xs ys 0 (omega arith))
-row_from Since a l u xs ys f = rw (first_in xs ys 0 (omega arith), first_in xs ys 1 (omega arith))
+row_from_lem False a l u xs ys f = refl
+row_from_lem True a l u xs ys f = refl
+row_from_lem Atom a l u xs ys f = refl
+row_from_lem And a l u xs ys f = rw (take_at xs ys (length xs) refl)
+row_from_lem Or a l u xs ys f = rw (take_at xs ys (length xs) refl)
+row_from_lem Not a l u xs ys f = rw (first_in xs ys 0 (omega arith))
+row_from_lem Implies a l u xs ys f = rw (first_in xs ys 0 (omega arith), first_in xs ys 1 (omega arith))
+row_from_lem Hist a l u xs ys f = rw (first_in xs ys 0 (omega arith))
+row_from_lem Once a l u xs ys f = rw (first_in xs ys 0 (omega arith))
+row_from_lem Since a l u xs ys f = rw (first_in xs ys 0 (omega arith), first_in xs ys 1 (omega arith))
 
 -- the row at a place
 row_at_lem : (s : Sections) (es : List Entry) (r : ℕ) → s.rows ≡ all_rows es → s.operands ≡ all_operands es → r < length es → AllFit es → row_in s r ≡ row_of (get_or es r no)
@@ -122,7 +122,7 @@ row_at_lem s es r er eo h a =
     let e = get_or es r no in
     let p : all_operands es ≡ all_operands (take r es) ++ (e.operands ++ all_operands (drop (suc r) es)) = ap all_operands (split_at es r no h) ∙ operands_append (take r es) (e ∷ drop (suc r) es) in
     let d : drop (start_in (all_rows es) r) (all_operands es) ≡ e.operands ++ all_operands (drop (suc r) es) = ap (drop (start_in (all_rows es) r)) p ∙ drop_at (all_operands (take r es)) (e.operands ++ all_operands (drop (suc r) es)) (start_in (all_rows es) r) (sym (start_at_lem es r (omega arith) a)) in
-    rw (er, eo, d, kind_at_lem es r h, arg_at_lem es r h, lower_at_lem es r h, upper_at_lem es r h) (row_from e.head.word e.head.atom e.head.lower e.head.upper e.operands (all_operands (drop (suc r) es)) (fit_at es r h a))
+    rw (er, eo, d, kind_at_lem es r h, arg_at_lem es r h, lower_at_lem es r h, upper_at_lem es r h) (row_from_lem e.head.word e.head.atom e.head.lower e.head.upper e.operands (all_operands (drop (suc r) es)) (fit_at es r h a))
 
 rows_listed : (s : Sections) (es : List Entry) → s.rows ≡ all_rows es → s.operands ≡ all_operands es → AllFit es → (n : ℕ) → n ≤ length es → listed (row_in s) n ≡ map row_of (take n es)
 unfolding listed

@@ -2,7 +2,7 @@
 use Rattle.std.specs.Prelude.{ℕ, List, [], ◌∷◌, map}
 use Rattle.pmtl.specs.Book.{Row, Rows, answer}
 use Rattle.pmtl.specs.Book.Row.{never, always, atom, conj, disj, neg, implies, historically, once, since}
-use Rattle.trees.specs.Forest.{Head, head_of, Forest, none, tree, one, ◌then◌}
+use Rattle.trees.specs.Forest.{Head, head_of, Forest, none, one, ◌then◌}
 use Rattle.trees.specs.declared.Word.TheVariants.{False, True, Atom, And, Or, Not, Implies, Hist, Once, Since}
 
 -- how a row's property begins, and what stands for its parts, in order

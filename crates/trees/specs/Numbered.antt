@@ -1,5 +1,5 @@
 -- The rows of numbered properties, and what properties mean: REFERENCE 11.3. Definitions only.
-use Rattle.std.specs.Prelude.{ℕ, Bool, true, false, List, [], ◌∷◌, map, get_or}
+use Rattle.std.specs.Prelude.{ℕ, false, List, [], ◌∷◌, map, get_or}
 use Rattle.pmtl.specs.Book.{Range, Row, Rows, Book}
 use Rattle.pmtl.specs.Book.Row.{never, always, atom, conj, disj, neg, implies, historically, once, since}
 use Rattle.pmtl.specs.Meaning.{Fact, meaning_rule}

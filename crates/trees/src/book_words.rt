@@ -8,7 +8,7 @@ use numbers::{MOST_ROWS, ROW_WORDS};
 pub const MOST_WORDS: usize = ROW_WORDS * MOST_ROWS + MOST_ROWS + 4;
 
 // How many rows, operands, assumes and guarantees there are.
-#[derive(Drop)]
+#[derive(Clone, Copy)]
 pub struct Counts {
     pub rows: usize,
     pub operands: usize,

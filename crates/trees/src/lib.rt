@@ -1,4 +1,6 @@
 // Properties as trees, and the rows that they are numbered as: operands first, left to right.
+#![tactic(auto)]
+
 pub mod book_words;
 pub mod rows;
 pub mod walk;
@@ -9,7 +11,7 @@ ghost use Rattle.trees.specs.Building.{kind_of, word_of};
 use book::{AND, ATOM, FALSE, HISTORICALLY, IMPLIES, NOT, ONCE, OR, SINCE, TRUE};
 
 // The words that a property begins with, in the order of their kinds.
-#[derive(Drop)]
+#[derive(Clone, Copy)]
 pub enum Word {
     False,
     True,

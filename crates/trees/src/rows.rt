@@ -7,7 +7,7 @@ ghost use Rattle.trees.specs.Building.{Emitted, RoomFor};
 use numbers::ROW_WORDS;
 
 // The words of a row.
-#[derive(Drop)]
+#[derive(Clone, Copy)]
 pub struct RowWords {
     pub kind: u64,
     pub arg: u64,
@@ -17,7 +17,7 @@ pub struct RowWords {
 
 // Where a row is made: its number; the rows that no other has taken yet, from `base` to `height`, which it takes; and how
 // many operands there are before its own.
-#[derive(Drop)]
+#[derive(Clone, Copy)]
 pub struct Spot {
     pub row: usize,
     pub base: usize,

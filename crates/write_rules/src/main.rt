@@ -1,4 +1,6 @@
 // Reads a book in words from standard input and prints it as text, or what it is refused with.
+#![tactic(auto)]
+
 ghost use Rattle.std.specs.Prelude.{◌≡◌};
 ghost use Rattle.book.specs.Judging.{loaded};
 ghost use Rattle.buffer_writer.specs.Buffer.{handed, in_buffer};
@@ -56,21 +58,21 @@ fn answer(input: &[u8], out: &mut [u8]) -> u64
     print_words(&words[..end], out)
 }
 
-fn show(input: &[u8], out: &mut [u8]) {
+fn show(rt: &(impl Print + Eprint), input: &[u8], out: &mut [u8]) {
     let length = answer(input, out) as usize;
     if out.len() < length {
-        console::complain(b"No room holds the answer.");
+        console::complain(rt, b"No room holds the answer.");
         return;
     }
-    console::print(&out[..length]);
+    console::print(rt, &out[..length]);
 }
 
-fn main() {
+fn main(rt: HostRuntime) {
     let mut input = [0u8; ROOM];
-    let came = console::read_all(&mut input);
+    let came = console::read_all(&rt, &mut input);
     let Came::Bytes(n) = came else {
         return;
     };
     let mut out = [0u8; LONGEST_TEXT];
-    show(&input[..n], &mut out);
+    show(&rt, &input[..n], &mut out);
 }

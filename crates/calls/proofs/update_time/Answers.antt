@@ -1,0 +1,7 @@
+-- `calls::update_time` meets its contract: the call, and then what is noted of it. Assumes nothing.
+use mathlib.Core.Path.{◌∙◌}
+use Rattle.calls.proofs.Public.{done_noted}
+use Rattle.calls.proofs.update_time.Goals as goal
+
+pub returns : goal.returns
+returns c = let n = c.note.ensures in (done_noted c.requires c.time_call-number.ensures n, c.fullest-count.ensures ∙ n.kept.tables.counts.right)

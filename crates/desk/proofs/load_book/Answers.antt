@@ -1,0 +1,6 @@
+-- `desk::load_book` meets its contract. Assumes nothing.
+use Rattle.desk.proofs.Standing.{set_up}
+use Rattle.desk.proofs.load_book.Goals as goal
+
+pub returns : goal.returns
+returns c = set_up _ c.requires.fine _ _ _ _ _ c.part_of.ensures c.put_book-end.ensures c.load_strict.ensures

@@ -1,0 +1,13 @@
+-- `row_answers::valuation`, `row_answers::valuation_since` and `row_answers::valuation_walk` meet their contracts: row number and list place fall. Assumes nothing.
+use Rattle.row_answers.proofs.Answers.{above}
+use Prim.Native.Nat.{◌+◌, ◌*◌, ◌^◌}
+use Rattle.row_answers.proofs.+valuation_valuation_since_valuation_walk.Given as goal
+
+abbrev pub decreases-valuation : goal.decreases-valuation
+decreases-valuation l = (l.row + 1) * 2 ^ 64
+
+abbrev pub decreases-valuation_since : goal.decreases-valuation_since
+decreases-valuation_since l = l.row * 2 ^ 64 + 1
+
+abbrev pub decreases-valuation_walk : goal.decreases-valuation_walk
+decreases-valuation_walk l = above l.monitor.now l.place l.left * 2 ^ 64 + l.left

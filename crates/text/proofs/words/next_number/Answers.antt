@@ -1,0 +1,7 @@
+-- Where the first digit follows one parting byte and is not 0, `number_here` reads the word; elsewhere `other_word` does.
+use Rattle.std.proofs.Common.{sym, ◌∙◌, arith}
+use Rattle.text.proofs.words.next_number.Goals as goal
+
+pub number_here-requires : goal.number_here-requires
+number_here-requires c =
+    record { at_in_bounds = (omega arith, sym c.parts.ensures ∙ c.if-parts.true); first_value = (c.value-first.ensures c.if-first-lt-TEN.true, c.if-first-gt0.true, c.if-first-lt-TEN.true) }
