@@ -72,7 +72,7 @@ extern "C" {
 #define BINEFDAR_LONGEST_REPORT 2300000
 
 /* The stack that a call may need, in bytes, with room to spare: of the books that were tried 127 Ands or Ors, each
- * inside the next, take the most, 75,488 bytes on x86-64 with what a thread itself takes. */
+ * inside the next, take the most, 71,136 bytes on x86-64 with what a thread itself takes. */
 #define BINEFDAR_STACK 131072
 
 uint64_t binefdar_report(const uint8_t *input, size_t input_length, uint8_t *report, size_t report_length);

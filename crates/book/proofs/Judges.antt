@@ -34,7 +34,7 @@ module _ (s : Sections) (w₁ : ℕ) (e₁ : w₁ ≡ first_to (row_number s.row
 module _ (words : List ℕ) (number n o a g : ℕ) (t : Counting words number n o a g) where
   pub unread : (number ≡ 0 → ⊥) → Placed words number n o a g
   unread wrong = record {
-    number_is = sym (ap (λ (l : Loaded). l.number) (t.refused_with_lem wrong));
+    number_is = sym (ap (λ (l : Loaded). l.number) (t.refused_as wrong));
     counted = λ z. absurd (wrong z);
     none = t.none;
   }

@@ -20,7 +20,7 @@ module _ (words : List ℕ) (at limit size number count next : ℕ) where
     few = λ z. absurd (wrong z);
     onward = λ z. absurd (wrong z);
     read = λ z. absurd (wrong z);
-    refused_with_lem = λ w. e;
+    refused_as = λ w. e;
   }
 
   at_count : (n : ℕ) → n ≡ get_or words at 0 → at < length words → drop at words ≡ n ∷ drop (at + 1) words
@@ -54,7 +54,7 @@ enough words at limit size n e l m fits = record {
   onward = λ z. refl;
   read = λ z.
       rw (at_count words at limit size 0 n 0 n e l, le-ltb limit n m, length-drop (at + 1) words, le-ltb (length words - (at + 1)) (size * n) (omega arith), drop-drop (size * n) (at + 1) words);
-  refused_with_lem = λ w. absurd (w refl);
+  refused_as = λ w. absurd (w refl);
 }
 
 -- ---- the four sections in turn: what is counted where the reading ends in one of them
@@ -62,28 +62,28 @@ module _ (words : List ℕ) (k number n o a g : ℕ) (none : (number ≡ k) × (
   counting_refused : (k ≡ 0 → ⊥) → loaded words ≡ refused_with k → Counting words number n o a g
   counting_refused wrong e = record {
     counted = λ z. absurd (wrong (sym none.0 ∙ z));
-    refused_with_lem = λ w. rw none.0 e;
+    refused_as = λ w. rw none.0 e;
     none = λ w. (none.1, none.2, none.3, none.4);
   }
 
   pub in_rows : {c₁ x₁ : ℕ} → SectionCounting words 0 128 4 k c₁ x₁ → (k ≡ 0 → ⊥) → Counting words number n o a g
   unfolding loaded sections next whole
-  in_rows t₁ wrong = counting_refused wrong (rw (t₁.refused_with_lem wrong))
+  in_rows t₁ wrong = counting_refused wrong (rw (t₁.refused_as wrong))
 
   module _ {k₁ c₁ x₁ : ℕ} (t₁ : SectionCounting words 0 128 4 k₁ c₁ x₁) (z₁ : k₁ ≡ 0) where
     pub in_operands : {c₂ x₂ : ℕ} → SectionCounting words x₁ 128 1 k c₂ x₂ → (k ≡ 0 → ⊥) → Counting words number n o a g
     unfolding loaded sections next whole
-    in_operands t₂ wrong = counting_refused wrong (rw (t₁.read z₁, t₂.refused_with_lem wrong))
+    in_operands t₂ wrong = counting_refused wrong (rw (t₁.read z₁, t₂.refused_as wrong))
 
     module _ {k₂ c₂ x₂ : ℕ} (t₂ : SectionCounting words x₁ 128 1 k₂ c₂ x₂) (z₂ : k₂ ≡ 0) where
       pub in_assumes : {c₃ x₃ : ℕ} → SectionCounting words x₂ 16 1 k c₃ x₃ → (k ≡ 0 → ⊥) → Counting words number n o a g
       unfolding loaded sections next whole
-      in_assumes t₃ wrong = counting_refused wrong (rw (t₁.read z₁, t₂.read z₂, t₃.refused_with_lem wrong))
+      in_assumes t₃ wrong = counting_refused wrong (rw (t₁.read z₁, t₂.read z₂, t₃.refused_as wrong))
 
       module _ {k₃ c₃ x₃ : ℕ} (t₃ : SectionCounting words x₂ 16 1 k₃ c₃ x₃) (z₃ : k₃ ≡ 0) where
         pub in_guarantees : {c₄ x₄ : ℕ} → SectionCounting words x₃ 16 1 k c₄ x₄ → (k ≡ 0 → ⊥) → Counting words number n o a g
         unfolding loaded sections next whole
-        in_guarantees t₄ wrong = counting_refused wrong (rw (t₁.read z₁, t₂.read z₂, t₃.read z₃, t₄.refused_with_lem wrong))
+        in_guarantees t₄ wrong = counting_refused wrong (rw (t₁.read z₁, t₂.read z₂, t₃.read z₃, t₄.refused_as wrong))
 
         -- words are left over
         pub left_over : {k₄ c₄ x₄ : ℕ} → SectionCounting words x₃ 16 1 k₄ c₄ x₄ → k₄ ≡ 0 → k ≡ 1 → x₄ < length words → Counting words number n o a g
@@ -164,6 +164,6 @@ module _
             omega arith;
         read = in_turn ∙ rw (placed, drop_of_length-le words l);
       };
-      refused_with_lem = λ w. absurd (w refl);
+      refused_as = λ w. absurd (w refl);
       none = λ w. absurd (w refl);
     }

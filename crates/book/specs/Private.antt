@@ -19,7 +19,7 @@ range_in lower upper = record { lower = lower; upper = upper }
 -- what reading alone says: the counts, or the numberUnless that ends it
 pub record Counting (words : List ℕ) (number n o a g : ℕ) : Type 0 where
   pub counted : number ≡ ACCEPTED → Counted words n o a g
-  pub refused_with_lem : (number ≡ ACCEPTED → ⊥) → loaded words ≡ refused_with number
+  pub refused_as : (number ≡ ACCEPTED → ⊥) → loaded words ≡ refused_with number
   pub none : (number ≡ ACCEPTED → ⊥) → (n ≡ 0) × (o ≡ 0) × (a ≡ 0) × (g ≡ 0)
 
 -- what reading one section says, whose count stands at `at`
@@ -28,7 +28,7 @@ pub record SectionCounting (words : List ℕ) (at limit size number count next :
   pub few : number ≡ ACCEPTED → count ≤ limit
   pub onward : number ≡ ACCEPTED → next ≡ at + 1 + size * count
   pub read : number ≡ ACCEPTED → section WRONG_LENGTH limit size (drop at words) ≡ got (part (at + 1) (size * count) words) (drop next words)
-  pub refused_with_lem : (number ≡ ACCEPTED → ⊥) → section WRONG_LENGTH limit size (drop at words) ≡ refused number
+  pub refused_as : (number ≡ ACCEPTED → ⊥) → section WRONG_LENGTH limit size (drop at words) ≡ refused number
 
 -- the number that a test refuses with, 0 where it passed
 abbrev pub number_unless : ℕ → Bool → ℕ

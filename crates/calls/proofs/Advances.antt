@@ -500,9 +500,9 @@ module _ {m : List ℕ} {first : Bool} (due : Due m first) where
   renewed_asked e₁ e₂ = told_and_asked due.sound due.valued due.moving due.founded due.unused (e₂ ∙ ap (λ (x : List ℕ). settled_put (early_put x)) e₁)
 
   -- something new was told: the digits of the properties above it are asked for, and the others stand there
-  pub renewed_above : first ≡ false → {m₁ m₂ : List ℕ} {from up_to_lem : ℕ} → m₁ ≡ count_put (told_put m) → from ≡ news_from m (temporals m) → up_to_lem ≡ news_end m (temporals m)
-      → m₂ ≡ settled_renewed (early_renewed m₁ from up_to_lem) from up_to_lem → Alike m m₂ × Tables m₂ × SameLedger m m₂
-  renewed_above not_first {m₁} {m₂} {from} {up_to_lem} e₁ ef eu e₂ =
+  pub renewed_above : first ≡ false → {m₁ m₂ : List ℕ} {from up_to : ℕ} → m₁ ≡ count_put (told_put m) → from ≡ news_from m (temporals m) → up_to ≡ news_end m (temporals m)
+      → m₂ ≡ settled_renewed (early_renewed m₁ from up_to) from up_to → Alike m m₂ × Tables m₂ × SameLedger m m₂
+  renewed_above not_first {m₁} {m₂} {from} {up_to} e₁ ef eu e₂ =
       let asked = news_asked due.sound due.founded due.asked.early (due.asked.settled not_first) in
       let all : m₂ ≡ settled_put (early_put (count_put (told_put m))) = rw (e₂, e₁, ef, eu) asked in
       told_and_asked due.sound due.valued due.moving due.founded due.unused all

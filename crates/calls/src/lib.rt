@@ -19,7 +19,7 @@ ghost use Rattle.planning.specs.Plan.{atoms_for, own_renew, set_after};
 ghost use Rattle.calls.specs.Private.{QuietAt, ticked, AtomsStand, clocked, Held, Roomy, Fit, Fitting, Written, Atoms, Tried, NoneOver, SetsStay, OnlyValues, TriedBoth, Due, Done};
 ghost use Rattle.calls.specs.Called.{Called};
 ghost use Rattle.numbers.specs.Limits.{LAST_TIME, MOST_ATOMS, MOST_TEMPORALS};
-ghost use Rattle.numbers.specs.Refusals.{ACCEPTED as Refusals-as-ACCEPTED};
+ghost use Rattle.numbers.specs.Refusals.{ACCEPTED};
 
 use memory::SIZE;
 use numbers::{
@@ -325,7 +325,7 @@ fn time_call(monitor: &mut [u64; SIZE], time: u64) -> u64
 // The atoms become the bytes of `state`, which nothing is wrong with, and every row is evaluated anew; but atoms that stand there already
 // change nothing. The answer is as that of `time_call`.
 fn restate(monitor: &mut [u64; SIZE], state: &[u8]) -> u64
-    requires { Kept monitor.old × (state_refusal (rows_of monitor.old) state.now ≡ Refusals-as-ACCEPTED) }
+    requires { Kept monitor.old × (state_refusal (rows_of monitor.old) state.now ≡ ACCEPTED) }
     ensures { Done (Call.state state.now) monitor.old monitor.new result }
 {
     if stands_with(monitor, state) {
@@ -362,7 +362,7 @@ fn state_call(monitor: &mut [u64; SIZE], state: &[u8]) -> u64
 // A stamped call whose time moves the clock alone: a state call is left. If that is refused, the clock goes back.
 fn tick_and_restate(monitor: &mut [u64; SIZE], time: u64, state: &[u8]) -> u64
     requires kept { Kept monitor.old × QuietAt monitor.old time }
-    requires time_value { (time_refusal (state_of monitor.old).now time ≡ Refusals-as-ACCEPTED) × (state_refusal (rows_of monitor.old) state.now ≡ Refusals-as-ACCEPTED) }
+    requires time_value { (time_refusal (state_of monitor.old).now time ≡ ACCEPTED) × (state_refusal (rows_of monitor.old) state.now ≡ ACCEPTED) }
     ensures { Done (Call.stamped time state.now) monitor.old monitor.new result }
 {
     let clock = memory::clock(monitor);
@@ -378,7 +378,7 @@ fn tick_and_restate(monitor: &mut [u64; SIZE], time: u64, state: &[u8]) -> u64
 // The clock becomes `time`, which nothing is wrong with, and then the atoms the bytes of `state`, nor with these, every row evaluated
 // anew at each of the two steps; or neither. Where the first moves the clock alone, only the second is left.
 fn restamp(monitor: &mut [u64; SIZE], time: u64, state: &[u8]) -> u64
-    requires { Kept monitor.old × (time_refusal (state_of monitor.old).now time ≡ Refusals-as-ACCEPTED) × (state_refusal (rows_of monitor.old) state.now ≡ Refusals-as-ACCEPTED) }
+    requires { Kept monitor.old × (time_refusal (state_of monitor.old).now time ≡ ACCEPTED) × (state_refusal (rows_of monitor.old) state.now ≡ ACCEPTED) }
     ensures { Done (Call.stamped time state.now) monitor.old monitor.new result }
 {
     if quiet_at(monitor, time) {

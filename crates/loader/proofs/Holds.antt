@@ -132,7 +132,7 @@ module _ (way : Way) (s : Sections) (m : List ℕ) (ok : Accepted s) (st : Stand
   assumes_are =
       let a = ok.few.assumes in
       let l = st.long in
-      rw st.assume_count_lem
+      rw st.assumes_counted
       (part_is PROPERTIES (length s.assumes) m s.assumes (omega arith) refl
       (λ i h. st.property i (omega arith) ∙ get_or-append s.assumes s.guarantees 0 i h))
 
@@ -141,7 +141,7 @@ module _ (way : Way) (s : Sections) (m : List ℕ) (ok : Accepted s) (st : Stand
       let a = ok.few.assumes in
       let g = ok.few.guarantees in
       let l = st.long in
-      rw (st.assume_count_lem, st.guarantee_count_lem)
+      rw (st.assumes_counted, st.guarantees_counted)
       (part_is (PROPERTIES + length s.assumes) (length s.guarantees) m s.guarantees (omega arith) refl
       (λ i h.
       word_at m (PROPERTIES + length s.assumes + i) (PROPERTIES + (length s.assumes + i)) (omega arith)
@@ -183,7 +183,7 @@ module _ (way : Way) (s : Sections) (m : List ℕ) (ok : Accepted s) (st : Stand
       let n = narrow in
       let atoms_are =
       listed_all (λ i. is_one (get_or m (ATOMS + i) 0)) false (width_in s.rows (rows_in s)) (λ i h. ap is_one (st.atom i (omega arith))) in
-      rw (way_read way m st.way_word_lem, st.begun, st.clock, st.width, st.count, atoms_are, listed_all (set_of m) [] (rows_in s) sets_empty, width_is, listed_length (row_in s) (rows_in s))
+      rw (way_read way m st.way_is, st.begun, st.clock, st.width, st.count, atoms_are, listed_all (set_of m) [] (rows_in s) sets_empty, width_is, listed_length (row_in s) (rows_in s))
 
   -- ---- kept
   owner_of : (j : ℕ) → j < temporals_in s.rows (rows_in s) → (t : Temporal s.rows (rows_in s) j) → owner_at m j ≡ t.row
@@ -212,9 +212,9 @@ module _ (way : Way) (s : Sections) (m : List ℕ) (ok : Accepted s) (st : Stand
             let tj = the j h in
             rw (owner_of i q ti, owner_of j h tj)
             (⊎_elim (λ k. k) (λ k. absurd (omega (arith, temporals_mono s.rows tj.row ti.row k, ti.slot, tj.slot))) (lt_or_ge ti.row tj.row)));
-        assumes_few = rw st.assume_count_lem a;
-        guarantees_few = rw st.guarantee_count_lem g;
-        properties = rw (st.assume_count_lem, st.guarantee_count_lem, st.count) (λ i h.
+        assumes_few = rw st.assumes_counted a;
+        guarantees_few = rw st.guarantees_counted g;
+        properties = rw (st.assumes_counted, st.guarantees_counted, st.count) (λ i h.
             rw (st.property i (omega arith))
             (property_below s ok i h));
       }
@@ -241,7 +241,7 @@ module _ (way : Way) (s : Sections) (m : List ℕ) (ok : Accepted s) (st : Stand
         count = st.temporal_count ∙ sym (slot_to_lem (rows_in s) (omega arith)) ∙ ap (slot_to m) (sym n);
         rows_rest = rw n st.rows_rest;
         operands_rest = rw (n, start_to_lem (rows_in s) (omega arith), operands_taken s ok.good) (λ i p h. st.operand i h ∙ get_or-eq_default s.operands 0 p);
-        properties_rest = rw (st.assume_count_lem, st.guarantee_count_lem) (λ i p h. st.property i h ∙ get_or-eq_default (s.assumes ++ s.guarantees) 0 (rw length-append p));
+        properties_rest = rw (st.assumes_counted, st.guarantees_counted) (λ i p h. st.property i h ∙ get_or-eq_default (s.assumes ++ s.guarantees) 0 (rw length-append p));
         atoms_rest = λ i p h. st.atom i h;
         owners_rest = rw st.temporal_count (λ j p h. st.owners_rest (OWNERS + j) (omega arith));
         sets_rest = λ j p h. no_sets j h;
@@ -259,7 +259,7 @@ module _ (way : Way) (s : Sections) (m : List ℕ) (ok : Accepted s) (st : Stand
         sound = record {
           book = book_kept;
           tidy = tidy;
-          way = way_small way m st.way_word_lem;
+          way = way_small way m st.way_is;
           begun = omega (arith, st.begun);
           clock = omega (arith, st.clock);
           atoms = λ i h. omega (arith, st.width, st.atom i (omega (arith, st.width)));

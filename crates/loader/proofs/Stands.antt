@@ -22,14 +22,14 @@ use Rattle.loader.proofs.Rows.{rows_length, rows_before, rows_after, owners_afte
 -- every word of a memory that holds the sections' book and a fresh monitor
 pub record Stands (way : Way) (s : Sections) (m : List ℕ) : Type 0 where
   pub long : length m ≡ SIZE
-  pub way_word_lem : way_word m ≡ word_for way
+  pub way_is : way_word m ≡ word_for way
   pub count : row_count m ≡ rows_in s
   pub begun : begun_word m ≡ 0
   pub clock : clock_of m ≡ 0
   pub width : width_word m ≡ width_in s.rows (rows_in s)
   pub temporal_count : temporals m ≡ temporals_in s.rows (rows_in s)
-  pub assume_count_lem : assume_count m ≡ length s.assumes
-  pub guarantee_count_lem : guarantee_count m ≡ length s.guarantees
+  pub assumes_counted : assume_count m ≡ length s.assumes
+  pub guarantees_counted : guarantee_count m ≡ length s.guarantees
   pub word : (r j : ℕ) → r < rows_in s → j < ROW → get_or m (ROWS + ROW * r + j) 0 ≡ get_or (row_words s.rows r) j 0
   pub rows_rest : (i : ℕ) → ROWS + ROW * rows_in s ≤ i → i < OPERANDS → get_or m i 0 ≡ 0
   pub operand : (i : ℕ) → i < 128 → get_or m (OPERANDS + i) 0 ≡ get_or s.operands i 0
@@ -237,14 +237,14 @@ module _ (way : Way) (s : Sections) (ok : Accepted s) where
       let t = room in
       record {
         long = head_long with_rows l _ _ _ _ _ _;
-        way_word_lem = head_7 with_rows l _ _ _ _ _ _;
+        way_is = head_7 with_rows l _ _ _ _ _ _;
         count = head_0 with_rows l _ _ _ _ _ _;
         begun = under_head 1 (omega arith) (inl (omega arith)) ∙ rows_before s.rows (links_put s) l₀ (rows_in s) f t (rows_in s) (omega arith) 1 (omega arith) ∙ links_before 1 (omega arith);
         clock = under_head 2 (omega arith) (inl (omega arith)) ∙ rows_before s.rows (links_put s) l₀ (rows_in s) f t (rows_in s) (omega arith) 2 (omega arith) ∙ links_before 2 (omega arith);
         width = head_3 with_rows l _ _ _ _ _ _;
         temporal_count = head_4 with_rows l _ _ _ _ _ _;
-        assume_count_lem = head_5 with_rows l _ _ _ _ _ _;
-        guarantee_count_lem = head_6 with_rows l _ _ _ _ _ _;
+        assumes_counted = head_5 with_rows l _ _ _ _ _ _;
+        guarantees_counted = head_6 with_rows l _ _ _ _ _ _;
         word = λ r j h k. under_head (ROWS + ROW * r + j) (omega arith) (inr (omega arith)) ∙ row_word s.rows (links_put s) l₀ (rows_in s) f t (rows_in s) (omega arith) r j h k;
         rows_rest = λ i h k. under_head i (omega arith) (inr (omega arith)) ∙ between i h (omega arith) ∙ links_before i k;
         operand = λ i h. under_head (OPERANDS + i) (omega arith) (inr (omega arith)) ∙ between (OPERANDS + i) (omega arith) (omega arith) ∙ links_operand i h;

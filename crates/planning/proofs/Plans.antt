@@ -260,7 +260,7 @@ module _ {m : List ℕ} {spans : Bool} {modes₀ : List ℕ} {c : ℕ} {atoms : 
 
         pub going_more : room ≡ true → Going m spans modes₀ c atoms m'' modes' (n + 1)
         going_more e =
-            rw (t.mode_put_lem e)
+            rw (t.mode_is_put e)
             (record {
               few = omega arith;
               values = t.value_put e ∙ filled_from_more VALUES (value_after m (renew_over m spans) (ahead m c modes₀) c atoms) m g.values (ap bit_of (same ∙ value_right));

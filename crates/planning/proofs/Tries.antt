@@ -35,7 +35,7 @@ module _ {m : List ℕ} {spans : Bool} {c : ℕ} (timely : Timely m c) (atoms : 
         record {
           room_is = sym (ap (fits SET_WORDS) no_next);
           value_put = λ z. put.0 ∙ ap (λ (b : Bool). set m (VALUES + r) (bit_of b)) is;
-          mode_put_lem = λ z. sym (rw (lt-leb 7 (kind_at m r) low));
+          mode_is_put = λ z. sym (rw (lt-leb 7 (kind_at m r) low));
           turned_is = λ z. put.1 ∙ ap (turned_to (held_in m r)) is;
           none = λ z. absurd (true≢false z);
         }
@@ -77,9 +77,9 @@ module _ {m : List ℕ} {spans : Bool} {c : ℕ} (timely : Timely m c) (atoms : 
             room_is = sym e ∙ room_right;
             value_put = λ z. put.0 ∙ ap (λ (b : Bool). set m (VALUES + r) (bit_of b)) is;
             turned_is = λ z. put.1 ∙ ap (turned_to (held_in m r)) is;
-            mode_put_lem = λ z. ap₂ (λ (j k : ℕ). set modes j k) es (ap (λ (p : RowPlan). p.mode) ep) ∙ sym (rw (le-leb 7 (kind_at m r) high));
+            mode_is_put = λ z. ap₂ (λ (j k : ℕ). set modes j k) es (ap (λ (p : RowPlan). p.mode) ep) ∙ sym (rw (le-leb 7 (kind_at m r) high));
             none = λ z. absurd (true≢false z);
           }
 
       pub tried_none : plan.room ≡ false → RowTried m spans c atoms modes r m modes false false
-      tried_none e = record { room_is = sym e ∙ room_right; value_put = λ z. absurd (true≢false (sym z)); mode_put_lem = λ z. absurd (true≢false (sym z)); turned_is = λ z. absurd (true≢false (sym z)); none = λ z. refl }
+      tried_none e = record { room_is = sym e ∙ room_right; value_put = λ z. absurd (true≢false (sym z)); mode_is_put = λ z. absurd (true≢false (sym z)); turned_is = λ z. absurd (true≢false (sym z)); none = λ z. refl }

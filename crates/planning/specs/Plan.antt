@@ -107,7 +107,7 @@ turned_to old new = not (beq old new)
 pub record RowTried (m : List ℕ) (spans : Bool) (c : ℕ) (atoms modes : List ℕ) (r : ℕ) (m' modes' : List ℕ) (room turned : Bool) : Type 0 where
   pub room_is : room ≡ fits SET_WORDS (set_next m spans c modes r)
   pub value_put : room ≡ true → m' ≡ set m (VALUES + r) (bit_of (value_next m spans c modes atoms r))
-  pub mode_put_lem : room ≡ true → modes' ≡ mode_put m spans modes r
+  pub mode_is_put : room ≡ true → modes' ≡ mode_put m spans modes r
   pub turned_is : room ≡ true → turned ≡ turned_to (held_in m r) (value_next m spans c modes atoms r)
   pub none : room ≡ false → m' ≡ m
 

@@ -22,11 +22,11 @@ module _ (b : Rows) (g : Range) (f q : Fact) where
   unfolding since_some
   some_ago [] t x = absurd (false≢true x)
   some_ago (s ∷ h) t x = or_elim (q (s ∷ h) && in_range g s.clock t) _
-      (λ y. (0, record { so_far = omega arith; held_then = and_left _ _ y; in_range_lem = and_right (q (s ∷ h)) _ y }, λ j l. absurd (not-suc-le-zero l)))
+      (λ y. (0, record { so_far = omega arith; held_then = and_left _ _ y; in_range_then = and_right (q (s ∷ h)) _ y }, λ j l. absurd (not-suc-le-zero l)))
       (λ y. one_more (and_left _ _ y) (some_ago h t (and_right (f (s ∷ h)) _ y))) x
     where
       one_more : f (s ∷ h) ≡ true → SinceCall b g f q h t → SinceCall b g f q (s ∷ h) t
-      one_more y a = (suc a.0, record { so_far = omega (arith, a.1.so_far); held_then = a.1.held_then; in_range_lem = a.1.in_range_lem }, lefts)
+      one_more y a = (suc a.0, record { so_far = omega (arith, a.1.so_far); held_then = a.1.held_then; in_range_then = a.1.in_range_then }, lefts)
         where
           lefts : (j : ℕ) → j < suc a.0 → f (drop j (s ∷ h)) ≡ true
           lefts zero l = y
@@ -35,9 +35,9 @@ module _ (b : Rows) (g : Range) (f q : Fact) where
   ago_some : (h : History) (t k : ℕ) → HeldAfter b g q h t k → EveryLater f h k → since_some g f q h t ≡ true
   unfolding since_some
   ago_some [] t k a l = absurd (not-suc-le-zero a.so_far)
-  ago_some (s ∷ h) t zero a l = or_left _ _ (and_intro _ _ a.held_then a.in_range_lem)
+  ago_some (s ∷ h) t zero a l = or_left _ _ (and_intro _ _ a.held_then a.in_range_then)
   ago_some (s ∷ h) t (suc k) a l = or_right (q (s ∷ h) && in_range g s.clock t) _ (and_intro _ _ (l 0 (omega arith))
-      (ago_some h t k (record { so_far = le_of_suc-le-suc a.so_far; held_then = a.held_then; in_range_lem = a.in_range_lem }) (λ j m. l (suc j) (omega arith))))
+      (ago_some h t k (record { so_far = le_of_suc-le-suc a.so_far; held_then = a.held_then; in_range_then = a.in_range_then }) (λ j m. l (suc j) (omega arith))))
 
   since_iff : (h : History) (t : ℕ) → (since_some g f q h t ≡ true) ↔ SinceCall b g f q h t
   since_iff h t = (some_ago h t, λ a. ago_some h t a.0 a.1 a.2)

@@ -36,7 +36,7 @@ held b o h = value b (run b h) o
 pub record HeldAfter (b : Rows) (g : Range) (f : Fact) (h : History) (t k : ℕ) : Type 0 where
   pub so_far : k < length h
   pub held_then : f (drop k h) ≡ true
-  pub in_range_lem : in_range g (now_of b (drop k h)).clock t ≡ true
+  pub in_range_then : in_range g (now_of b (drop k h)).clock t ≡ true
 
 -- f held after some call so far whose range, counted from that call, contains t
 abbrev pub SomeCall : Rows → Range → Fact → History → ℕ → Type 0

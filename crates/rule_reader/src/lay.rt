@@ -1,6 +1,6 @@
 // What a turn of the reader does to the rows that are being built.
 ghost use Rattle.std.specs.Prelude.{◌≡◌, length};
-ghost use Rattle.rule_scanner.specs.declared.turns.Turn.TheVariants.{Leaf as Turn-as-Leaf, Close as Turn-as-Close};
+ghost use Rattle.rule_scanner.specs.declared.turns.Turn.TheVariants as turn;
 ghost use Rattle.trees.specs.Building.{arg_of};
 ghost use Rattle.rule_reader.specs.Laying.{Makable, Closable, Takable, Lays, LaysRows};
 
@@ -51,7 +51,7 @@ fn close(
     tops: &mut [u64],
 ) -> Laid
     requires { Closable site (length frames.now) (length rows.old) (length operands.old) (length tops.old) }
-    ensures { Lays Turn-as-Close site frames.now rows.old operands.old tops.old result frames.now rows.new operands.new tops.new }
+    ensures { Lays turn.Close site frames.now rows.old operands.old tops.old result frames.now rows.new operands.new tops.new }
 {
     let laid = site.laid;
     let height = laid.height;
@@ -89,7 +89,7 @@ fn lay_leaf(
     tops: &mut [u64],
 ) -> Laid
     requires { Makable site (length rows.old) (length operands.old) (length tops.old) }
-    ensures { LaysRows (Turn-as-Leaf word atom) site rows.old operands.old tops.old result rows.new operands.new tops.new }
+    ensures { LaysRows (turn.Leaf word atom) site rows.old operands.old tops.old result rows.new operands.new tops.new }
 {
     let laid = site.laid;
     let height = laid.height;

@@ -1,8 +1,8 @@
 // What a symbol does to a reader.
 ghost use Rattle.std.specs.Prelude.{◌≡◌};
 ghost use Rattle.rule_scanner.specs.Reading.{begun as reading_begun, parting as reading_parting, closing as reading_closing, turn as reading_turn, form_of, parted as reading_parted};
-ghost use Rattle.rule_scanner.specs.declared.turns.Form.TheVariants.{Many as Form-as-Many};
-ghost use Rattle.rule_scanner.specs.declared.turns.Mode.TheVariants.{Count as Mode-as-Count, Begin as Mode-as-Begin, First as Mode-as-First, After as Mode-as-After, Atom as Mode-as-Atom, Left as Mode-as-Left, Lower as Mode-as-Lower, Comma as Mode-as-Comma, Upper as Mode-as-Upper, Right as Mode-as-Right, Open as Mode-as-Open, Over as Mode-as-Over};
+ghost use Rattle.rule_scanner.specs.declared.turns.Form.TheVariants as form;
+ghost use Rattle.rule_scanner.specs.declared.turns.Mode.TheVariants as mode;
 
 use crate::symbols::Symbol;
 use numbers::MAX;
@@ -66,7 +66,7 @@ fn begun(w: Word) -> Turn
 
 // A count is wanted.
 fn count_wanted(s: Symbol) -> Turn
-    ensures { result ≡ reading_turn Mode-as-Count Form-as-Many s }
+    ensures { result ≡ reading_turn mode.Count form.Many s }
 {
     match s {
         Symbol::Number(n) => Turn::Counted(n),
@@ -76,7 +76,7 @@ fn count_wanted(s: Symbol) -> Turn
 
 // A property is wanted.
 fn property_wanted(s: Symbol) -> Turn
-    ensures { result ≡ reading_turn Mode-as-Begin Form-as-Many s }
+    ensures { result ≡ reading_turn mode.Begin form.Many s }
 {
     match s {
         Symbol::Name(w) => begun(w),
@@ -86,7 +86,7 @@ fn property_wanted(s: Symbol) -> Turn
 
 // A first part is wanted, or none.
 fn first_wanted(s: Symbol) -> Turn
-    ensures { result ≡ reading_turn Mode-as-First Form-as-Many s }
+    ensures { result ≡ reading_turn mode.First form.Many s }
 {
     match s {
         Symbol::Name(w) => begun(w),
@@ -118,7 +118,7 @@ fn closing(f: Form) -> Turn
 
 // A part is complete.
 fn after_part(f: Form, s: Symbol) -> Turn
-    ensures { result ≡ reading_turn Mode-as-After f s }
+    ensures { result ≡ reading_turn mode.After f s }
 {
     match s {
         Symbol::Comma => parting(f),
@@ -129,7 +129,7 @@ fn after_part(f: Form, s: Symbol) -> Turn
 
 // An atom's number is wanted.
 fn atom_wanted(s: Symbol) -> Turn
-    ensures { result ≡ reading_turn Mode-as-Atom Form-as-Many s }
+    ensures { result ≡ reading_turn mode.Atom form.Many s }
 {
     match s {
         Symbol::Number(n) => Turn::Leaf(Word::Atom, n),
@@ -139,7 +139,7 @@ fn atom_wanted(s: Symbol) -> Turn
 
 // A range, symbol by symbol: its bracket,
 fn left_wanted(w: Word, s: Symbol) -> Turn
-    ensures { result ≡ reading_turn (Mode-as-Left w) Form-as-Many s }
+    ensures { result ≡ reading_turn (mode.Left w) form.Many s }
 {
     match s {
         Symbol::Left => Turn::Go(Mode::Lower(w)),
@@ -149,7 +149,7 @@ fn left_wanted(w: Word, s: Symbol) -> Turn
 
 // its lower bound,
 fn lower_wanted(w: Word, s: Symbol) -> Turn
-    ensures { result ≡ reading_turn (Mode-as-Lower w) Form-as-Many s }
+    ensures { result ≡ reading_turn (mode.Lower w) form.Many s }
 {
     match s {
         Symbol::Number(n) => Turn::Go(Mode::Comma(w, n)),
@@ -159,7 +159,7 @@ fn lower_wanted(w: Word, s: Symbol) -> Turn
 
 // its comma,
 fn comma_wanted(w: Word, l: u64, s: Symbol) -> Turn
-    ensures { result ≡ reading_turn (Mode-as-Comma w l) Form-as-Many s }
+    ensures { result ≡ reading_turn (mode.Comma w l) form.Many s }
 {
     match s {
         Symbol::Comma => Turn::Go(Mode::Upper(w, l)),
@@ -169,7 +169,7 @@ fn comma_wanted(w: Word, l: u64, s: Symbol) -> Turn
 
 // its upper bound,
 fn upper_wanted(w: Word, l: u64, s: Symbol) -> Turn
-    ensures { result ≡ reading_turn (Mode-as-Upper w l) Form-as-Many s }
+    ensures { result ≡ reading_turn (mode.Upper w l) form.Many s }
 {
     match s {
         Symbol::Number(n) => Turn::Go(Mode::Right(w, l, n)),
@@ -180,7 +180,7 @@ fn upper_wanted(w: Word, l: u64, s: Symbol) -> Turn
 
 // and the bracket after it.
 fn right_wanted(w: Word, l: u64, u: u64, s: Symbol) -> Turn
-    ensures { result ≡ reading_turn (Mode-as-Right w l u) Form-as-Many s }
+    ensures { result ≡ reading_turn (mode.Right w l u) form.Many s }
 {
     match s {
         Symbol::Right => Turn::Go(Mode::Open(w, l, u)),
@@ -190,7 +190,7 @@ fn right_wanted(w: Word, l: u64, u: u64, s: Symbol) -> Turn
 
 // The bracket before the parts is wanted.
 fn open_wanted(w: Word, l: u64, u: u64, s: Symbol) -> Turn
-    ensures { result ≡ reading_turn (Mode-as-Open w l u) Form-as-Many s }
+    ensures { result ≡ reading_turn (mode.Open w l u) form.Many s }
 {
     match s {
         Symbol::Opens => Turn::Open(w, l, u),
@@ -200,7 +200,7 @@ fn open_wanted(w: Word, l: u64, u: u64, s: Symbol) -> Turn
 
 // The end of the text is wanted.
 fn end_wanted(s: Symbol) -> Turn
-    ensures { result ≡ reading_turn Mode-as-Over Form-as-Many s }
+    ensures { result ≡ reading_turn mode.Over form.Many s }
 {
     match s {
         Symbol::End => Turn::Ended,

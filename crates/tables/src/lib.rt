@@ -4,7 +4,7 @@
 ghost use Rattle.std.specs.Prelude.{◌≡◌, cond, ◌&&◌, map, ◌+◌, ◌≤◌, ◌<◌, min, max, length, leb, ltb};
 ghost use Rattle.ring.specs.Ring.{ringed, Rolling};
 ghost use Rattle.pmtl.specs.Sets.{gone};
-ghost use Rattle.numbers.specs.Limits.{MAX as Limits-as-MAX, LAST_TIME, MOST_ROWS};
+ghost use Rattle.numbers.specs.Limits.{MAX, LAST_TIME, MOST_ROWS};
 ghost use Rattle.pmtl.specs.Book.{map_row, move_rule, least_of, lowest_rule};
 ghost use Rattle.pmtl.specs.Quiet.{quiet_until};
 ghost use Rattle.memory.specs.Layout.{MOVES, LOWEST, SIZE};
@@ -292,7 +292,7 @@ pub fn ask_all(monitor: &mut [u64; SIZE])
 // Up to when a set stays as it is, and the clock meets the same of it, by the range that its row adds and its newest run.
 fn until_of(set: &[u64], clock: u64, lower: u64, upper: u64) -> u64
     requires rolling { Rolling set.now × (clock ≤ LAST_TIME) × (lower ≤ LAST_TIME) }
-    requires upper_bound { (upper ≡ Limits-as-MAX → ⊥) → upper ≤ LAST_TIME }
+    requires upper_bound { (upper ≡ MAX → ⊥) → upper ≤ LAST_TIME }
     ensures { result ≡ until_of clock lower upper (ringed set.now) }
 {
     if ring::count(set) == 0 {

@@ -1,6 +1,6 @@
 // Decimal words in text.
 ghost use Rattle.std.specs.Prelude.{◌≡◌, ◌+◌, ◌-◌, ◌/◌, ◌<◌, true, false, length, drop, nat_lt, slice_index};
-ghost use Rattle.numbers.specs.Limits.{MAX as Words-as-MAX};
+ghost use Rattle.numbers.specs.Limits.{MAX};
 ghost use Rattle.text.specs.Words.{digit0, parts as words_parts, word_here, next_word};
 ghost use Rattle.text.specs.Private.{kind_of, kind_at};
 
@@ -100,7 +100,7 @@ fn kind_at(input: &[u8], i: usize) -> u64
 // Whether `d` as one more digit takes `n` past MAX. One test tells it of any number but those with as many digits as MAX.
 fn passes(n: u64, d: u64) -> bool
     requires { d < 10 }
-    ensures { result ≡ nat_lt ((Words-as-MAX - d) / 10) n }
+    ensures { result ≡ nat_lt ((MAX - d) / 10) n }
 {
     if n < MAX_TENTH {
         return false;

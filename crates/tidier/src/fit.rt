@@ -3,7 +3,7 @@ ghost use Rattle.std.specs.Prelude.{◌≡◌, true, ◌/◌, ◌<◌, length, e
 ghost use Rattle.numbers.specs.Limits.{ROW_WORDS};
 ghost use Rattle.book.specs.Judging.{kind_in};
 ghost use Rattle.trees.specs.Walking.{Held, rows_said};
-ghost use Rattle.tidying.specs.declared.Form.TheVariants.{Nots as Form-as-Nots, Single as Form-as-Single};
+ghost use Rattle.tidying.specs.declared.Form.TheVariants as form;
 ghost use Rattle.tidying.specs.Steps.{fits_at, fits as steps_fits};
 ghost use Rattle.tidier.specs.Laying.{HeldAt, Fitted, form_at, target_of};
 
@@ -24,7 +24,7 @@ fn begins(rows: &[u64], row: usize, kind: u64) -> bool
 // A Not of a Not.
 fn is_not_not<'a>(rows: &'a [u64], operands: &'a [u64], row: usize) -> bool
     requires { HeldAt rows.now operands.now row }
-    ensures { result ≡ fits_at Form-as-Nots (rows_said rows.now operands.now) row }
+    ensures { result ≡ fits_at form.Nots (rows_said rows.now operands.now) row }
 {
     if kind_in(rows, row) != NOT {
         return false;
@@ -36,7 +36,7 @@ fn is_not_not<'a>(rows: &'a [u64], operands: &'a [u64], row: usize) -> bool
 // An And or an Or of one operand.
 fn is_single<'a>(rows: &'a [u64], operands: &'a [u64], row: usize) -> bool
     requires { HeldAt rows.now operands.now row }
-    ensures { result ≡ fits_at Form-as-Single (rows_said rows.now operands.now) row }
+    ensures { result ≡ fits_at form.Single (rows_said rows.now operands.now) row }
 {
     if count_at(rows, row) != 1 {
         return false;
