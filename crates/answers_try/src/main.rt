@@ -5,27 +5,19 @@
 
 ghost use Rattle.memory.specs.Kept.{Kept};
 
+use numbers::MAX;
 use oracle::{Answer, SIZE, Verdict};
 
 const ROOM: usize = 4;
 
-fn show_verdict(rt: &(impl Print + Eprint), v: Verdict) {
-    let early = v.early;
-    let settled = v.settled;
-    show::digits(
-        rt,
-        oracle::bit(v.value),
-        oracle::digit(early),
-        oracle::digit(settled),
-    );
+fn show_verdict(rt: &(impl Print + Eprint), verdict: Verdict) {
+    show::value(rt, format_args!(" {verdict}"));
 }
 
-fn show_list(rt: &(impl Print + Eprint), number: u64, list: [Verdict; ROOM]) {
+fn show_list(rt: &(impl Print + Eprint), number: u64, list: &[Verdict]) {
     show::number(rt, number);
-    let mut i = 0;
-    while i < ROOM {
-        show_verdict(rt, list[i]);
-        i += 1;
+    for verdict in list {
+        show_verdict(rt, *verdict);
     }
     show::text(rt, b"\n");
 }
@@ -35,134 +27,47 @@ fn show_answers(rt: &(impl Print + Eprint), monitor: &[u64; SIZE], before: [Verd
     requires { Kept monitor.now }
 {
     let mut list = before;
-    let number = oracle::answers(monitor, &mut list);
-    show_list(rt, number, list);
+    let answered = oracle::answers(monitor, &mut list);
+    show_list(rt, oracle::refused_with(answered), &list);
 }
 
 // All verdicts by value, after their count.
 fn show_all(rt: &(impl Print + Eprint), monitor: &[u64; SIZE])
     requires { Kept monitor.now }
 {
-    let verdicts = oracle::all(monitor);
-    let count = verdicts.count;
+    let count = oracle::all(monitor).count;
     show::number(rt, count as u64);
-    let mut i = 0;
-    while i < count {
+    for i in 0..count {
         show_verdict(rt, oracle::of_property(monitor, i));
-        i += 1;
     }
     show::text(rt, b"\n");
 }
 
 fn show_book(rt: &(impl Print + Eprint), words: &[u64]) {
     let mut monitor = [0u64; SIZE];
-    oracle::load(words, &mut monitor);
+    let _ = oracle::load(words, &mut monitor);
     let old = Verdict {
         value: true,
         early: Answer::True,
         settled: Answer::True,
     };
-    let before = [old; ROOM];
-    show_answers(rt, &monitor, before);
+    show_answers(rt, &monitor, [old; ROOM]);
     show_all(rt, &monitor);
 }
 
 // The rows are an atom, Once[0,MAX] of it, True, False, and then an empty And and an empty Or.
 fn main(rt: HostRuntime) {
     let three = [
-        4u64,
-        2,
-        0,
-        0,
-        0,
-        8,
-        1,
-        0,
-        0xffff_ffff_ffff_ffff,
-        1,
-        0,
-        0,
-        0,
-        0,
-        0,
-        0,
-        0,
-        1,
-        0,
-        1,
-        1,
-        2,
-        2,
-        3,
+        4u64, 2, 0, 0, 0, 8, 1, 0, MAX, 1, 0, 0, 0, 0, 0, 0, 0, 1, 0, 1, 1, 2, 2, 3,
     ];
     show_book(&rt, &three);
     let four = [
-        5u64,
-        2,
-        0,
-        0,
-        0,
-        8,
-        1,
-        0,
-        0xffff_ffff_ffff_ffff,
-        1,
-        0,
-        0,
-        0,
-        0,
-        0,
-        0,
-        0,
-        3,
-        0,
-        0,
-        0,
-        1,
-        0,
-        2,
-        1,
-        4,
-        2,
-        2,
-        3,
+        5u64, 2, 0, 0, 0, 8, 1, 0, MAX, 1, 0, 0, 0, 0, 0, 0, 0, 3, 0, 0, 0, 1, 0, 2, 1, 4, 2, 2, 3,
     ];
     show_book(&rt, &four);
     let five = [
-        6u64,
-        2,
-        0,
-        0,
-        0,
-        8,
-        1,
-        0,
-        0xffff_ffff_ffff_ffff,
-        1,
-        0,
-        0,
-        0,
-        0,
-        0,
-        0,
-        0,
-        3,
-        0,
-        0,
-        0,
-        4,
-        0,
-        0,
-        0,
-        1,
-        0,
-        2,
-        1,
-        4,
-        3,
-        2,
-        3,
-        5,
+        6u64, 2, 0, 0, 0, 8, 1, 0, MAX, 1, 0, 0, 0, 0, 0, 0, 0, 3, 0, 0, 0, 4, 0, 0, 0, 1, 0, 2, 1,
+        4, 3, 2, 3, 5,
     ];
     show_book(&rt, &five);
 }

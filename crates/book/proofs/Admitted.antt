@@ -7,6 +7,7 @@ use mathlib.Core.List.{List, [], ◌∷◌}
 use native.Mathlib.Omega.{arith}
 use lib.Dec.{eqb}
 use borrow.Author.Tests.{eqb-true}
+use Rattle.std.specs.Prelude.{Option, Some, None}
 use Rattle.lists.proofs.Tests.{either}
 use Rattle.pmtl.specs.Book.{Book, empty_book}
 use Rattle.pmtl.specs.Flat.{flat}
@@ -16,10 +17,9 @@ use Rattle.pmtl.proofs.Flat.{none_flat}
 use Rattle.pmtl.proofs.Strict.{none_strict}
 use Rattle.book.specs.declared.loading.Loading.{Loading}
 use Rattle.book.specs.declared.strict.Excess.{Excess}
-use Rattle.book.specs.declared.strict.Excess.TheVariants.{Within, Over}
 use Rattle.book.specs.Reading.{Read, got, refused, Sections, sections}
 use Rattle.book.specs.Judging.{judged, book_in, Loaded, refused_with, loaded_from, whole, loaded}
-use Rattle.book.specs.Strict.{strictly, excess_by, unless, roomed}
+use Rattle.book.specs.Strict.{over, strictly, excess_by, unless, roomed}
 use Rattle.book.specs.Loading.{way_in, takes, flatly, admitted, loaded_by}
 use Rattle.book.proofs.Excess.{accepted_roomed, refused_roomed, roomed_strict, strict_roomed, roomed_within}
 
@@ -60,8 +60,8 @@ module _ {l l' : Loaded} (left : (l' ≡ l) ⊎ (l' ≡ refused_with 17)) where
 -- ---- each way of loading
 module _ (way : Loading) where
   -- a book that has a row that strict loading refuses is refused with 15, whether it is flat or not
-  pub fifteen_first : (l : Loaded) (r n : ℕ) → excess_by way l.book.rows ≡ Over r n → admitted way l ≡ refused_with 15
-  fifteen_first l r n e = ap (λ (x : Excess). flatly (way_in way) (unless x l)) e ∙ taken_stays (way_in way) (refused_with 15) (none_taken (way_in way))
+  pub fifteen_first : (l : Loaded) (r n : ℕ) → excess_by way l.book.rows ≡ Some (over r n) → admitted way l ≡ refused_with 15
+  fifteen_first l r n e = ap (λ (x : Option Excess). flatly (way_in way) (unless x l)) e ∙ taken_stays (way_in way) (refused_with 15) (none_taken (way_in way))
 
   both : (l : Loaded) → (admitted way l).number ≡ 0 → admitted way l ≡ roomed way l
   both l = accepted_left (cases (way_in way) (roomed way l))
@@ -78,7 +78,7 @@ module _ (way : Loading) where
   refused_by words = refused_left (cases (way_in way) (roomed way (loaded words))) (refused_roomed way words)
 
   -- a book that is accepted has no such row
-  pub accepted_within : (l : Loaded) → (admitted way l).number ≡ 0 → excess_by way l.book.rows ≡ Within
+  pub accepted_within : (l : Loaded) → (admitted way l).number ≡ 0 → excess_by way l.book.rows ≡ None
   accepted_within l h = roomed_within way l (roomed_too l h)
 
   -- where loading is strict, a book, accepted or empty, has no row that can need more runs than a set may have
@@ -99,11 +99,11 @@ module _ (way : Loading) where
 
 -- ---- what is so of a book, and of one that is refused with 15 or 17, is so of what loading comes to
 pub admitted_all : (Q : Loaded → Type 0) → Q (refused_with 15) → Q (refused_with 17) → (way : Loading) (l : Loaded) → Q l → Q (admitted way l)
-admitted_all Q over nested way l h = ⊎_elim (λ e. rw e (within (excess_by way l.book.rows))) (λ e. rw e nested) (cases (way_in way) (roomed way l))
+admitted_all Q some nested way l h = ⊎_elim (λ e. rw e (within (excess_by way l.book.rows))) (λ e. rw e nested) (cases (way_in way) (roomed way l))
   where
-    within : (x : Excess) → Q (unless x l)
-    within Within = h
-    within (Over r n) = over
+    within : (x : Option Excess) → Q (unless x l)
+    within None = h
+    within (Some x) = some
 
 -- what is so of the empty book, and of every book whose sections are accepted, is so of the book that is loaded
 module _ (P : Book → Type 0) (none : P empty_book) where

@@ -1,3 +1,4 @@
+pub mod KindWords
 pub mod Tests
 pub mod Accepted
 pub mod Placing

@@ -1,23 +1,21 @@
 -- The operands and their owners: what the loop over the rows keeps. Assumes nothing.
-use mathlib.Core.Path.{◌≡◌, refl, ◌∙◌}
-use mathlib.Core.Bool.{Bool, true, ◌&&◌}
+use mathlib.Core.Path.{◌≡◌, refl, sym, ◌∙◌}
+use mathlib.Core.Bool.{Bool, true, false, ◌&&◌, and-true}
 use mathlib.Core.List.{List, []}
-use Prim.Native.Nat.{ℕ, zero, suc, ◌+◌, ◌/◌, ◌≤◌, ◌<◌}
-use native.Mathlib.Nat.{zero-add}
+use Prim.Native.Nat.{ℕ, zero, suc, ◌+◌, ◌-◌, ◌/◌, ◌≤◌, ◌<◌}
 use native.Mathlib.Numerals.{add-one}
 use native.Mathlib.Omega.{arith}
-use lib.ListN.{length}
-use lib.Dec.{ltb, eqb, lit<}
-use borrow.Author.Tests.{eq-eqb, ne_eqb, eqb-true}
-use Rattle.lists.proofs.Tests.{and_intro, and_no_left, and_no_right}
-use Rattle.pmtl.specs.Book.{every}
+use lib.ListN.{length, take, drop}
+use lib.Dec.{ltb, eqb}
+use borrow.Author.Tests.{ne_eqb, eqb-true}
+use Rattle.std.specs.List.{list_all}
+use Rattle.lists.proofs.Tests.{and_no_left, and_no_right}
 use Rattle.book.specs.Rows.{count_of}
 use Rattle.book.specs.Judging.{kind_in, arg_in, start_in, first_to, all_to, arg_good, row_number, operands_good, links_good}
 use Rattle.book.specs.Placing.{sections_of}
-use Rattle.book.specs.Private.{all_below, operands_met}
-use Rattle.book.proofs.Tests.{Answers, due, undue, good, carried}
+use Rattle.book.specs.Private.{operands_met}
 use Rattle.book.proofs.Accepted.{start_mono, first_each, row_form, form_arg, arg_kind}
-use Rattle.book.proofs.All.{all_fails, every_all, every_append}
+use Rattle.book.proofs.All.{all_fails, all_in_part, every_append}
 
 -- ---- how many operands a row takes
 pub takes_none : (kind arg : ℕ) → kind < 3 → ◌≡◌ {A = ℕ} 0 (count_of kind arg)
@@ -61,58 +59,50 @@ module _ (ws : List ℕ) (r kind arg start count : ℕ) (k : kind ≡ kind_in ws
 
   module _ (operands : List ℕ) where
     -- the rows up to this one need more than there are
-    pub too_few : r < length ws / 4 → length operands < start + count → Answers 5 5 (operands_met ws operands)
+    pub too_few : r < length ws / 4 → length operands < start + count → false ≡ operands_met ws operands
     unfolding operands_met
     too_few l m =
-        due (operands_met ws operands) 5
-        (and_no_left _ _ (ne_eqb (start_in ws (length ws / 4)) (length operands) (λ e. omega (arith, start_mono ws r (length ws / 4) l, counted))))
+        sym
+        (and_no_left (eqb (start_in ws (length ws / 4)) (length operands)) _
+        (ne_eqb (start_in ws (length ws / 4)) (length operands) (λ e. omega (arith, start_mono ws r (length ws / 4) l, counted))))
 
-    owner : operands_good (sections_of ws operands [] []) r ≡ all_below operands start count r
-    unfolding operands_good all_below
-    owner = rw (s, counted)
+    module _ (fits : start + count ≤ length operands) {b : Bool} (t : b ≡ list_all (λ p. ltb p r) (take (start + count - start) (drop start operands))) where
+      owner : b ≡ operands_good (sections_of ws operands [] []) r
+      unfolding operands_good
+      owner = t ∙ all_in_part (λ p. ltb p r) operands start count fits ∙ rw (← s, ← counted)
 
-    -- an operand of this row is not below it
-    pub not_below : (w : ℕ) → Answers w 5 (all_below operands start count r) → (w ≡ 0 → ⊥) → r < length ws / 4 → Answers w 5 (operands_met ws operands)
-    unfolding operands_met
-    not_below w e wrong l =
-        carried (all_below operands start count r) (operands_met ws operands) 5 w e wrong
-        (λ h. and_no_right (eqb (start_in ws (length ws / 4)) (length operands)) _ (all_fails (operands_good (sections_of ws operands [] [])) r (length ws / 4) l (owner ∙ h)))
+      -- an operand of this row is not below it
+      pub not_below : b ≡ false → r < length ws / 4 → false ≡ operands_met ws operands
+      unfolding operands_met
+      not_below z l =
+          sym
+          (and_no_right (eqb (start_in ws (length ws / 4)) (length operands)) _
+          (all_fails (operands_good (sections_of ws operands [] [])) r (length ws / 4) l (sym owner ∙ z)))
 
-    -- all are below it
-    pub below : (w : ℕ) → Answers w 5 (all_below operands start count r) → w ≡ 0 → operands_good (sections_of ws operands [] []) r ≡ true
-    below w e z = owner ∙ good (all_below operands start count r) 5 w (lit< tt) e z
+      -- all are below it
+      pub below : b ≡ true → operands_good (sections_of ws operands [] []) r ≡ true
+      below z = sym owner ∙ z
 
 -- ---- all the rows' operands
-module _ (ws operands : List ℕ) (r start : ℕ) (e : r ≡ length ws / 4) (s : start ≡ start_in ws r) where
-  pub too_many : (start ≡ length operands → ⊥) → Answers 5 5 (operands_met ws operands)
-  unfolding operands_met
-  too_many other = due (operands_met ws operands) 5 (and_no_left (eqb (start_in ws (length ws / 4)) (length operands)) _ (rw (← e, ← s) (ne_eqb start (length operands) other)))
-
-  pub all_met : start ≡ length operands → all_to (operands_good (sections_of ws operands [] [])) r ≡ true → Answers 0 5 (operands_met ws operands)
-  unfolding operands_met
-  all_met same h = undue (operands_met ws operands) 5 (rw (← e, ← s) (and_intro _ _ (eq-eqb start (length operands) same) h))
+pub all_met : (ws operands : List ℕ) (r start : ℕ) → r ≡ length ws / 4 → start ≡ start_in ws r → all_to (operands_good (sections_of ws operands [] [])) r ≡ true
+    → eqb start (length operands) ≡ operands_met ws operands
+unfolding operands_met
+all_met ws operands r start e s h = rw (← e, ← s, h, and-true)
 
 -- ---- and the properties
-module _ (ws operands assumes guarantees : List ℕ) where
-  abbrev below_all : List ℕ → Bool
-  below_all ps = all_below ps 0 (length ps) (length ws / 4)
+pub links_are : (ws operands assumes guarantees : List ℕ)
+    → (operands_met ws operands && (list_all (λ p. ltb p (length ws / 4)) assumes && list_all (λ p. ltb p (length ws / 4)) guarantees))
+    ≡ links_good (sections_of ws operands assumes guarantees)
+unfolding links_good operands_met operands_good
+links_are ws operands assumes guarantees = rw every_append
 
-  every_below : (ps : List ℕ) → every (λ p. ltb p (length ws / 4)) ps ≡ below_all ps
-  unfolding all_below
-  every_below ps = every_all (λ p. ltb p (length ws / 4)) ps ∙ simp zero-add
+module _ (ws operands assumes guarantees : List ℕ) {x : Bool} (e : x ≡ operands_met ws operands) where
+  pub no_operands : x ≡ false → false ≡ links_good (sections_of ws operands assumes guarantees)
+  no_operands h = rw (sym e ∙ h) at (links_are ws operands assumes guarantees)
 
-  links_are : links_good (sections_of ws operands assumes guarantees) ≡ (operands_met ws operands && (below_all assumes && below_all guarantees))
-  unfolding links_good operands_met operands_good
-  links_are = rw (every_append, every_below assumes, every_below guarantees)
+  module _ (t : x ≡ true) {y : Bool} (f : y ≡ list_all (λ p. ltb p (length ws / 4)) assumes) where
+    pub no_assumes : y ≡ false → false ≡ links_good (sections_of ws operands assumes guarantees)
+    no_assumes h = rw (sym e ∙ t, sym f ∙ h) at (links_are ws operands assumes guarantees)
 
-  pub in_operands : (w : ℕ) → Answers w 5 (operands_met ws operands) → (w ≡ 0 → ⊥) → Answers w 5 (links_good (sections_of ws operands assumes guarantees))
-  in_operands w e wrong = carried (operands_met ws operands) (links_good (sections_of ws operands assumes guarantees)) 5 w e wrong (λ h. links_are ∙ and_no_left (operands_met ws operands) _ h)
-
-  pub in_assumes : (w : ℕ) → Answers w 5 (below_all assumes) → (w ≡ 0 → ⊥) → Answers w 5 (links_good (sections_of ws operands assumes guarantees))
-  in_assumes w e wrong =
-      carried (below_all assumes) (links_good (sections_of ws operands assumes guarantees)) 5 w e wrong (λ h. links_are ∙ and_no_right (operands_met ws operands) _ (and_no_left (below_all assumes) _ h))
-
-  pub in_guarantees : (v u w : ℕ) → Answers v 5 (operands_met ws operands) → v ≡ 0 → Answers u 5 (below_all assumes) → u ≡ 0
-      → Answers w 5 (below_all guarantees) → Answers w 5 (links_good (sections_of ws operands assumes guarantees))
-  in_guarantees v u w ev zv eu zu e =
-      rw (links_are, good (operands_met ws operands) 5 v (lit< tt) ev zv, good (below_all assumes) 5 u (lit< tt) eu zu) e
+    pub by_guarantees : y ≡ true → {z : Bool} → z ≡ list_all (λ p. ltb p (length ws / 4)) guarantees → z ≡ links_good (sections_of ws operands assumes guarantees)
+    by_guarantees h g = g ∙ rw (sym e ∙ t, sym f ∙ h) at (links_are ws operands assumes guarantees)

@@ -88,6 +88,9 @@ module _ (words : List ℕ) (n o a g : ℕ) (c : Counted words n o a g) where
   }
 
 -- ---- words whose sections are placed
+pub placed : {words : List ℕ} {n o a g : ℕ} → 0 ≡ (loaded words).number → Counted words n o a g → Placed words 0 n o a g
+placed e c = record { number_is = e; counted = λ z. c; none = λ wrong. absurd (wrong refl) }
+
 module _ (words : List ℕ) (number n o a g : ℕ) (p : Placed words number n o a g) where
   -- accepted: nothing is wrong with the sections, and the book is theirs
   pub accepted : number ≡ 0 → judged (parts_of words n o a g) ≡ 0

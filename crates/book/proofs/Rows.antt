@@ -1,10 +1,12 @@
 -- The rows in their order: what the loop over them keeps. Assumes nothing.
 use mathlib.Core.Path.{◌≡◌, refl, sym, ◌∙◌}
+use mathlib.Core.Bool.{Bool, true, false}
 use mathlib.Core.Logic.{⊎_elim}
 use mathlib.Core.List.{List}
 use Prim.Native.Nat.{ℕ, zero, suc, ◌+◌, ◌<◌}
 use native.Mathlib.Nat.{le_of_suc-le-suc, not-suc-le-zero, eq-or-lt_of_le}
 use native.Mathlib.Numerals.{add-one}
+use Rattle.std.specs.Int.{from_bool}
 use Rattle.pmtl.specs.Answer.{bit_of}
 use Rattle.book.specs.Rows.{temporal}
 use Rattle.book.specs.Judging.{kind_in, temporals_in, first_of, first_to}
@@ -37,6 +39,11 @@ pub temporals_start : (ws : List ℕ) → ◌≡◌ {A = ℕ} 0 (temporals_in ws
 unfolding temporals_in
 temporals_start ws = refl
 
-pub temporals_more : (ws : List ℕ) (r t kind bit : ℕ) → t ≡ temporals_in ws r → kind ≡ kind_in ws r → bit ≡ bit_of (temporal kind) → t + bit ≡ temporals_in ws (r + 1)
+-- a bool as a number
+bit_is : (b : Bool) → from_bool b ≡ bit_of b
+bit_is true = refl
+bit_is false = refl
+
+pub temporals_more : (ws : List ℕ) (r t bit : ℕ) {b : Bool} → t ≡ temporals_in ws r → bit ≡ from_bool b → b ≡ temporal (kind_in ws r) → t + bit ≡ temporals_in ws (r + 1)
 unfolding temporals_in
-temporals_more ws r t kind bit e k b = rw (add-one, ← e, ← k, ← b)
+temporals_more ws r t bit {b} e k y = rw (add-one, ← e, k, bit_is, ← y)

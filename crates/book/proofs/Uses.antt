@@ -9,14 +9,14 @@ use native.Mathlib.Omega.{arith}
 use lib.ListN.{length, get_or, take, set, replicate, length-set, get_or-replicate}
 use lib.Seq.{length-take-le, take-suc, get_or-set_same, get_or-set_other, take-length}
 use lib.Dec.{eqb}
-use borrow.Author.Tests.{eqb-true, eqb-false, eq-eqb, ne_eqb}
+use borrow.Author.Tests.{eqb-true, eqb-false}
+use Rattle.std.specs.List.{list_all}
 use Rattle.pmtl.specs.Answer.{bit_of}
 use Rattle.book.specs.Reading.{Sections}
-use Rattle.book.specs.Judging.{rows_in, all_to, times_in, uses_of, used_once}
-use Rattle.book.specs.Private.{number_unless, Countable, Tallied, Linked}
-use Rattle.book.proofs.Tests.{Answers}
+use Rattle.book.specs.Judging.{rows_in, times_in, uses_of, used_once}
+use Rattle.book.specs.Private.{Countable, Tallied, Linked}
 use Rattle.book.proofs.Accepted.{linked_operand, linked_assume, linked_guarantee}
-use Rattle.book.proofs.All.{one_fails, all_more, all_same}
+use Rattle.book.proofs.All.{all_same, all_in_front}
 
 pub times_append : (r : ℕ) (xs ys : List ℕ) → times_in r (xs ++ ys) ≡ times_in r xs + times_in r ys
 unfolding times_in
@@ -66,14 +66,6 @@ module _ (uses times₀ : List ℕ) where
     pub tally_done : i ≡ length uses → Tallied uses times₀ times
     tally_done e = rw (e, take-length) at t
 
--- a table of counts, looked through
-module _ (times : List ℕ) (row : ℕ) where
-  pub not_once : (n : ℕ) → row < n → (get_or times row 0 ≡ 1 → ⊥) → Answers 6 6 (all_to (λ r. eqb (get_or times r 0) 1) n)
-  not_once n l other = one_fails (λ r. eqb (get_or times r 0) 1) 6 row n l (ne_eqb (get_or times row 0) 1 other)
-
-  pub once_more : all_to (λ r. eqb (get_or times r 0) 1) row ≡ true → get_or times row 0 ≡ 1 → all_to (λ r. eqb (get_or times r 0) 1) (row + 1) ≡ true
-  once_more h e = all_more (λ r. eqb (get_or times r 0) 1) row h (eq-eqb (get_or times row 0) 1 e)
-
 -- ---- the three places where rows are used, tallied one after the other in a table of zeros
 abbrev zeros : List ℕ
 zeros = replicate 128 0
@@ -112,7 +104,8 @@ module _ (s : Sections) (ok : Linked s) where
             omega (arith, zero_at r m, o.more r m, a.more r m, g.more r m, times_append r (s.operands ++ s.assumes) s.guarantees, times_append r s.operands s.assumes)
 
         -- each count is 1 exactly if each row is used once
-        pub once : (w : ℕ) → Answers w 6 (all_to (λ r. eqb (get_or t₃ r 0) 1) (rows_in s)) → Answers w 6 (used_once s)
+        pub once : list_all (λ x. eqb x 1) (take (rows_in s) t₃) ≡ used_once s
         unfolding used_once
-        once w e =
-            e ∙ ap (number_unless 6) (all_same (λ r. eqb (get_or t₃ r 0) 1) (λ r. eqb (times_in r (uses_of s)) 1) (rows_in s) (λ r l. ap (λ n. eqb n 1) (all_tallied r (omega (arith, ok.few.rows)))))
+        once =
+            all_in_front (λ x. eqb x 1) t₃ (rows_in s) (omega (arith, ok.few.rows, g.long))
+            ∙ all_same (λ r. eqb (get_or t₃ r 0) 1) (λ r. eqb (times_in r (uses_of s)) 1) (rows_in s) (λ r l. ap (λ n. eqb n 1) (all_tallied r (omega (arith, ok.few.rows))))

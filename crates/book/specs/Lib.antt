@@ -1,5 +1,6 @@
 pub mod Reading
 pub mod Judging
+pub mod Kinds
 pub mod Strict
 pub mod Loading
 pub mod Placing

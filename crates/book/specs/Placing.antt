@@ -4,8 +4,6 @@ use Rattle.lists.specs.Lists.{part}
 use Rattle.book.specs.Reading.{got, Sections, sections}
 use Rattle.numbers.specs.Limits.{ROW_WORDS, MOST_ASSUMES, MOST_GUARANTEES, MOST_OPERANDS, MOST_ROWS}
 use Rattle.book.specs.Judging.{loaded}
-use Rattle.book.specs.declared.loading.Loading.{Loading}
-use Rattle.book.specs.Strict.{roomed}
 use Rattle.numbers.specs.Refusals.{ACCEPTED, WRONG_LENGTH}
 
 -- the sections, from how many rows, operands, assumes and guarantees there are: each stands after its count
@@ -33,11 +31,5 @@ pub record Counted (words : List ℕ) (n o a g : ℕ) : Type 0 where
 -- the number that the words are refused with, and the counts: all 0 where they are refused
 pub record Placed (words : List ℕ) (number n o a g : ℕ) : Type 0 where
   pub number_is : number ≡ (loaded words).number
-  pub counted : number ≡ ACCEPTED → Counted words n o a g
-  pub none : (number ≡ ACCEPTED → ⊥) → (n ≡ 0) × (o ≡ 0) × (a ≡ 0) × (g ≡ 0)
-
--- the same of what strict loading leaves
-pub record PlacedBy (way : Loading) (words : List ℕ) (number n o a g : ℕ) : Type 0 where
-  pub number_is : number ≡ (roomed way (loaded words)).number
   pub counted : number ≡ ACCEPTED → Counted words n o a g
   pub none : (number ≡ ACCEPTED → ⊥) → (n ≡ 0) × (o ≡ 0) × (a ≡ 0) × (g ≡ 0)

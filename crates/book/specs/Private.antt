@@ -1,49 +1,31 @@
 -- Private steps of judging: what the functions that no other crate can call promise each other. Definitions only.
-use Rattle.std.specs.Prelude.{ℕ, ◌+◌, ◌*◌, ◌-◌, ◌/◌, ◌≤◌, ◌<◌, ◌≡◌, Bool, true, cond, not, ◌&&◌, List, [], ◌∷◌, length, get_or, drop, ltb, eqb}
+use Rattle.std.specs.Prelude.{ℕ, ◌+◌, ◌*◌, ◌/◌, ◌≤◌, ◌<◌, ◌≡◌, Bool, true, cond, ◌&&◌, List, [], length, get_or, drop, eqb, Option, Some, None}
 use Rattle.lists.specs.Lists.{part}
 use Rattle.pmtl.specs.Book.{Range}
 use Rattle.pmtl.specs.Strict.{needed}
+use Rattle.book.specs.declared.check.Sections.{Sections as Slices}
 use Rattle.book.specs.declared.strict.Excess.{Excess}
-use Rattle.book.specs.declared.strict.Excess.TheVariants.{Within, Over}
 use Rattle.book.specs.Rows.{temporal}
-use Rattle.book.specs.Reading.{got, refused, Sections, section}
-use Rattle.numbers.specs.Limits.{ROW_WORDS, MOST_ASSUMES, MOST_ATOMS, MOST_GUARANTEES, MOST_OPERANDS, MOST_ROWS, MOST_RUNS}
-use Rattle.book.specs.Judging.{kind_in, lower_in, upper_in, rows_in, start_in, all_to, operands_good, links_good, times_in, refused_with, loaded}
-use Rattle.book.specs.Placing.{sections_of, Counted}
-use Rattle.numbers.specs.Refusals.{ACCEPTED, WRONG_LENGTH}
+use Rattle.book.specs.Reading.{got, Sections, section}
+use Rattle.numbers.specs.Limits.{ROW_WORDS, MOST_ASSUMES, MOST_GUARANTEES, MOST_OPERANDS, MOST_ROWS, MOST_RUNS}
+use Rattle.book.specs.Judging.{kind_in, lower_in, upper_in, rows_in, start_in, all_to, operands_good, links_good, times_in}
+use Rattle.book.specs.Placing.{sections_of}
+use Rattle.numbers.specs.Refusals.{WRONG_LENGTH}
 
 -- a range of these bounds
 abbrev pub range_in : ℕ → ℕ → Range
 range_in lower upper = record { lower = lower; upper = upper }
 
--- what reading alone says: the counts, or the numberUnless that ends it
-pub record Counting (words : List ℕ) (number n o a g : ℕ) : Type 0 where
-  pub counted : number ≡ ACCEPTED → Counted words n o a g
-  pub refused_as : (number ≡ ACCEPTED → ⊥) → loaded words ≡ refused_with number
-  pub none : (number ≡ ACCEPTED → ⊥) → (n ≡ 0) × (o ≡ 0) × (a ≡ 0) × (g ≡ 0)
+-- the sections that slices hold
+abbrev pub said_by : Slices → Sections
+said_by s = sections_of s.rows.now s.operands.now s.assumes.now s.guarantees.now
 
 -- what reading one section says, whose count stands at `at`
-pub record SectionCounting (words : List ℕ) (at limit size number count next : ℕ) : Type 0 where
+pub record SectionCounting (words : List ℕ) (at limit size count next : ℕ) : Type 0 where
   pub inside : next ≤ length words
-  pub few : number ≡ ACCEPTED → count ≤ limit
-  pub onward : number ≡ ACCEPTED → next ≡ at + 1 + size * count
-  pub read : number ≡ ACCEPTED → section WRONG_LENGTH limit size (drop at words) ≡ got (part (at + 1) (size * count) words) (drop next words)
-  pub refused_as : (number ≡ ACCEPTED → ⊥) → section WRONG_LENGTH limit size (drop at words) ≡ refused number
-
--- the number that a test refuses with, 0 where it passed
-abbrev pub number_unless : ℕ → Bool → ℕ
-number_unless n good = cond (not good) n 0
-
--- the least and the largest arg of each kind
-abbrev pub least_args : List ℕ
-least_args = 0 ∷ 0 ∷ 0 ∷ 0 ∷ 0 ∷ 1 ∷ 2 ∷ 1 ∷ 1 ∷ 2 ∷ []
-
-abbrev pub largest_args : List ℕ
-largest_args = 0 ∷ 0 ∷ (MOST_ATOMS - 1) ∷ MOST_OPERANDS ∷ MOST_OPERANDS ∷ 1 ∷ 2 ∷ 1 ∷ 1 ∷ 2 ∷ []
-
--- the numbers from a place on, so many, are below a bound
-unfoldable pub all_below : List ℕ → ℕ → ℕ → ℕ → Bool
-all_below numbers from count bound = all_to (λ k. ltb (get_or numbers (from + k) 0) bound) count
+  pub few : count ≤ limit
+  pub onward : next ≡ at + 1 + size * count
+  pub read : section WRONG_LENGTH limit size (drop at words) ≡ got (part (at + 1) (size * count) words) (drop next words)
 
 -- the operands are as many as the rows need, and below their owners
 unfoldable pub operands_met : List ℕ → List ℕ → Bool
@@ -82,13 +64,13 @@ needed_in ws r = cond (temporal (kind_in ws r)) (needed (range_in (lower_in ws r
 abbrev pub NoneOver : List ℕ → ℕ → Type 0
 NoneOver ws r = (i : ℕ) → i < r → needed_in ws i ≤ MOST_RUNS
 
--- r is the first that can, or there is none and r is the row count
+-- r is the first that can
 pub record FirstIn (ws : List ℕ) (r : ℕ) : Type 0 where
-  pub inside : r ≤ length ws / ROW_WORDS
+  pub inside : r < length ws / ROW_WORDS
   pub none_before : NoneOver ws r
-  pub over : r < length ws / ROW_WORDS → MOST_RUNS < needed_in ws r
+  pub over : MOST_RUNS < needed_in ws r
 
 -- what that says of rows: none can, or the first that can and how many it can need
-abbrev pub Surplus : List ℕ → Excess → Type 0
-Surplus ws Within = NoneOver ws (length ws / ROW_WORDS)
-Surplus ws (Over r n) = FirstIn ws r × (r < length ws / ROW_WORDS) × (n ≡ needed_in ws r)
+abbrev pub Surplus : List ℕ → Option Excess → Type 0
+Surplus ws None = NoneOver ws (length ws / ROW_WORDS)
+Surplus ws (Some e) = FirstIn ws e.row × (e.count ≡ needed_in ws e.row)

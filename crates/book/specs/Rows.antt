@@ -3,7 +3,7 @@ use Rattle.std.specs.Prelude.{ℕ, Bool, List, [], ◌∷◌, get_or, take, leb}
 use Rattle.pmtl.specs.Book.{Range, Row}
 use Rattle.pmtl.specs.Book.Row.{never, always, atom, conj, disj, neg, implies, historically, once, since}
 
--- the kinds of a row that definitions name: the code has the same names
+-- the words of the kinds that definitions name
 abbrev pub ATOM : ℕ
 ATOM = 2
 

@@ -4,7 +4,7 @@ ghost use Rattle.book.specs.Strict.{strictly};
 
 // As any that is in order, or strictly, so that no call ever lacks room; each for the ordinary way of monitoring, or for the lasting one, in which a
 // state lasts until the next call.
-#[derive(Clone, Copy)]
+#[derive(Clone, Copy, Debug, PartialEq, Eq)]
 pub enum Loading {
     Ordinary,
     Strict,
@@ -12,14 +12,10 @@ pub enum Loading {
     LastingStrict,
 }
 
-// Whether it is strict.
-pub fn is_strict(way: Loading) -> bool
-    ensures { result ≡ strictly way }
-{
-    match way {
-        Loading::Ordinary => false,
-        Loading::Strict => true,
-        Loading::Lasting => false,
-        Loading::LastingStrict => true,
+impl Loading {
+    pub fn is_strict(self) -> bool
+        ensures { result ≡ strictly self }
+    {
+        matches!(self, Loading::Strict | Loading::LastingStrict)
     }
 }

@@ -1,23 +1,22 @@
 // Strict loading: a book is refused, too, where a row can need more runs than a set may have, so that no call ever lacks room.
-ghost use Rattle.std.specs.Prelude.{◌≡◌, true, ◌/◌, ◌<◌, length};
+ghost use Rattle.std.specs.Prelude.{◌≡◌, true, ◌/◌, ◌<◌, length, IfOk};
 ghost use Rattle.numbers.specs.Limits.{ROW_WORDS};
-ghost use Rattle.numbers.specs.Refusals.{ACCEPTED};
+ghost use Rattle.numbers.specs.Refusals.{ACCEPTED, refused_with};
 ghost use Rattle.pmtl.specs.Strict.{needed as strict_needed};
 ghost use Rattle.book.specs.Judging.{first_to, range_good, row_number, loaded};
-ghost use Rattle.book.specs.Placing.{Placed, PlacedBy};
-ghost use Rattle.book.specs.Private.{range_in, needed_in, FirstIn, Surplus};
-ghost use Rattle.book.specs.Strict.{excess_by};
+ghost use Rattle.book.specs.Placing.{Counted};
+ghost use Rattle.book.specs.Private.{range_in, needed_in, Surplus};
+ghost use Rattle.book.specs.Strict.{excess_by, roomed};
 
-use crate::HISTORICALLY;
-use crate::check::{Places, kind_in, lower_in, place, refused, rows_part, upper_in};
-use crate::loading::{Loading, is_strict};
-use numbers::{ACCEPTED, COULD_RUN_OUT, MAX, MOST_RUNS, ROW_WORDS};
+use crate::check::{Places, is_temporal, lower_in, place, rows_part, upper_in};
+use crate::loading::Loading;
+use numbers::{MAX, MOST_RUNS, ROW_WORDS, Refusal};
 
-// What strict loading refuses: the first row that can need more runs than a set may have, and how many it can need.
-#[derive(Clone, Copy)]
-pub enum Excess {
-    Within,
-    Over(u64, u64),
+// What strict loading refuses: a row that can need more runs than a set may have, and how many it can need.
+#[derive(Clone, Copy, Debug, PartialEq, Eq)]
+pub struct Excess {
+    pub row: u64,
+    pub count: u64,
 }
 
 // From upper - lower to where the next run begins: a run is an instant longer, and the next is an instant apart.
@@ -39,67 +38,58 @@ fn needed_in(rows: &[u64], row: usize) -> u64
     requires { (row < length rows.now / ROW_WORDS) × (first_to (row_number rows.now) (length rows.now / ROW_WORDS) ≡ ACCEPTED) }
     ensures { result ≡ needed_in rows.now row }
 {
-    if kind_in(rows, row) < HISTORICALLY {
+    if !is_temporal(rows, row) {
         return 0;
     }
     needed(lower_in(rows, row), upper_in(rows, row))
 }
 
-// The first row that can need more runs than a set may have; the row count where none can.
-fn first_over(rows: &[u64]) -> usize
-    requires { first_to (row_number rows.now) (length rows.now / ROW_WORDS) ≡ ACCEPTED }
-    ensures { FirstIn rows.now result }
-{
-    let mut row = 0;
-    while row < rows.len() / ROW_WORDS {
-        if needed_in(rows, row) > MOST_RUNS as u64 {
-            return row;
-        }
-        row += 1;
-    }
-    row
-}
-
-// What strict loading refuses in rows that are in order.
-fn excess_in(rows: &[u64]) -> Excess
+// The first row that strict loading refuses, of rows that are in order.
+fn excess_in(rows: &[u64]) -> Option<Excess>
     requires { first_to (row_number rows.now) (length rows.now / ROW_WORDS) ≡ ACCEPTED }
     ensures { Surplus rows.now result }
 {
-    let row = first_over(rows);
-    if row < rows.len() / ROW_WORDS {
-        return Excess::Over(row as u64, needed_in(rows, row));
+    for row in 0..rows.len() / ROW_WORDS {
+        let count = needed_in(rows, row);
+        if count > MOST_RUNS as u64 {
+            return Some(Excess {
+                row: row as u64,
+                count,
+            });
+        }
     }
-    Excess::Within
+    None
 }
 
-// The same of words whose sections stand where places tell: nothing where they are refused already, and where loading is not strict.
-fn excess_at(way: Loading, words: &[u64], places: Places) -> Excess
-    requires { Placed words.now places.number places.rows places.operands places.assumes places.guarantees }
+// The same of an accepted book whose sections stand where places tell: nothing where loading is not strict.
+fn excess_at(way: Loading, words: &[u64], places: Places) -> Option<Excess>
+    requires { ((loaded words.now).number ≡ ACCEPTED) × Counted words.now places.rows places.operands places.assumes places.guarantees }
     ensures { result ≡ excess_by way (loaded words.now).book.rows }
 {
-    if is_strict(way) {
-        if places.number != ACCEPTED {
-            return Excess::Within;
-        }
-        return excess_in(rows_part(words, places));
+    if !way.is_strict() {
+        return None;
     }
-    Excess::Within
+    excess_in(rows_part(words, places))
 }
 
 // What this way of loading refuses in a book that is in order.
-pub fn first_excess(way: Loading, words: &[u64]) -> Excess
+pub fn first_excess(way: Loading, words: &[u64]) -> Option<Excess>
     ensures { result ≡ excess_by way (loaded words.now).book.rows }
 {
-    excess_at(way, words, place(words))
+    let Ok(places) = place(words) else {
+        return None;
+    };
+    excess_at(way, words, places)
 }
 
 // Where the sections of a book stand that is accepted as far as its words alone tell in this way of loading, or what it is refused with.
-pub fn place_by(way: Loading, words: &[u64]) -> Places
-    ensures { PlacedBy way words.now result.number result.rows result.operands result.assumes result.guarantees }
+pub fn place_by(way: Loading, words: &[u64]) -> Result<Places, Refusal>
+    ensures number { refused_with result ≡ (roomed way (loaded words.now)).number }
+    ensures counted { IfOk result (λ p. Counted words.now p.rows p.operands p.assumes p.guarantees) }
 {
-    let places = place(words);
-    let Excess::Over(_, _) = excess_at(way, words, places) else {
-        return places;
-    };
-    refused(COULD_RUN_OUT)
+    let places = place(words)?;
+    if excess_at(way, words, places).is_some() {
+        return Err(Refusal::CouldRunOut);
+    }
+    Ok(places)
 }

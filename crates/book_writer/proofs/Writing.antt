@@ -1,8 +1,7 @@
 -- Laws of the loops that write lines. Assumes nothing.
-use Prim.Native.Nat.{ℕ, ◌+◌, ◌/◌, ◌≤◌, ◌<◌}
+use Prim.Native.Nat.{ℕ, ◌+◌, ◌/◌}
 use mathlib.Core.Path.{◌≡◌, refl}
 use mathlib.Core.List.{List, [], ◌∷◌}
-use native.Mathlib.Omega.{arith}
 use native.Mathlib.Numerals.{add-one}
 use lib.ListN.{length, get_or}
 use Rattle.numbers.specs.Limits.{ROW_WORDS}
@@ -14,34 +13,26 @@ use Rattle.buffer_writer.proofs.Writes.{and_then}
 use Rattle.book_writer.specs.Layout.{word_line, row_line, row_lines, section_line, book_text, text_of, book_said}
 
 -- nothing was written yet
-pub none_yet : (m : List ℕ) (at : ℕ) → Wrote m at [] m at
+none_yet : (m : List ℕ) (at : ℕ) → Wrote m at [] m at
 none_yet m at = record { same = λ rest. refl }
 
--- of n lines or words the first i are written
-pub record Passed (f : ℕ → List ℕ) (n : ℕ) (m : List ℕ) (at : ℕ) (m' : List ℕ) (at' i : ℕ) : Type 0 where
-  pub written : Wrote m at (f i) m' at'
-  pub low : i ≤ n
-  pub long : length m' ≡ length m
-
-module _ (ws : List ℕ) (n : ℕ) where
-  pub rows_start : (m : List ℕ) (at : ℕ) → Passed (row_lines ws) n m at m at 0
+-- one line or word more
+module _ (ws : List ℕ) where
+  pub rows_start : (m : List ℕ) (at : ℕ) → Wrote m at (row_lines ws 0) m at
   unfolding row_lines
-  rows_start m at = record { written = none_yet m at; low = omega arith; long = refl }
+  rows_start m at = none_yet m at
 
-  pub rows_more : {m m' m'' : List ℕ} {at at' at'' i : ℕ} → Passed (row_lines ws) n m at m' at' i → i < n → Wrote m' at' (row_line ws i) m'' at'' → length m'' ≡ length m' → Passed (row_lines ws) n m at m'' at'' (i + 1)
+  pub rows_more : {m m' m'' : List ℕ} {at at' at'' : ℕ} (i : ℕ) → Wrote m at (row_lines ws i) m' at' → Wrote m' at' (row_line ws i) m'' at'' → Wrote m at (row_lines ws (i + 1)) m'' at''
   unfolding row_lines
-  rows_more {i = i} p h w l = record { written = rw add-one (and_then p.written w); low = omega arith; long = omega (arith, p.long) }
+  rows_more i p w = rw add-one (and_then p w)
 
-  pub words_start : (m : List ℕ) (at : ℕ) → Passed (word_line ws) n m at m at 0
+  pub words_start : (m : List ℕ) (at : ℕ) → Wrote m at (word_line ws 0) m at
   unfolding word_line
-  words_start m at = record { written = none_yet m at; low = omega arith; long = refl }
+  words_start m at = none_yet m at
 
-  pub words_more : {m m' m'' : List ℕ} {at at' at'' i : ℕ} → Passed (word_line ws) n m at m' at' i → i < n → Wrote m' at' (space ∷ decimal (get_or ws i 0)) m'' at'' → length m'' ≡ length m' → Passed (word_line ws) n m at m'' at'' (i + 1)
+  pub words_more : {m m' m'' : List ℕ} {at at' at'' : ℕ} (i : ℕ) → Wrote m at (word_line ws i) m' at' → Wrote m' at' (space ∷ decimal (get_or ws i 0)) m'' at'' → Wrote m at (word_line ws (i + 1)) m'' at''
   unfolding word_line
-  words_more {i = i} p h w l = record { written = rw add-one (and_then p.written w); low = omega arith; long = omega (arith, p.long) }
-
-pub all_passed : {f : ℕ → List ℕ} {n : ℕ} {m m' : List ℕ} {at at' i : ℕ} → Passed f n m at m' at' i → n ≤ i → Wrote m at (f n) m' at'
-all_passed {f} {n} {i = i} p h = let e : i ≡ n = omega (arith, p.low) in rw e at p.written
+  words_more i p w = rw add-one (and_then p w)
 
 -- ---- a book, piece by piece
 pub book_written : {words rs os xs gs m m₁ m₂ m₃ m₄ m₅ m₆ : List ℕ} {n o a g at a₁ a₂ a₃ a₄ a₅ a₆ : ℕ} → Counted words n o a g

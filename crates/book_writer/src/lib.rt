@@ -1,18 +1,18 @@
 // A book's words in decimal digits: a row to a line, and each other section on a line.
 #![tactic(auto)]
 
-ghost use Rattle.std.specs.Prelude.{◌≡◌, ◌∷◌, [], ◌++◌, ◌/◌, ◌<◌, length};
+ghost use Rattle.std.specs.Prelude.{◌≡◌, ◌∷◌, ◌++◌, ◌/◌, ◌<◌, length};
 ghost use Rattle.numbers.specs.Limits.{ROW_WORDS};
 ghost use Rattle.numbers.specs.Refusals.{ACCEPTED};
-ghost use Rattle.text.specs.Words.{space, line_feed};
+ghost use Rattle.text.specs.Words.{space};
 ghost use Rattle.text.specs.Decimals.{decimal};
 ghost use Rattle.book.specs.Judging.{loaded};
 ghost use Rattle.buffer_writer.specs.Finish.{Wrote};
 ghost use Rattle.book_writer.specs.Layout.{book_word, word_line, row_line, row_lines, section_line, book_said};
 
 use book::check::{
-    arg_in, assumes_part, guarantees_part, kind_in, lower_in, operands_part, place, rows_part,
-    upper_in,
+    arg_in, assumes_part, guarantees_part, kind_in, lower_in, operands_part, place_accepted,
+    rows_part, upper_in,
 };
 use buffer_writer::{put_bytes, put_number};
 use numbers::ROW_WORDS;
@@ -50,10 +50,8 @@ fn put_rows(out: &mut [u8], at: usize, rows: &[u64]) -> usize
     ensures { Wrote out.old at (row_lines rows.now (length rows.now / ROW_WORDS)) out.new result }
 {
     let mut end = at;
-    let mut row = 0;
-    while row < rows.len() / ROW_WORDS {
+    for row in 0..rows.len() / ROW_WORDS {
         end = put_row(out, end, rows, row);
-        row += 1;
     }
     end
 }
@@ -63,10 +61,8 @@ fn put_words(out: &mut [u8], at: usize, words: &[u64]) -> usize
     ensures { Wrote out.old at (word_line words.now (length words.now)) out.new result }
 {
     let mut end = at;
-    let mut i = 0;
-    while i < words.len() {
-        end = put_word(out, end, words[i]);
-        i += 1;
+    for word in words {
+        end = put_word(out, end, *word);
     }
     end
 }
@@ -85,7 +81,7 @@ pub fn put_book(out: &mut [u8], at: usize, words: &[u64]) -> usize
     requires { (loaded words.now).number ≡ ACCEPTED }
     ensures { Wrote out.old at (book_said words.now) out.new result }
 {
-    let places = place(words);
+    let places = place_accepted(words);
     let rows = rows_part(words, places);
     let a = put_number(out, at, (rows.len() / ROW_WORDS) as u64);
     let b = put_bytes(out, a, b"\n");

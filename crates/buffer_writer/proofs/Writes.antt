@@ -4,12 +4,11 @@ use mathlib.Core.Path.{◌≡◌, refl, sym, ap, ◌∙◌}
 use mathlib.Core.Bool.{Bool, true, false}
 use mathlib.Core.List.{List, [], ◌∷◌, ◌++◌, append_assoc, append-nil}
 use native.Mathlib.Omega.{arith}
-use native.Mathlib.Numerals.{add-one}
 use lib.Dec.{leb}
+use native.Mathlib.Numerals.{add-one}
 use lib.ListN.{length, get_or, drop, set, replicate, length-append, length-set}
-use lib.Seq.{sets, sets-eq, length-sets, drop-cons, drop-length}
+use lib.Seq.{sets, sets-eq, length-sets, drop-cons}
 use borrow.Author.Tests.{le-leb, lt-leb, leb-true}
-use borrow.Author.Fill.{fill_none, fill_more}
 use Rattle.numbers.specs.Limits.{MAX}
 use Rattle.buffer_writer.specs.Buffer.{handed, in_buffer}
 use Rattle.buffer_writer.specs.Finish.{finish, Wrote, Laid}
@@ -35,29 +34,6 @@ store_done {m₀} {at} {all} {m} {i} g e = sym (ap (λ (x : List ℕ). sets m (a
 
 pub drop_more : (l : List ℕ) (i : ℕ) → i < length l → drop i l ≡ get_or l i 0 ∷ drop (i + 1) l
 drop_more l i h = drop-cons l i 0 h ∙ rw add-one
-
--- ---- a run of zeros that goes on
-pub record Zeroing (m₀ m : List ℕ) (i : ℕ) : Type 0 where
-  pub size : length m ≡ length m₀
-  pub low : i ≤ length m₀
-  pub memory : m ≡ replicate i 0 ++ drop i m₀
-
-pub zero_start : (m : List ℕ) → Zeroing m m 0
-zero_start m = record { size = refl; low = omega arith; memory = fill_none m 0 }
-
-pub zero_more : {m₀ m : List ℕ} {i : ℕ} → Zeroing m₀ m i → i < length m → Zeroing m₀ (set m i 0) (i + 1)
-zero_more {m₀} {m} {i} g h =
-    let k : i < length m₀ = omega (arith, g.size) in
-    record {
-      size = length-set m i 0 ∙ g.size;
-      low = omega arith;
-      memory = ap (λ (l : List ℕ). set l i 0) g.memory ∙ fill_more i 0 m₀ k;
-    }
-
-pub zero_done : {m₀ m : List ℕ} {i : ℕ} → Zeroing m₀ m i → length m ≤ i → m ≡ replicate (length m₀) 0
-zero_done {m₀} {m} {i} g h =
-    let e : i ≡ length m₀ = omega (arith, g.size, g.low) in
-    g.memory ∙ rw (e, drop-length m₀) (append-nil (replicate (length m₀) 0))
 
 -- ---- what a report comes to
 pub sets_append : (bs rest m : List ℕ) (at : ℕ) → sets m at (bs ++ rest) ≡ sets (sets m at bs) (at + length bs) rest

@@ -69,10 +69,6 @@ state_is : (st : State) {way : Way} {begun : Bool} {now : Snap} {sets : List Run
     → record { way = way; begun = begun; now = now; sets = sets } ≡ st
 state_is st d e f g = λ i. record { way = sym d i; begun = sym e i; now = sym f i; sets = sym g i }
 
--- a plan, where it is known whether there is room
-pub planned_as : {m : List ℕ} {renew : Renew} {st : State} {c : ℕ} {atoms m' modes : List ℕ} {room room' : Bool} → room ≡ room' → Planned m renew st c atoms m' room modes → Planned m renew st c atoms m' room' modes
-planned_as {m} {renew} {st} {c} {atoms} {m'} {modes} e p = subst (λ (b : Bool). Planned m renew st c atoms m' b modes) e p
-
 -- ---- the values worked out anew from what did not change are the old ones
 restored_from : {m mid : List ℕ} → Kept m → Alike m mid → ((i : ℕ) → VALUES + row_count m ≤ i → get_or mid i 0 ≡ get_or m i 0) → values_put mid ≡ m
 restored_from {m} {mid} kept alike beyond = ext_get_or 0 (values_put mid) m same_length (λ i h. word i)

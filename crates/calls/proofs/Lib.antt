@@ -4,6 +4,6 @@ pub mod Advances
 pub mod Resting
 pub mod Stood
 pub mod Stays
-pub mod Greatest
+pub mod Most
 pub mod Quiet
 pub mod Public

@@ -4,7 +4,7 @@ use native.Mathlib.Omega.{arith}
 use mathlib.Core.Path.{◌≡◌, refl, sym, ap, ap₂, ◌∙◌}
 use mathlib.Core.Bool.{Bool, true}
 use mathlib.Core.List.{List}
-use lib.ListN.{get_or, set}
+use lib.ListN.{length, get_or, set}
 use lib.Seq.{set-get_or}
 use lib.Dec.{eqb}
 use borrow.Author.Tests.{eqb-true}
@@ -23,14 +23,14 @@ use Rattle.memory.proofs.Sets.{owner_set}
 use Rattle.memory.proofs.Alike.{alike_filled, alike_set}
 use Rattle.set_change.specs.Change.{changed}
 use Rattle.planning.specs.Plan.{set_after, value_after, Planned}
-use Rattle.calls.specs.Private.{clocked, NoneOver, SetsStay, OnlyValues, Written, Tried}
+use Rattle.calls.specs.Private.{clocked, Greatest, SetsStay, OnlyValues, Written, Tried}
 use Rattle.calls.proofs.Advances.{planned_sound, tried_room}
 use Rattle.calls.proofs.Stood.{rests_here}
 
 -- as the code decides it
-pub sets_stay : {m : List ℕ} {fresh : Bool} {modes : List ℕ} {b : ℕ} (most : ℕ) → b ≡ begun_word m → b ≡ 1 → fresh ≡ true → NoneOver modes most MOST_TEMPORALS → eqb most 0 ≡ true → SetsStay m fresh modes
-sets_stay most eb one anew over e =
-    record { anew = anew; begun = sym eb ∙ one; none = λ j h. let l = over.below j h in let z : most ≡ 0 = eqb-true most 0 e in omega arith }
+pub sets_stay : {m : List ℕ} {fresh : Bool} {modes : List ℕ} {b : ℕ} (most : ℕ) → b ≡ begun_word m → b ≡ 1 → fresh ≡ true → length modes ≡ MOST_TEMPORALS → Greatest modes most (length modes) → eqb most 0 ≡ true → SetsStay m fresh modes
+sets_stay most eb one anew long g e =
+    record { anew = anew; begun = sym eb ∙ one; none = λ j h. let l = g.over.below j (omega arith) in let z : most ≡ 0 = eqb-true most 0 e in omega arith }
 
 -- ---- a plan of no change, carried out
 module _ {m : List ℕ} {renew : Renew} {st : State} {c : ℕ} {atoms m₁ modes : List ℕ} {fresh : Bool} (held : Kept m) (small : c ≤ LAST_TIME) (here : c ≡ clock_of m) (planned : Planned m renew st c atoms m₁ true modes) (stay : SetsStay m₁ fresh modes) where

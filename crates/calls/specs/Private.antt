@@ -72,9 +72,14 @@ pub record Tried (m : List ℕ) (renew : Renew) (st : State) (c : ℕ) (atoms m'
   pub room : crowded (step_of m renew st c atoms) ≡ false → (r ≡ ACCEPTED) × Moved m renew st c atoms m'
   pub full : crowded (step_of m renew st c atoms) ≡ true → (r ≡ NO_ROOM) × (m' ≡ m)
 
--- none of the first n changes is greater than r
-pub record NoneOver (modes : List ℕ) (r n : ℕ) : Type 0 where
-  pub below : (j : ℕ) → j < n → get_or modes j 0 ≤ r
+-- none of the first n bytes is greater than r
+pub record NoneOver (bytes : List ℕ) (r n : ℕ) : Type 0 where
+  pub below : (j : ℕ) → j < n → get_or bytes j 0 ≤ r
+
+-- and if r is more than 1, one of them is
+pub record Greatest (bytes : List ℕ) (r n : ℕ) : Type 0 where
+  pub over : NoneOver bytes r n
+  pub met : 1 < r → (k : ℕ) × (k < n) × (1 < get_or bytes k 0)
 
 -- a planned step leaves the sets as they are: it has fresh atoms, a call was accepted before it, and no change is planned
 pub record SetsStay (m : List ℕ) (fresh : Bool) (modes : List ℕ) : Type 0 where

@@ -2,7 +2,7 @@
 // call.
 #![tactic(auto)]
 
-ghost use Rattle.std.specs.Prelude.{◌≡◌, true, ◌≤◌, max, length, get_or, ltb};
+ghost use Rattle.std.specs.Prelude.{◌≡◌, true, ◌≤◌, length, get_or, ltb, Ok};
 ghost use borrow.Rule.Slice.PartMut.{put_mid};
 ghost use Rattle.numset.specs.Runs.{kept};
 ghost use Rattle.ring.specs.Ring.{ringed, rolled, turn_after};
@@ -16,16 +16,13 @@ ghost use Rattle.memory.specs.Kept.{BookKept, Awaited, Kept};
 ghost use Rattle.memory.specs.Alike.{Alike, SameLedger};
 ghost use Rattle.set_change.specs.Change.{changed};
 ghost use Rattle.planning.specs.Plan.{atoms_for, own_renew, set_after};
-ghost use Rattle.calls.specs.Private.{QuietAt, ticked, AtomsStand, clocked, Held, Roomy, Fit, Fitting, Written, Atoms, Tried, NoneOver, SetsStay, OnlyValues, TriedBoth, Due, Done};
+ghost use Rattle.calls.specs.Private.{QuietAt, ticked, AtomsStand, clocked, Held, Roomy, Fit, Fitting, Written, Atoms, Tried, Greatest, SetsStay, OnlyValues, TriedBoth, Due, Done};
 ghost use Rattle.calls.specs.Called.{Called};
 ghost use Rattle.numbers.specs.Limits.{LAST_TIME, MOST_ATOMS, MOST_TEMPORALS};
-ghost use Rattle.numbers.specs.Refusals.{ACCEPTED};
+ghost use Rattle.numbers.specs.Refusals.{ACCEPTED, refused_with};
 
 use memory::SIZE;
-use numbers::{
-    ACCEPTED, LAST_TIME, MOST_ATOMS, MOST_TEMPORALS, NO_ROOM, NOT_A_BIT, PAST_LIMIT, TOO_EARLY,
-    TOO_LATE, TOO_NARROW, TOO_WIDE,
-};
+use numbers::{LAST_TIME, MOST_ATOMS, MOST_TEMPORALS, Refusal, refused_with};
 use numset::Tally;
 use planning::{plan_call, start_of, stop_of};
 
@@ -69,11 +66,8 @@ fn commit(monitor: &mut [u64; SIZE], clock: u64, modes: &[u8; MOST_TEMPORALS])
     requires { Fitting monitor.old clock modes.now }
     ensures { Written monitor.old clock (λ j. set_after monitor.old clock (get_or modes.now j 0) j) (temporals monitor.old) monitor.new }
 {
-    let count = memory::temporal_count(monitor);
-    let mut slot = 0;
-    while slot < count {
+    for slot in 0..memory::temporal_count(monitor) {
         commit_slot(monitor, clock, slot, modes[slot]);
-        slot += 1;
     }
 }
 
@@ -91,29 +85,18 @@ fn put_atoms(monitor: &mut [u64; SIZE], atoms: &[u8])
     requires { (length monitor.old ≡ SIZE) × (length atoms.now ≤ MOST_ATOMS) }
     ensures { Atoms monitor.old atoms.now (length atoms.now) monitor.new }
 {
-    let mut i = 0;
-    while i < atoms.len() {
-        monitor[memory::ATOMS + i] = lists::wide(atoms[i]);
-        i += 1;
+    for i in 0..atoms.len() {
+        monitor[memory::ATOMS + i] = u64::from(atoms[i]);
     }
 }
 
-fn greater(a: u8, b: u8) -> u8
-    ensures { result ≡ max a b }
+// The greatest of some bytes, 0 where there is none. There is one way through the loop, so that the compiler takes many at a time.
+fn greatest(bytes: &[u8]) -> u8
+    ensures { Greatest bytes.now result (length bytes.now) }
 {
-    if a < b { b } else { a }
-}
-
-// The greatest of the changes that are planned, STAYS where there is none. There is one way through the loop, so that the compiler takes
-// many slots at a time.
-fn most_planned(modes: &[u8; MOST_TEMPORALS]) -> u8
-    ensures { NoneOver modes.now result MOST_TEMPORALS }
-{
-    let mut most: u8 = 0;
-    let mut i = 0;
-    while i < MOST_TEMPORALS {
-        most = greater(most, modes[i]);
-        i += 1;
+    let mut most = 0;
+    for &byte in bytes {
+        most = most.max(byte);
     }
     most
 }
@@ -127,65 +110,59 @@ fn leaves_sets(monitor: &[u64; SIZE], fresh: bool, modes: &[u8; MOST_TEMPORALS])
         return false;
     }
     if fresh {
-        return most_planned(modes) == set_change::STAYS;
+        return greatest(modes) == set_change::STAYS;
     }
     false
 }
 
-// What came of a step: its number, and whether nothing but values of rows was changed.
-#[derive(Clone, Copy)]
-pub struct Step {
-    pub number: u64,
-    pub same: bool,
-}
-
 // A call at a clock and atoms: planned, and then carried out, all but the atoms, which a time call leaves as they are. Where a set
-// lacks room, the values are worked out anew from what did not change: these are the old ones.
-fn advance(monitor: &mut [u64; SIZE], clock: u64, atoms: &[u8], fresh: bool) -> Step
+// lacks room, the values are worked out anew from what did not change: these are the old ones. Else the answer is whether nothing but
+// values of rows was changed.
+fn advance(
+    monitor: &mut [u64; SIZE],
+    clock: u64,
+    atoms: &[u8],
+    fresh: bool,
+) -> Result<bool, Refusal>
     requires kept { Kept monitor.old × (clock ≤ LAST_TIME) }
     requires monitor_in_bounds { fresh ≡ true → (width_word monitor.old ≤ length atoms.now) × (clock ≡ clock_of monitor.old) }
-    ensures { Tried monitor.old (own_renew (state_of monitor.old)) (state_of monitor.old) clock (atoms_for monitor.old fresh atoms.now) monitor.new result.number × (result.same ≡ true → OnlyValues monitor.old monitor.new) }
+    ensures { Tried monitor.old (own_renew (state_of monitor.old)) (state_of monitor.old) clock (atoms_for monitor.old fresh atoms.now) monitor.new (refused_with result) × (result ≡ Ok true → OnlyValues monitor.old monitor.new) }
 {
     let mut modes = [0u8; MOST_TEMPORALS];
-    if plan_call(monitor, clock, atoms, fresh, &mut modes) {
-        if leaves_sets(monitor, fresh, &modes) {
-            return Step {
-                number: ACCEPTED,
-                same: true,
-            };
-        }
-        commit(monitor, clock, &modes);
-        put_clock(monitor, clock);
-        return Step {
-            number: ACCEPTED,
-            same: false,
-        };
+    if let Err(full) = plan_call(monitor, clock, atoms, fresh, &mut modes) {
+        tables::fill_values(monitor);
+        return Err(full);
     }
-    tables::fill_values(monitor);
-    Step {
-        number: NO_ROOM,
-        same: false,
+    if leaves_sets(monitor, fresh, &modes) {
+        return Ok(true);
     }
+    commit(monitor, clock, &modes);
+    put_clock(monitor, clock);
+    Ok(false)
 }
 
 // A stamped call at a clock and the bytes of its state, planned and carried out, all but the atoms: the time step is planned with the
 // atoms that stand there, then the state step over the values and modes that the first left. The sets change once, where both have room.
-fn advance_both(monitor: &mut [u64; SIZE], clock: u64, state: &[u8]) -> u64
+fn advance_both(monitor: &mut [u64; SIZE], clock: u64, state: &[u8]) -> Result<(), Refusal>
     requires { Kept monitor.old × (clock ≤ LAST_TIME) × (width_word monitor.old ≤ length state.now) }
-    ensures { TriedBoth monitor.old clock (atoms_of monitor.old) state.now monitor.new result }
+    ensures { TriedBoth monitor.old clock (atoms_of monitor.old) state.now monitor.new (refused_with result) }
 {
     let mut modes = [0u8; MOST_TEMPORALS];
-    if plan_call(monitor, clock, b"", false, &mut modes) {
-        if plan_call(monitor, clock, state, true, &mut modes) {
+    if let Err(full) = plan_call(monitor, clock, b"", false, &mut modes) {
+        tables::fill_values(monitor);
+        return Err(full);
+    }
+    match plan_call(monitor, clock, state, true, &mut modes) {
+        Ok(()) => {
             commit(monitor, clock, &modes);
             put_clock(monitor, clock);
-            return ACCEPTED;
+            Ok(())
         }
-        tables::fill_values(monitor);
-        return NO_ROOM;
+        Err(full) => {
+            tables::fill_values(monitor);
+            Err(full)
+        }
     }
-    tables::fill_values(monitor);
-    NO_ROOM
 }
 
 // After an accepted call the rows are told anew what is so of their sets. Only the properties above a row that was told something new
@@ -199,10 +176,9 @@ fn ask_anew(monitor: &mut [u64; SIZE], first: bool)
         tables::ask_all(monitor);
         return;
     }
-    if news.end == 0 {
-        return;
+    if let Some(told) = news {
+        tables::ask(monitor, told);
     }
-    tables::ask(monitor, news.first, news.end);
 }
 
 // After an accepted call: the answers, and up to when a time call moves the clock alone.
@@ -214,51 +190,45 @@ fn renew(monitor: &mut [u64; SIZE], first: bool)
     tables::fill_until(monitor);
 }
 
-// Whether a byte is neither 0 nor 1: the greatest of them tells, and the compiler takes many at a time.
+// Whether a byte is neither 0 nor 1: the greatest of them tells.
 fn has_other(state: &[u8]) -> bool
     ensures { result ≡ some (ltb 1) state.now }
 {
-    let mut most: u8 = 0;
-    let mut i = 0;
-    while i < state.len() {
-        most = greater(most, state[i]);
-        i += 1;
-    }
-    1 < most
+    1 < greatest(state)
 }
 
-// What is wrong with a time, or 0.
-fn time_number(monitor: &[u64; SIZE], time: u64) -> u64
-    ensures { result ≡ time_refusal (state_of monitor.now).now time }
+// Whether a time is one that a call may set, or what is wrong with it.
+fn judge_time(monitor: &[u64; SIZE], time: u64) -> Result<(), Refusal>
+    ensures { refused_with result ≡ time_refusal (state_of monitor.now).now time }
 {
     if time < memory::clock(monitor) {
-        return TOO_EARLY;
+        return Err(Refusal::TooEarly);
     }
     if LAST_TIME < time {
-        return TOO_LATE;
+        return Err(Refusal::TooLate);
     }
-    ACCEPTED
+    Ok(())
 }
 
-// What is wrong with a state, or 0.
-fn state_number(monitor: &[u64; SIZE], state: &[u8]) -> u64
+// Whether bytes are a state, or what is wrong with them.
+fn judge_state(monitor: &[u64; SIZE], state: &[u8]) -> Result<(), Refusal>
     requires { BookKept monitor.now }
-    ensures { result ≡ state_refusal (rows_of monitor.now) state.now }
+    ensures { refused_with result ≡ state_refusal (rows_of monitor.now) state.now }
 {
     if MOST_ATOMS < state.len() {
-        return PAST_LIMIT;
+        return Err(Refusal::PastLimit);
     }
     let width = memory::width(monitor);
     if state.len() < width {
-        return TOO_NARROW;
+        return Err(Refusal::TooNarrow);
     }
     if width < state.len() {
-        return TOO_WIDE;
+        return Err(Refusal::TooWide);
     }
     if has_other(state) {
-        return NOT_A_BIT;
+        return Err(Refusal::NotABit);
     }
-    ACCEPTED
+    Ok(())
 }
 
 // Whether a call was accepted already and up to this time a time call moves the clock alone.
@@ -287,159 +257,131 @@ fn stands_with(monitor: &[u64; SIZE], state: &[u8]) -> bool
     if memory::begun(monitor) != 1 {
         return false;
     }
-    let mut i = 0;
-    while i < state.len() {
-        if memory::word(monitor, memory::ATOMS + i) == lists::wide(state[i]) {
-            i += 1;
-        } else {
+    for i in 0..state.len() {
+        if memory::word(monitor, memory::ATOMS + i) != u64::from(state[i]) {
             return false;
         }
     }
     true
 }
 
-// The clock becomes `time`, and every row is evaluated anew, but up to a time until which nothing else changes. The answer is 0, or the
-// number of the refusal: then nothing changed.
-fn time_call(monitor: &mut [u64; SIZE], time: u64) -> u64
+// The clock becomes `time`, and every row is evaluated anew, but up to a time until which nothing else changes. Where the call is
+// refused nothing changed.
+fn time_call(monitor: &mut [u64; SIZE], time: u64) -> Result<(), Refusal>
     requires { Kept monitor.old }
-    ensures { Done (Call.time time) monitor.old monitor.new result }
+    ensures { Done (Call.time time) monitor.old monitor.new (refused_with result) }
 {
-    let late = time_number(monitor, time);
-    if late != ACCEPTED {
-        return late;
-    }
+    judge_time(monitor, time)?;
     if quiet_at(monitor, time) {
         tick(monitor, time);
-        return ACCEPTED;
+        return Ok(());
     }
     let first = memory::begun(monitor) == 0;
-    let step = advance(monitor, time, b"", false);
-    let number = step.number;
-    if number != ACCEPTED {
-        return number;
-    }
+    advance(monitor, time, b"", false)?;
     renew(monitor, first);
-    ACCEPTED
+    Ok(())
 }
 
 // The atoms become the bytes of `state`, which nothing is wrong with, and every row is evaluated anew; but atoms that stand there already
 // change nothing. The answer is as that of `time_call`.
-fn restate(monitor: &mut [u64; SIZE], state: &[u8]) -> u64
+fn restate(monitor: &mut [u64; SIZE], state: &[u8]) -> Result<(), Refusal>
     requires { Kept monitor.old × (state_refusal (rows_of monitor.old) state.now ≡ ACCEPTED) }
-    ensures { Done (Call.state state.now) monitor.old monitor.new result }
+    ensures { Done (Call.state state.now) monitor.old monitor.new (refused_with result) }
 {
     if stands_with(monitor, state) {
-        return ACCEPTED;
+        return Ok(());
     }
     let first = memory::begun(monitor) == 0;
     let clock = memory::clock(monitor);
-    let step = advance(monitor, clock, state, true);
-    let number = step.number;
-    if number != ACCEPTED {
-        return number;
-    }
+    let same = advance(monitor, clock, state, true)?;
     put_atoms(monitor, state);
-    let same = step.same;
     if same {
-        return ACCEPTED;
+        return Ok(());
     }
     renew(monitor, first);
-    ACCEPTED
+    Ok(())
 }
 
 // A state call, which may be wrong in itself.
-fn state_call(monitor: &mut [u64; SIZE], state: &[u8]) -> u64
+fn state_call(monitor: &mut [u64; SIZE], state: &[u8]) -> Result<(), Refusal>
     requires { Kept monitor.old }
-    ensures { Done (Call.state state.now) monitor.old monitor.new result }
+    ensures { Done (Call.state state.now) monitor.old monitor.new (refused_with result) }
 {
-    let wrong = state_number(monitor, state);
-    if wrong != ACCEPTED {
-        return wrong;
-    }
+    judge_state(monitor, state)?;
     restate(monitor, state)
 }
 
 // A stamped call whose time moves the clock alone: a state call is left. If that is refused, the clock goes back.
-fn tick_and_restate(monitor: &mut [u64; SIZE], time: u64, state: &[u8]) -> u64
+fn tick_and_restate(monitor: &mut [u64; SIZE], time: u64, state: &[u8]) -> Result<(), Refusal>
     requires kept { Kept monitor.old × QuietAt monitor.old time }
     requires time_value { (time_refusal (state_of monitor.old).now time ≡ ACCEPTED) × (state_refusal (rows_of monitor.old) state.now ≡ ACCEPTED) }
-    ensures { Done (Call.stamped time state.now) monitor.old monitor.new result }
+    ensures { Done (Call.stamped time state.now) monitor.old monitor.new (refused_with result) }
 {
     let clock = memory::clock(monitor);
     tick(monitor, time);
-    let number = restate(monitor, state);
-    if number != ACCEPTED {
+    if let Err(refusal) = restate(monitor, state) {
         tick(monitor, clock);
-        return number;
+        return Err(refusal);
     }
-    ACCEPTED
+    Ok(())
 }
 
 // The clock becomes `time`, which nothing is wrong with, and then the atoms the bytes of `state`, nor with these, every row evaluated
 // anew at each of the two steps; or neither. Where the first moves the clock alone, only the second is left.
-fn restamp(monitor: &mut [u64; SIZE], time: u64, state: &[u8]) -> u64
+fn restamp(monitor: &mut [u64; SIZE], time: u64, state: &[u8]) -> Result<(), Refusal>
     requires { Kept monitor.old × (time_refusal (state_of monitor.old).now time ≡ ACCEPTED) × (state_refusal (rows_of monitor.old) state.now ≡ ACCEPTED) }
-    ensures { Done (Call.stamped time state.now) monitor.old monitor.new result }
+    ensures { Done (Call.stamped time state.now) monitor.old monitor.new (refused_with result) }
 {
     if quiet_at(monitor, time) {
         return tick_and_restate(monitor, time, state);
     }
     let first = memory::begun(monitor) == 0;
-    let number = advance_both(monitor, time, state);
-    if number != ACCEPTED {
-        return number;
-    }
+    advance_both(monitor, time, state)?;
     put_atoms(monitor, state);
     renew(monitor, first);
-    ACCEPTED
+    Ok(())
 }
 
 // A stamped call, whose time or state may be wrong in itself.
-fn stamped_call(monitor: &mut [u64; SIZE], time: u64, state: &[u8]) -> u64
+fn stamped_call(monitor: &mut [u64; SIZE], time: u64, state: &[u8]) -> Result<(), Refusal>
     requires { Kept monitor.old }
-    ensures { Done (Call.stamped time state.now) monitor.old monitor.new result }
+    ensures { Done (Call.stamped time state.now) monitor.old monitor.new (refused_with result) }
 {
-    let late = time_number(monitor, time);
-    if late != ACCEPTED {
-        return late;
-    }
-    let wrong = state_number(monitor, state);
-    if wrong != ACCEPTED {
-        return wrong;
-    }
+    judge_time(monitor, time)?;
+    judge_state(monitor, state)?;
     restamp(monitor, time, state)
 }
 
-// A time call. Its number, 0 or that of the refusal, comes with a count: how many runs the fullest set has, as the monitor is now, which
+// A time call. What came of it, accepted or refused, comes with a count: how many runs the fullest set has, as the monitor is now, which
 // is one look. Where the call was refused nothing changed but the number of the call.
 pub fn update_time(monitor: &mut [u64; SIZE], time: u64) -> Tally
     requires { Kept monitor.old }
-    ensures { Called (Call.time time) monitor.old monitor.new result.number × (result.count ≡ fullest (state_of monitor.new)) }
+    ensures { Called (Call.time time) monitor.old monitor.new (refused_with result.outcome) × (result.count ≡ fullest (state_of monitor.new)) }
 {
-    let number = time_call(monitor, time);
-    notes::note(monitor, number);
+    let outcome = time_call(monitor, time);
+    notes::note(monitor, refused_with(outcome));
     let count = memory::fullest(monitor);
-    Tally { number, count }
+    Tally { outcome, count }
 }
 
 // A state call. What it hands back is as with `update_time`.
 pub fn update_state(monitor: &mut [u64; SIZE], state: &[u8]) -> Tally
     requires { Kept monitor.old }
-    ensures { Called (Call.state state.now) monitor.old monitor.new result.number × (result.count ≡ fullest (state_of monitor.new)) }
+    ensures { Called (Call.state state.now) monitor.old monitor.new (refused_with result.outcome) × (result.count ≡ fullest (state_of monitor.new)) }
 {
-    let number = state_call(monitor, state);
-    notes::note(monitor, number);
+    let outcome = state_call(monitor, state);
+    notes::note(monitor, refused_with(outcome));
     let count = memory::fullest(monitor);
-    Tally { number, count }
+    Tally { outcome, count }
 }
 
 // A stamped call: a time call and then a state call, or neither. What it hands back is as with `update_time`, of the monitor after both.
 pub fn update_stamped(monitor: &mut [u64; SIZE], time: u64, state: &[u8]) -> Tally
     requires { Kept monitor.old }
-    ensures { Called (Call.stamped time state.now) monitor.old monitor.new result.number × (result.count ≡ fullest (state_of monitor.new)) }
+    ensures { Called (Call.stamped time state.now) monitor.old monitor.new (refused_with result.outcome) × (result.count ≡ fullest (state_of monitor.new)) }
 {
-    let number = stamped_call(monitor, time, state);
-    notes::note(monitor, number);
+    let outcome = stamped_call(monitor, time, state);
+    notes::note(monitor, refused_with(outcome));
     let count = memory::fullest(monitor);
-    Tally { number, count }
+    Tally { outcome, count }
 }

@@ -5,11 +5,10 @@
 mod play;
 mod words;
 
-ghost use Rattle.cases.specs.Held.{Held};
 ghost use Rattle.memory.specs.Kept.{Kept};
 
 use numbers::{LAST_TIME, MAX};
-use oracle::{ATOM, FALSE, HISTORICALLY, NOT, ONCE, SINCE, SIZE, TRUE};
+use oracle::{Kind, SIZE};
 use play::{load, stamped, state, time, wide_stamped};
 use show::text;
 use words::Words;
@@ -20,9 +19,9 @@ const FULL: u64 = 126;
 fn whole_case(rt: &(impl Print + Eprint)) {
     text(rt, b"The whole case: Historically[0,MAX] Once[0,MAX] a0\n");
     let book = Words::of(3)
-        .row(ATOM, 0, 0, 0)
-        .row(ONCE, 1, 0, MAX)
-        .row(HISTORICALLY, 1, 0, MAX)
+        .row(Kind::Atom, 0, 0, 0)
+        .row(Kind::Once, 1, 0, MAX)
+        .row(Kind::Historically, 1, 0, MAX)
         .section(&[0, 1])
         .section(&[])
         .section(&[2]);
@@ -39,9 +38,9 @@ fn whole_case(rt: &(impl Print + Eprint)) {
 fn lapsed(rt: &(impl Print + Eprint)) {
     text(rt, b"Once[0,5] Historically[0,MAX] a0\n");
     let book = Words::of(3)
-        .row(ATOM, 0, 0, 0)
-        .row(HISTORICALLY, 1, 0, MAX)
-        .row(ONCE, 1, 0, 5)
+        .row(Kind::Atom, 0, 0, 0)
+        .row(Kind::Historically, 1, 0, MAX)
+        .row(Kind::Once, 1, 0, 5)
         .section(&[0, 1])
         .section(&[])
         .section(&[2]);
@@ -57,9 +56,9 @@ fn lapsed(rt: &(impl Print + Eprint)) {
 fn lapsed_historically(rt: &(impl Print + Eprint)) {
     text(rt, b"Historically[0,5] Once[0,MAX] a0\n");
     let book = Words::of(3)
-        .row(ATOM, 0, 0, 0)
-        .row(ONCE, 1, 0, MAX)
-        .row(HISTORICALLY, 1, 0, 5)
+        .row(Kind::Atom, 0, 0, 0)
+        .row(Kind::Once, 1, 0, MAX)
+        .row(Kind::Historically, 1, 0, 5)
         .section(&[0, 1])
         .section(&[])
         .section(&[2]);
@@ -74,10 +73,10 @@ fn lapsed_historically(rt: &(impl Print + Eprint)) {
 fn lapsed_since(rt: &(impl Print + Eprint)) {
     text(rt, b"Since(a1, Historically[0,MAX] a0)[0,5]\n");
     let book = Words::of(4)
-        .row(ATOM, 0, 0, 0)
-        .row(HISTORICALLY, 1, 0, MAX)
-        .row(ATOM, 1, 0, 0)
-        .row(SINCE, 2, 0, 5)
+        .row(Kind::Atom, 0, 0, 0)
+        .row(Kind::Historically, 1, 0, MAX)
+        .row(Kind::Atom, 1, 0, 0)
+        .row(Kind::Since, 2, 0, 5)
         .section(&[0, 2, 1])
         .section(&[])
         .section(&[3]);
@@ -93,9 +92,9 @@ fn lapsed_since(rt: &(impl Print + Eprint)) {
 fn lapsed_later(rt: &(impl Print + Eprint)) {
     text(rt, b"Once[2,5] Historically[0,MAX] a0\n");
     let book = Words::of(3)
-        .row(ATOM, 0, 0, 0)
-        .row(HISTORICALLY, 1, 0, MAX)
-        .row(ONCE, 1, 2, 5)
+        .row(Kind::Atom, 0, 0, 0)
+        .row(Kind::Historically, 1, 0, MAX)
+        .row(Kind::Once, 1, 2, 5)
         .section(&[0, 1])
         .section(&[])
         .section(&[2]);
@@ -108,12 +107,10 @@ fn lapsed_later(rt: &(impl Print + Eprint)) {
 }
 
 // Once a0 over a range.
-fn once_over(lower: u64, upper: u64) -> Words
-    ensures { Held result }
-{
+fn once_over(lower: u64, upper: u64) -> Words {
     Words::of(2)
-        .row(ATOM, 0, 0, 0)
-        .row(ONCE, 1, lower, upper)
+        .row(Kind::Atom, 0, 0, 0)
+        .row(Kind::Once, 1, lower, upper)
         .section(&[0])
         .section(&[])
         .section(&[1])
@@ -124,9 +121,7 @@ fn fill(rt: &(impl Print + Eprint), monitor: &mut [u64; SIZE])
     requires { Kept monitor.old }
     ensures { Kept monitor.new }
 {
-    let mut t = 0;
-    while t < FULL {
-        t += 2;
+    for t in (2..=FULL).step_by(2) {
         time(rt, monitor, t);
     }
 }
@@ -189,11 +184,11 @@ fn refused_calls(rt: &(impl Print + Eprint)) {
         b"Since(a0,a1)[0,MAX] and Once[5,5] a1, with calls that are refused\n",
     );
     let book = Words::of(5)
-        .row(ATOM, 0, 0, 0)
-        .row(ATOM, 1, 0, 0)
-        .row(SINCE, 2, 0, MAX)
-        .row(ATOM, 1, 0, 0)
-        .row(ONCE, 1, 5, 5)
+        .row(Kind::Atom, 0, 0, 0)
+        .row(Kind::Atom, 1, 0, 0)
+        .row(Kind::Since, 2, 0, MAX)
+        .row(Kind::Atom, 1, 0, 0)
+        .row(Kind::Once, 1, 5, 5)
         .section(&[0, 1, 3])
         .section(&[2])
         .section(&[4]);
@@ -229,11 +224,11 @@ fn stamped_calls(rt: &(impl Print + Eprint)) {
         b"Since(a0,a1)[128,128] and Historically[0,0] a0, with stamped calls\n",
     );
     let book = Words::of(5)
-        .row(ATOM, 0, 0, 0)
-        .row(ATOM, 1, 0, 0)
-        .row(SINCE, 2, 128, 128)
-        .row(ATOM, 0, 0, 0)
-        .row(HISTORICALLY, 1, 0, 0)
+        .row(Kind::Atom, 0, 0, 0)
+        .row(Kind::Atom, 1, 0, 0)
+        .row(Kind::Since, 2, 128, 128)
+        .row(Kind::Atom, 0, 0, 0)
+        .row(Kind::Historically, 1, 0, 0)
         .section(&[0, 1, 3])
         .section(&[])
         .section(&[2, 4]);
@@ -267,9 +262,7 @@ fn refused_book(rt: &(impl Print + Eprint)) {
 }
 
 // Time before the lower bound of 1, at it, and past an upper bound of 5.
-fn before_and_after(rt: &(impl Print + Eprint), book: Words)
-    requires { Held book }
-{
+fn before_and_after(rt: &(impl Print + Eprint), book: Words) {
     let mut monitor = [0u64; SIZE];
     load(rt, &mut monitor, book);
     time(rt, &mut monitor, 0);
@@ -284,14 +277,14 @@ fn early_of_one(rt: &(impl Print + Eprint)) {
         b"Once[1,5] True, Once[1,MAX] True, Historically[1,5] False, Historically[1,MAX] False\n",
     );
     let book = Words::of(8)
-        .row(TRUE, 0, 0, 0)
-        .row(ONCE, 1, 1, 5)
-        .row(TRUE, 0, 0, 0)
-        .row(ONCE, 1, 1, MAX)
-        .row(FALSE, 0, 0, 0)
-        .row(HISTORICALLY, 1, 1, 5)
-        .row(FALSE, 0, 0, 0)
-        .row(HISTORICALLY, 1, 1, MAX)
+        .row(Kind::True, 0, 0, 0)
+        .row(Kind::Once, 1, 1, 5)
+        .row(Kind::True, 0, 0, 0)
+        .row(Kind::Once, 1, 1, MAX)
+        .row(Kind::False, 0, 0, 0)
+        .row(Kind::Historically, 1, 1, 5)
+        .row(Kind::False, 0, 0, 0)
+        .row(Kind::Historically, 1, 1, MAX)
         .section(&[0, 2, 4, 6])
         .section(&[])
         .section(&[1, 3, 5, 7]);
@@ -305,13 +298,13 @@ fn early_at_once(rt: &(impl Print + Eprint)) {
         b"Once[1,5] False, Historically[1,5] True, Since(True,False)[1,MAX]\n",
     );
     let book = Words::of(7)
-        .row(FALSE, 0, 0, 0)
-        .row(ONCE, 1, 1, 5)
-        .row(TRUE, 0, 0, 0)
-        .row(HISTORICALLY, 1, 1, 5)
-        .row(TRUE, 0, 0, 0)
-        .row(FALSE, 0, 0, 0)
-        .row(SINCE, 2, 1, MAX)
+        .row(Kind::False, 0, 0, 0)
+        .row(Kind::Once, 1, 1, 5)
+        .row(Kind::True, 0, 0, 0)
+        .row(Kind::Historically, 1, 1, 5)
+        .row(Kind::True, 0, 0, 0)
+        .row(Kind::False, 0, 0, 0)
+        .row(Kind::Since, 2, 1, MAX)
         .section(&[0, 2, 4, 5])
         .section(&[])
         .section(&[1, 3, 6]);
@@ -322,12 +315,12 @@ fn early_at_once(rt: &(impl Print + Eprint)) {
 fn early_of_two(rt: &(impl Print + Eprint)) {
     text(rt, b"Since(False,True)[1,MAX], Since(True,True)[1,MAX]\n");
     let book = Words::of(6)
-        .row(FALSE, 0, 0, 0)
-        .row(TRUE, 0, 0, 0)
-        .row(SINCE, 2, 1, MAX)
-        .row(TRUE, 0, 0, 0)
-        .row(TRUE, 0, 0, 0)
-        .row(SINCE, 2, 1, MAX)
+        .row(Kind::False, 0, 0, 0)
+        .row(Kind::True, 0, 0, 0)
+        .row(Kind::Since, 2, 1, MAX)
+        .row(Kind::True, 0, 0, 0)
+        .row(Kind::True, 0, 0, 0)
+        .row(Kind::Since, 2, 1, MAX)
         .section(&[0, 1, 3, 4])
         .section(&[])
         .section(&[2, 5]);
@@ -341,18 +334,18 @@ fn early_turned(rt: &(impl Print + Eprint)) {
         b"Since(left,True)[1,MAX] and Since(left,True)[0,MAX], left = Not Historically[0,MAX] Once[0,MAX] a0\n",
     );
     let book = Words::of(12)
-        .row(ATOM, 0, 0, 0)
-        .row(ONCE, 1, 0, MAX)
-        .row(HISTORICALLY, 1, 0, MAX)
-        .row(NOT, 1, 0, 0)
-        .row(TRUE, 0, 0, 0)
-        .row(SINCE, 2, 1, MAX)
-        .row(ATOM, 0, 0, 0)
-        .row(ONCE, 1, 0, MAX)
-        .row(HISTORICALLY, 1, 0, MAX)
-        .row(NOT, 1, 0, 0)
-        .row(TRUE, 0, 0, 0)
-        .row(SINCE, 2, 0, MAX)
+        .row(Kind::Atom, 0, 0, 0)
+        .row(Kind::Once, 1, 0, MAX)
+        .row(Kind::Historically, 1, 0, MAX)
+        .row(Kind::Not, 1, 0, 0)
+        .row(Kind::True, 0, 0, 0)
+        .row(Kind::Since, 2, 1, MAX)
+        .row(Kind::Atom, 0, 0, 0)
+        .row(Kind::Once, 1, 0, MAX)
+        .row(Kind::Historically, 1, 0, MAX)
+        .row(Kind::Not, 1, 0, 0)
+        .row(Kind::True, 0, 0, 0)
+        .row(Kind::Since, 2, 0, MAX)
         .section(&[0, 1, 2, 3, 4, 6, 7, 8, 9, 10])
         .section(&[])
         .section(&[5, 11]);

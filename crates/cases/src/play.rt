@@ -1,39 +1,21 @@
 // A call, the number that it handed back, the answers of every property and the count, on one line.
-ghost use Rattle.cases.specs.Held.{Held};
 ghost use Rattle.memory.specs.Kept.{Kept};
 
 use crate::words::Words;
 use numbers::MOST_ATOMS;
-use oracle::{SIZE, Tally, Verdict};
-use show::{number, text};
+use oracle::{Refusal, SIZE, Tally};
+use show::{text, value};
 
 // The widest state, with one byte more.
 const TOO_WIDE: usize = MOST_ATOMS + 1;
 
-// Value, early and settled.
-fn verdict(rt: &(impl Print + Eprint), v: Verdict) {
-    let early = v.early;
-    let settled = v.settled;
-    show::digits(
-        rt,
-        oracle::bit(v.value),
-        oracle::digit(early),
-        oracle::digit(settled),
-    );
-}
-
-// The number, and the answers.
-fn answered(rt: &(impl Print + Eprint), refusal: u64, monitor: &[u64; SIZE])
+// The number that was handed back, and the answers.
+fn answered(rt: &(impl Print + Eprint), outcome: Result<(), Refusal>, monitor: &[u64; SIZE])
     requires { Kept monitor.now }
 {
-    text(rt, b": ");
-    number(rt, refusal);
-    let all = oracle::all(monitor);
-    let count = all.count;
-    let mut i = 0;
-    while i < count {
-        verdict(rt, oracle::of_property(monitor, i));
-        i += 1;
+    value(rt, format_args!(": {}", oracle::refused_with(outcome)));
+    for i in 0..oracle::property_count(monitor) {
+        value(rt, format_args!(" {}", oracle::of_property(monitor, i)));
     }
 }
 
@@ -41,22 +23,17 @@ fn answered(rt: &(impl Print + Eprint), refusal: u64, monitor: &[u64; SIZE])
 fn outcome(rt: &(impl Print + Eprint), made: Tally, monitor: &[u64; SIZE])
     requires { Kept monitor.now }
 {
-    answered(rt, made.number, monitor);
-    text(rt, b" ");
-    number(rt, made.count);
-    text(rt, b"\n");
+    answered(rt, made.outcome, monitor);
+    value(rt, format_args!(" {}\n", made.count));
 }
 
 // Loads a book, over whatever stood in the memory.
 pub fn load(rt: &(impl Print + Eprint), monitor: &mut [u64; SIZE], book: Words)
-    requires { Held book }
     ensures { Kept monitor.new }
 {
-    let words = book.list;
-    let count = book.count;
-    let refusal = oracle::load(&words[..count], monitor);
+    let loaded = oracle::load(book.words(), monitor);
     text(rt, b"  load");
-    answered(rt, refusal, monitor);
+    answered(rt, loaded, monitor);
     text(rt, b"\n");
 }
 
@@ -65,21 +42,13 @@ pub fn time(rt: &(impl Print + Eprint), monitor: &mut [u64; SIZE], t: u64)
     ensures { Kept monitor.new }
 {
     let made = oracle::update_time(monitor, t);
-    text(rt, b"  t ");
-    number(rt, t);
+    value(rt, format_args!("  t {t}"));
     outcome(rt, made, monitor);
 }
 
-// A function, so that a caller need not show that the byte fits.
-fn wide(b: u8) -> u64 {
-    b as u64
-}
-
 fn bytes(rt: &(impl Print + Eprint), state: &[u8]) {
-    let mut i = 0;
-    while i < state.len() {
-        number(rt, wide(state[i]));
-        i += 1;
+    for byte in state {
+        value(rt, *byte);
     }
 }
 
@@ -110,9 +79,7 @@ pub fn stamped(rt: &(impl Print + Eprint), monitor: &mut [u64; SIZE], t: u64, st
     ensures { Kept monitor.new }
 {
     let made = oracle::update_stamped(monitor, t, state);
-    text(rt, b"  t ");
-    number(rt, t);
-    text(rt, b" s ");
+    value(rt, format_args!("  t {t} s "));
     bytes(rt, state);
     outcome(rt, made, monitor);
 }
@@ -124,8 +91,6 @@ pub fn wide_stamped(rt: &(impl Print + Eprint), monitor: &mut [u64; SIZE], t: u6
 {
     let state = [0u8; TOO_WIDE];
     let made = oracle::update_stamped(monitor, t, &state);
-    text(rt, b"  t ");
-    number(rt, t);
-    text(rt, b" s of 257 bytes");
+    value(rt, format_args!("  t {t} s of 257 bytes"));
     outcome(rt, made, monitor);
 }

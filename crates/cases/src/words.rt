@@ -1,20 +1,22 @@
 // The words of a book, put one after the other.
-ghost use Rattle.cases.specs.Held.{Held};
+ghost use Rattle.std.specs.Prelude.{◌≤◌};
+
+use oracle::Kind;
 
 // Room for the books of this program.
-pub const ROOM: usize = 128;
+const ROOM: usize = 128;
 
+// There is no heap, so that the words stand in an array, and their count beside it.
 #[derive(Clone, Copy)]
 pub struct Words {
-    pub list: [u64; ROOM],
-    pub count: usize,
+    list: [u64; ROOM],
+    count: usize,
+    ghost within: { count ≤ 128 },
 }
 
 impl Words {
     // A book of so many rows, of which none is there yet.
-    pub fn of(rows: u64) -> Self
-        ensures { Held result }
-    {
+    pub fn of(rows: u64) -> Self {
         let none = Words {
             list: [0u64; ROOM],
             count: 0,
@@ -22,37 +24,26 @@ impl Words {
         none.word(rows)
     }
 
+    pub fn words(&self) -> &[u64] {
+        &self.list[..self.count]
+    }
+
     // A word that there is no room for is left out, and the book then refused.
-    fn word(mut self, w: u64) -> Self
-        requires { Held self }
-        ensures { Held result }
-    {
-        let at = self.count;
-        if at < ROOM {
-            self.list[at] = w;
-            self.count = at + 1;
+    fn word(mut self, word: u64) -> Self {
+        if self.count < ROOM {
+            self.list[self.count] = word;
+            self.count += 1;
         }
         self
     }
 
-    pub fn row(self, kind: u64, arg: u64, lower: u64, upper: u64) -> Self
-        requires { Held self }
-        ensures { Held result }
-    {
-        self.word(kind).word(arg).word(lower).word(upper)
+    pub fn row(self, kind: Kind, arg: u64, lower: u64, upper: u64) -> Self {
+        self.word(kind.word()).word(arg).word(lower).word(upper)
     }
 
     // The operands, the assumes or the guarantees, after their count.
-    pub fn section(self, list: &[u64]) -> Self
-        requires { Held self }
-        ensures { Held result }
-    {
-        let mut all = self.word(list.len() as u64);
-        let mut i = 0;
-        while i < list.len() {
-            all = all.word(list[i]);
-            i += 1;
-        }
-        all
+    pub fn section(self, list: &[u64]) -> Self {
+        let counted = self.word(list.len() as u64);
+        list.iter().fold(counted, |words, word| words.word(*word))
     }
 }

@@ -8,78 +8,54 @@ use std::fmt::Display;
 use std::io;
 use std::io::Read;
 
-// What came of reading: so many bytes, none at the end of the input; or a read that failed.
-#[derive(Clone, Copy)]
-pub enum Came {
-    Bytes(usize),
-    Failed,
-}
-
-// Reads once, as much as is there and fits.
-pub fn read_some(rt: &impl Eprint, from: &mut impl Read, room: &mut [u8]) -> Came
+// Reads once, as much as is there and fits, and answers with how many bytes: none at the end of the input. No answer: the read failed.
+pub fn read_some(rt: &impl Eprint, from: &mut impl Read, room: &mut [u8]) -> Option<usize>
     ensures { Within (length room.old) result }
 {
     match from.read(room) {
-        Ok(count) => Came::Bytes(count),
+        Ok(count) => Some(count),
         Err(error) => {
             fail(rt, "standard input", error);
-            Came::Failed
+            None
         }
     }
 }
 
-// Reads until the input ends or `input` is full.
-pub fn fill(rt: &impl Eprint, from: &mut impl Read, input: &mut [u8]) -> Came
+// Reads until the input ends or `input` is full. It stays a `while`: a turn goes on by as many bytes as came, which no `for` counts.
+pub fn fill(rt: &impl Eprint, from: &mut impl Read, input: &mut [u8]) -> Option<usize>
     ensures { Within (length input.old) result }
 {
     let mut n = 0;
     while n < input.len() {
-        let came = read_some(rt, from, &mut input[n..]);
-        let Came::Bytes(k) = came else {
-            return Came::Failed;
-        };
-        if k == 0 {
-            return Came::Bytes(n);
+        let count = read_some(rt, from, &mut input[n..])?;
+        if count == 0 {
+            break;
         }
-        n += k;
+        n += count;
     }
-    Came::Bytes(n)
+    Some(n)
 }
 
-// Reads what is left and drops it, so that whoever writes it can finish. A proved loop has to end: it counts its turns
-// down from a number that no run uses up.
+// Reads what is left and drops it, so that whoever writes it can finish. A proved loop has to end: it has more turns than a run uses up.
 pub fn drain(rt: &impl Eprint, from: &mut impl Read) {
     let mut room = [0u8; 4096];
-    let mut turns: u64 = 0xffff_ffff_ffff_ffff;
-    while 0 < turns {
-        let came = read_some(rt, from, &mut room);
-        let Came::Bytes(k) = came else {
-            return;
-        };
-        if k == 0 {
+    for _ in 0..u64::MAX {
+        if let None | Some(0) = read_some(rt, from, &mut room) {
             return;
         }
-        turns -= 1;
     }
 }
 
 // Reads the input to its end: what fits is kept, and the rest is dropped.
-pub fn read_all(rt: &(impl Input + Eprint), input: &mut [u8]) -> Came
+pub fn read_all(rt: &(impl Input + Eprint), input: &mut [u8]) -> Option<usize>
     ensures { Within (length input.old) result }
 {
     let mut from = rt.reader();
     let came = fill(rt, &mut from, input);
-    if fills(came, input.len()) {
+    if came == Some(input.len()) {
         drain(rt, &mut from);
     }
     came
-}
-
-fn fills(came: Came, room: usize) -> bool {
-    match came {
-        Came::Bytes(n) => n == room,
-        Came::Failed => false,
-    }
 }
 
 // Prints all of `bytes`, and answers whether that was done.

@@ -9,6 +9,7 @@ use lib.ListN.{length}
 use lib.Dec.{eqb}
 use borrow.Author.Tests.{eqb-true, eq-eqb}
 use Rattle.lists.proofs.Tests.{lt_or_ge, clash, fails_by, and_left, or_right, or_elim}
+use Rattle.std.specs.Prelude.{Option, Some, None}
 use Rattle.pmtl.specs.declared.Answer.{Answer}
 use Rattle.pmtl.specs.declared.Answer.TheVariants.{False, Open}
 use Rattle.pmtl.specs.Answer.{is_false}
@@ -20,7 +21,6 @@ use Rattle.desk_rules.specs.Desk.{place_of}
 use Rattle.desk_rules.proofs.Words.{reads_is, stopped_iff}
 use Rattle.desk_rules.proofs.Places.{handout_place}
 use Rattle.desk_rules.proofs.Opened.{desk_fine}
-use Rattle.desk.specs.declared.Slip.TheVariants.{Quiet, Stop}
 use Rattle.desk.specs.declared.Scanned.{Scanned}
 use Rattle.desk.specs.Standing.{slip_for, kit_of, Scans}
 use Rattle.desk.specs.Made.{Made}
@@ -29,7 +29,7 @@ use Rattle.desk.proofs.Standing.{after_codes}
 use Rattle.desk.proofs.Holding.{made_after, value_is, settled_is, settled_none}
 
 -- ---- slips by two settled answers
-slip_stops : (j k : ℕ) (before after : Answer) → is_false before ≡ false → is_false after ≡ true → j ≡ k → slip_for j before after ≡ Stop k
+slip_stops : (j k : ℕ) (before after : Answer) → is_false before ≡ false → is_false after ≡ true → j ≡ k → slip_for j before after ≡ Some k
 unfolding slip_for
 slip_stops j k before after b a e = rw (b, a, e)
 
@@ -39,14 +39,14 @@ record Says (j k : ℕ) (before after : Answer) : Type 0 where
   not_before : is_false before ≡ false
   now : is_false after ≡ true
 
-stop_same : (j k : ℕ) → Stop j ≡ Stop k → j ≡ k
+stop_same : (j k : ℕ) → ◌≡◌ {A = Option ℕ} (Some j) (Some k) → j ≡ k
 stop_same j k e = cc
 
-slip_says : (j k : ℕ) (before after : Answer) → slip_for j before after ≡ Stop k → Says j k before after
+slip_says : (j k : ℕ) (before after : Answer) → slip_for j before after ≡ Some k → Says j k before after
 unfolding slip_for
 slip_says j k before after = go (is_false before) refl (is_false after) refl
   where
-    go : (b : Bool) → is_false before ≡ b → (a : Bool) → is_false after ≡ a → cond b Quiet (cond a (Stop j) Quiet) ≡ Stop k → Says j k before after
+    go : (b : Bool) → is_false before ≡ b → (a : Bool) → is_false after ≡ a → cond b None (cond a (Some j) None) ≡ Some k → Says j k before after
     go true x a y e = let z : ◌≡◌ {A = ℕ} 0 1 = cc in absurd (omega arith)
     go false x true y e = record { same = stop_same j k e; not_before = x; now = y }
     go false x false y e = let z : ◌≡◌ {A = ℕ} 0 1 = cc in absurd (omega arith)
@@ -107,7 +107,7 @@ module _ {kits : List Kit} {es : List Scan} {table m : List ℕ} (made : Made ki
     not_before : stopped (kit_at desk k) (taken desk es) ≡ false
     now : stopped (kit_at desk k) (taken desk (e ∷ es)) ≡ true
 
-  printed_just : (k : ℕ) → r.slip ≡ Stop k → Just k
+  printed_just : (k : ℕ) → r.slip ≡ Some k → Just k
   printed_just k h =
       let y = slip_says here k (verdict_of m here).settled (verdict_of m' here).settled (sym s.slip ∙ h) in
       ⊎_elim (kit y) (none y) (lt_or_ge k (length desk))
@@ -122,7 +122,7 @@ module _ {kits : List Kit} {es : List Scan} {table m : List ℕ} (made : Made ki
       none : Says here k (verdict_of m here).settled (verdict_of m' here).settled → length desk ≤ k → Just k
       none y l = absurd (clash y.now (ap is_false (settled_none later here (rw y.same l))))
 
-  just_printed : (k : ℕ) → Just k → r.slip ≡ Stop k
+  just_printed : (k : ℕ) → Just k → r.slip ≡ Some k
   just_printed k j =
       let x = kit_at desk k in
       let h = handed_out desk x e es j.not_before j.now in
@@ -135,14 +135,14 @@ module _ {kits : List Kit} {es : List Scan} {table m : List ℕ} (made : Made ki
 
   -- the slip of kit k prints at a scan exactly if the kit is stopped by the accepted scans so far, this one with them, and was not before it
   pub slip_exactly_if : (k : ℕ)
-      → (r.slip ≡ Stop k) ↔ ((k < length desk) × (¬ Stopped (kit_at desk k) (taken desk es)) × Stopped (kit_at desk k) (taken desk (e ∷ es)))
+      → (r.slip ≡ Some k) ↔ ((k < length desk) × (¬ Stopped (kit_at desk k) (taken desk es)) × Stopped (kit_at desk k) (taken desk (e ∷ es)))
   slip_exactly_if k = (to, fro)
     where
-      to : r.slip ≡ Stop k → (k < length desk) × (¬ Stopped (kit_at desk k) (taken desk es)) × Stopped (kit_at desk k) (taken desk (e ∷ es))
+      to : r.slip ≡ Some k → (k < length desk) × (¬ Stopped (kit_at desk k) (taken desk es)) × Stopped (kit_at desk k) (taken desk (e ∷ es))
       to h = let j = printed_just k h in
           (j.inside, λ y. clash ((stopped_iff (kit_at desk k) (taken desk es)).1 y) j.not_before, (stopped_iff (kit_at desk k) (taken desk (e ∷ es))).0 j.now)
 
-      fro : (k < length desk) × (¬ Stopped (kit_at desk k) (taken desk es)) × Stopped (kit_at desk k) (taken desk (e ∷ es)) → r.slip ≡ Stop k
+      fro : (k < length desk) × (¬ Stopped (kit_at desk k) (taken desk es)) × Stopped (kit_at desk k) (taken desk (e ∷ es)) → r.slip ≡ Some k
       fro h = just_printed k (record {
         inside = h.0;
         not_before = fails_by (stopped (kit_at desk k) (taken desk es)) (λ y. h.1 ((stopped_iff (kit_at desk k) (taken desk es)).0 y));
@@ -150,14 +150,14 @@ module _ {kits : List Kit} {es : List Scan} {table m : List ℕ} (made : Made ki
       })
 
   -- that is where its settled answer has just become false
-  pub slip_just_settled : (k : ℕ) → (r.slip ≡ Stop k) → (¬ ((verdict_of m k).settled ≡ False)) × ((verdict_of m' k).settled ≡ False)
+  pub slip_just_settled : (k : ℕ) → (r.slip ≡ Some k) → (¬ ((verdict_of m k).settled ≡ False)) × ((verdict_of m' k).settled ≡ False)
   slip_just_settled k h =
       let j = printed_just k h in
       (λ y. clash (sym (false_before k j.inside) ∙ ap is_false y) j.not_before, settled_is later k j.inside ∙ rw j.now)
 
 -- a slip that was printed never prints again, whatever is scanned
-pub never_again : {kits : List Kit} {es : List Scan} {table m : List ℕ} (made : Made kits es table m) {e : Scan} {m₁ : List ℕ} {r : Scanned} (s : Scans e table m m₁ r) (k : ℕ) → r.slip ≡ Stop k
-    → (more : List Scan) {table' m₂ : List ℕ} → Made kits (more ++ e ∷ es) table' m₂ → {f : Scan} {m₃ : List ℕ} {q : Scanned} → Scans f table' m₂ m₃ q → ¬ (q.slip ≡ Stop k)
+pub never_again : {kits : List Kit} {es : List Scan} {table m : List ℕ} (made : Made kits es table m) {e : Scan} {m₁ : List ℕ} {r : Scanned} (s : Scans e table m m₁ r) (k : ℕ) → r.slip ≡ Some k
+    → (more : List Scan) {table' m₂ : List ℕ} → Made kits (more ++ e ∷ es) table' m₂ → {f : Scan} {m₃ : List ℕ} {q : Scanned} → Scans f table' m₂ m₃ q → ¬ (q.slip ≡ Some k)
 never_again {kits} {es} made {e} s k h more made' t g =
     let j = printed_just made s k h in
     clash (stays_all (desk_of kits) (kit_at (desk_of kits) k) more (e ∷ es) j.now) (printed_just made' t k g).not_before

@@ -2,17 +2,18 @@
 use Prim.Native.Nat.{ℕ, zero, suc, ◌+◌, ◌*◌, ◌/◌, ◌≤◌, ◌<◌}
 use native.Mathlib.Omega.{arith}
 use mathlib.Core.Path.{◌≡◌, refl, sym, ap, ◌∙◌}
-use mathlib.Core.Bool.{Bool, true, false, cond}
+use mathlib.Core.Bool.{Bool, true, false}
 use mathlib.Core.List.{List, [], ◌∷◌}
 use lib.ListN.{length, get_or, set, take, drop, replicate, length-replicate}
 use lib.Seq.{sets, length-sets, take-nil, take-set-lt, get_or-take}
-use lib.Dec.{eqb}
 use borrow.Author.Tests.{lt-ltb, le-ltb, eqb-true}
 use Rattle.numbers.specs.Limits.{MOST_KITS}
-use Rattle.numbers.specs.Refusals.{ACCEPTED, UNKNOWN_BARCODE}
+use Rattle.numbers.specs.Refusals.{ACCEPTED, UNKNOWN_BARCODE, refused_with}
 use Rattle.lists.specs.Lists.{listed, part}
-use Rattle.pmtl.specs.declared.Answer.{Answer}
-use Rattle.pmtl.specs.Answer.{is_false}
+use Rattle.std.specs.Prelude.{Result, Ok, Err, is_ok}
+use Rattle.numbers.specs.declared.Refusal.{Refusal}
+use Rattle.numbers.proofs.Refused.{never_0}
+use Rattle.lists.proofs.Tests.{clash}
 use Rattle.pmtl.specs.Book.{Rows, Book}
 use Rattle.pmtl.specs.Monitor.{State, initial, step_by}
 use Rattle.pmtl.specs.Calls.{Call, stamped, state, Outcome, call}
@@ -40,12 +41,11 @@ use Rattle.desk_rules.proofs.Theorems.{clear_accepted}
 use Rattle.property_answers.specs.declared.Verdict.{Verdict}
 use Rattle.property_answers.specs.Verdict.{verdict_of}
 use Rattle.desk.specs.declared.Scanned.{Scanned}
-use Rattle.desk.specs.declared.Slip.TheVariants.{Quiet, Stop}
 use Rattle.desk.specs.Kits.{MOST_BARCODES, kits_in}
 use Rattle.desk.specs.Counted.{pulse_calls, calls_at, calls_in, desk_ledger}
 use Rattle.desk.specs.Standing.{TABLE_SIZE, table_of, codes_in, After, Stands, Opens, Leaves, slip_for, Scans}
 use Rattle.desk.specs.Private.{BookPut, SetUp, Ready}
-use Rattle.desk.proofs.Kits.{kits_length, codes_many}
+use Rattle.desk.proofs.Kits.{place_inside, kits_length, codes_many}
 use Rattle.desk.proofs.Counted.{call_small, one_counted, both_counted, known_calls, unknown_calls}
 
 -- ---- the table
@@ -97,9 +97,6 @@ none_given : (words : List ℕ) → kits_in words 0 ≡ []
 unfolding kits_in listed
 none_given words = refl
 
-pub none_given_fine : (words : List ℕ) → Fine (kits_in words 0)
-none_given_fine words = rw (none_given words) none_fine
-
 opened : (kits : List Kit) (table m : List ℕ) (r : ℕ) (desk : List Kit) → desk ≡ desk_of kits → r ≡ open_number kits → table ≡ table_of desk → SetUp desk m → Opens kits table m r
 unfolding desk_after desk_ledger
 opened kits table m r desk e n t s =
@@ -112,20 +109,39 @@ opened kits table m r desk e n t s =
     } in
     record { number = n; after = after; turns = s.turns; stands = record { kits = kits; scans = []; after = after } }
 
-pub opened_none : (words : List ℕ) (n : ℕ) (table m : List ℕ) (r : ℕ) → r ≡ open_number (kits_in words n) → ¬ (r ≡ 0) → table ≡ table_of (kits_in words 0)
-    → SetUp (kits_in words 0) m → Opens (kits_in words n) table m r
-opened_none words n table m r e z t s =
-    opened (kits_in words n) table m r (kits_in words 0) (none_given words ∙ sym (refused_desk (kits_in words n) (λ h. z (e ∙ h)))) e t s
+-- so many of the kits are taken: all of them, or none where the desk is refused
+pub record Takes (words : List ℕ) (n k : ℕ) : Type 0 where
+  pub desk : kits_in words k ≡ desk_of (kits_in words n)
+  pub fine : Fine (kits_in words k)
+  pub few : k ≤ MOST_KITS
 
-pub opened_all : (words : List ℕ) (n : ℕ) (table m : List ℕ) (r : ℕ) → r ≡ open_number (kits_in words n) → r ≡ 0 → table ≡ table_of (kits_in words n)
-    → SetUp (kits_in words n) m → Opens (kits_in words n) table m r
-opened_all words n table m r e z t s = opened (kits_in words n) table m r (kits_in words n) (sym (accepted_desk (kits_in words n) (sym e ∙ z))) e t s
+takes : (words : List ℕ) (n k : ℕ) → kits_in words k ≡ desk_of (kits_in words n) → Fine (kits_in words k) → Takes words n k
+takes words n k e f = record { desk = e; fine = f; few = omega (arith, f.few, kits_length words k) }
 
-pub all_given_fine : (words : List ℕ) (n r : ℕ) → r ≡ open_number (kits_in words n) → r ≡ 0 → Fine (kits_in words n)
-all_given_fine words n r e z = accepted_fine (kits_in words n) (sym e ∙ z)
+module _ (r : Result (Unit {0}) Refusal) {b : Bool} (e : b ≡ is_ok r) where
+  pub ok_accepted : b ≡ true → refused_with r ≡ 0
+  ok_accepted t = go r (sym e ∙ t)
+    where
+      go : (r : Result (Unit {0}) Refusal) → is_ok r ≡ true → refused_with r ≡ 0
+      go (Ok x) h = refl
+      go (Err q) h = absurd (clash h refl)
 
-pub few_given : (words : List ℕ) (n : ℕ) → Fine (kits_in words n) → n ≤ MOST_KITS
-few_given words n f = omega (arith, f.few, kits_length words n)
+  pub err_refused : b ≡ false → ¬ (refused_with r ≡ 0)
+  err_refused f = go r (sym e ∙ f)
+    where
+      go : (r : Result (Unit {0}) Refusal) → is_ok r ≡ false → ¬ (refused_with r ≡ 0)
+      go (Ok x) h = absurd (clash refl h)
+      go (Err q) h = never_0 q
+
+module _ (words : List ℕ) (n : ℕ) {r : ℕ} (e : r ≡ open_number (kits_in words n)) where
+  pub takes_all : {k : ℕ} → r ≡ 0 → k ≡ n → Takes words n k
+  takes_all {k} z s = rw s (takes words n n (sym (accepted_desk (kits_in words n) (sym e ∙ z))) (accepted_fine (kits_in words n) (sym e ∙ z)))
+
+  pub takes_none : {k : ℕ} → ¬ (r ≡ 0) → k ≡ 0 → Takes words n k
+  takes_none {k} z s = rw s (takes words n 0 (none_given words ∙ sym (refused_desk (kits_in words n) (λ h. z (e ∙ h)))) (rw (none_given words) none_fine))
+
+  pub opens : {k : ℕ} (table m : List ℕ) → Takes words n k → table ≡ table_of (kits_in words k) → SetUp (kits_in words k) m → Opens (kits_in words n) table m r
+  opens {k} table m t p s = opened (kits_in words n) table m r (kits_in words k) t.desk e p s
 
 -- ---- an atom on and off
 take_zeros : (n k : ℕ) → n ≤ k → take n (replicate {A = ℕ} k 0) ≡ replicate n 0
@@ -244,15 +260,6 @@ scanned_unknown m t width place h k =
     (record { number = refl; state = refl; book = refl; turned = λ z. absurd (let e : ◌≡◌ {A = ℕ} UNKNOWN_BARCODE 0 = z in omega arith); ledger = refl; unknown = λ e. refl; refused = λ n known. absurd (known refl); kept = k })
 
 -- ---- a scan at a desk
-place_inside : (c : ℕ) (xs : List ℕ) → place_of c xs ≤ length xs
-unfolding place_of
-place_inside c [] = omega arith
-place_inside c (x ∷ xs) = go (eqb c x) (place_inside c xs)
-  where
-    go : (z : Bool) → place_of c xs ≤ length xs → cond z 0 (suc (place_of c xs)) ≤ suc (length xs)
-    go true h = omega arith
-    go false h = omega arith
-
 module _ {kits : List Kit} {scans : List Scan} {table m : List ℕ} (a : After kits scans table m) where
   abbrev desk : List Kit
   desk = desk_of kits
@@ -297,29 +304,17 @@ pub ready_scan : (table m xs : List ℕ) (t c width place : ℕ) → Stands tabl
 ready_scan table m xs t c width place s = after_ready s.after xs t c width place
 
 -- ---- what a scan hands back
-pub quiet_before : (kit : ℕ) (before after : Answer) (r : Bool) → r ≡ is_false before → r ≡ true → Quiet ≡ slip_for kit before after
-unfolding slip_for
-quiet_before kit before after r e t = rw (← e, t)
-
-pub stops_now : (kit : ℕ) (before after : Answer) (r q : Bool) → r ≡ is_false before → r ≡ false → q ≡ is_false after → q ≡ true → Stop kit ≡ slip_for kit before after
-unfolding slip_for
-stops_now kit before after r q e f g h = rw (← e, f, ← g, h)
-
-pub quiet_after : (kit : ℕ) (before after : Answer) (r q : Bool) → r ≡ is_false before → r ≡ false → q ≡ is_false after → q ≡ false → Quiet ≡ slip_for kit before after
-unfolding slip_for
-quiet_after kit before after r q e f g h = rw (← e, f, ← g, h)
-
 pub scan_made : (table m m' xs : List ℕ) (t c width place : ℕ) (r : Scanned) (before after : Verdict) → Stands table m → width ≡ get_or table 0 0 → xs ≡ part 1 width table
-    → place ≡ place_of c xs → Leaves (scanned_at (book_of m).rows width (state_of m) t place) (calls_at (book_of m).rows width (state_of m) t place) m m' r.number → before ≡ verdict_of m (place / 3) → after ≡ verdict_of m' (place / 3)
+    → place ≡ place_of c xs → Leaves (scanned_at (book_of m).rows width (state_of m) t place) (calls_at (book_of m).rows width (state_of m) t place) m m' (refused_with r.outcome) → before ≡ verdict_of m (place / 3) → after ≡ verdict_of m' (place / 3)
     → r.slip ≡ slip_for (place / 3) before.settled after.settled → Scans (record { hour = t; barcode = c }) table m m' r
 scan_made table m m' xs t c width place r before after s w x p l v v' q =
     let y : xs ≡ codes_in table = x ∙ ap (λ n. part 1 n table) w in
     let z : place ≡ place_of c (codes_in table) = p ∙ ap (place_of c) y in
     let k : width ≡ length (codes_in table) = w ∙ after_count s.after ∙ sym (ap length (after_codes s.after)) in
     let e : Scan = record { hour = t; barcode = c } in
-    let o : Leaves (scanned_in (book_of m).rows (codes_in table) (state_of m) e) (calls_in (book_of m).rows (codes_in table) (state_of m) e) m m' r.number = rw (← k, ← z) l in
+    let o : Leaves (scanned_in (book_of m).rows (codes_in table) (state_of m) e) (calls_in (book_of m).rows (codes_in table) (state_of m) e) m m' (refused_with r.outcome) = rw (← k, ← z) l in
     record {
       leaves = o;
       slip = rw (← z, ← v, ← v') q;
-      stands = record { kits = s.kits; scans = e ∷ s.scans; after = after_scan s.after e m' r.number o };
+      stands = record { kits = s.kits; scans = e ∷ s.scans; after = after_scan s.after e m' (refused_with r.outcome) o };
     }

@@ -11,7 +11,7 @@ use lib.ListN.{length}
 use borrow.Author.Tests.{not-false}
 use Rattle.lists.proofs.Tests.{lt_or_ge, fails_by, not_no}
 use Rattle.pmtl.specs.declared.Answer.TheVariants.{False, Open}
-use Rattle.numbers.specs.Refusals.{ACCEPTED, UNKNOWN_BARCODE}
+use Rattle.numbers.specs.Refusals.{ACCEPTED, UNKNOWN_BARCODE, refused_with}
 use Rattle.pmtl.specs.Calls.{Call, Outcome}
 use Rattle.ring.specs.Ring.{turn_after}
 use Rattle.memory.specs.Memory.{slot_words}
@@ -72,20 +72,20 @@ module _ {kits : List Kit} {es : List Scan} {table m : List ℕ} (made : Made ki
   -- ---- a further scan
   module _ {e : Scan} {m' : List ℕ} {r : Scanned} (s : Scans e table m m' r) where
     -- it is refused by its barcode and the hours of the accepted scans alone
-    pub scan_number_lem : r.number ≡ scan_number desk (taken desk es) e
+    pub scan_number_lem : refused_with r.outcome ≡ scan_number desk (taken desk es) e
     scan_number_lem = let a = made_after made in
         s.leaves.number ∙ rw (a.book, after_codes a, a.state) (number-in-desk-terms kits es e)
 
     -- with 20, 7 or 8, or not at all
-    pub only_these_numbers : Few r.number
+    pub only_these_numbers : Few (refused_with r.outcome)
     only_these_numbers = rw (scan_number_lem ∙ sym (number-in-desk-terms kits es e)) (few_numbers kits es e)
 
     -- a barcode of no kit changes nothing
-    pub unknown_changes_nothing : r.number ≡ UNKNOWN_BARCODE → m' ≡ m
+    pub unknown_changes_nothing : refused_with r.outcome ≡ UNKNOWN_BARCODE → m' ≡ m
     unknown_changes_nothing = s.leaves.unknown
 
     -- a scan of a kit that is refused changes the number of the monitor's calls, and nothing else
-    pub refused_changes_nothing_else : ¬ (r.number ≡ ACCEPTED) → ¬ (r.number ≡ UNKNOWN_BARCODE) → m' ≡ numbered m
+    pub refused_changes_nothing_else : ¬ (refused_with r.outcome ≡ ACCEPTED) → ¬ (refused_with r.outcome ≡ UNKNOWN_BARCODE) → m' ≡ numbered m
     refused_changes_nothing_else = s.leaves.refused
 
 -- ---- what is allowed for one input coincides
@@ -113,11 +113,11 @@ leaves_unique m m₁ m₂ r q x y =
     (lt_or_ge r UNKNOWN_BARCODE))
     (lt_or_ge r 1)
 
-pub scan_unique : {e : Scan} {table m m₁ m₂ : List ℕ} {r q : Scanned} → Scans e table m m₁ r → Scans e table m m₂ q → (r.number ≡ q.number) × (r.slip ≡ q.slip) × (m₁ ≡ m₂)
+pub scan_unique : {e : Scan} {table m m₁ m₂ : List ℕ} {r q : Scanned} → Scans e table m m₁ r → Scans e table m m₂ q → (refused_with r.outcome ≡ refused_with q.outcome) × (r.slip ≡ q.slip) × (m₁ ≡ m₂)
 scan_unique {e} {table} {m} {m₁} {m₂} {r} {q} s t =
     let x = s.leaves in
     let y = t.leaves in
-    let same = leaves_unique m m₁ m₂ r.number q.number x y in
+    let same = leaves_unique m m₁ m₂ (refused_with r.outcome) (refused_with q.outcome) x y in
     let kit = kit_of table e in
     (x.number ∙ sym y.number, s.slip ∙ ap (λ m'. slip_for kit (verdict_of m kit).settled (verdict_of m' kit).settled) same ∙ sym t.slip, same)
 

@@ -1,8 +1,8 @@
 -- What a desk's memory holds, and what opening it and scanning at it owe. Definitions only.
-use Rattle.std.specs.Prelude.{ℕ, ◌+◌, ◌/◌, ◌<◌, ◌≡◌, cond, List, [], ◌∷◌, length, get_or, replicate}
+use Rattle.std.specs.Prelude.{ℕ, ◌+◌, ◌/◌, ◌<◌, ◌≡◌, cond, Option, Some, None, List, [], ◌∷◌, length, get_or, replicate}
 use Rattle.std.proofs.lemmas.List.Edits.{sets}
 use Rattle.numbers.specs.Limits.{MOST_TEMPORALS}
-use Rattle.numbers.specs.Refusals.{ACCEPTED, UNKNOWN_BARCODE}
+use Rattle.numbers.specs.Refusals.{ACCEPTED, UNKNOWN_BARCODE, refused_with}
 use Rattle.lists.specs.Lists.{part}
 use Rattle.pmtl.specs.declared.Answer.{Answer}
 use Rattle.pmtl.specs.Answer.{is_false}
@@ -16,8 +16,6 @@ use Rattle.property_answers.specs.Verdict.{verdict_of}
 use Rattle.desk_rules.specs.Scans.{Kit, Scan, codes, windows, open_number, desk_of}
 use Rattle.desk_rules.specs.Rows.{KIT_ATOMS, desk_book}
 use Rattle.desk_rules.specs.Desk.{place_of, scanned_in, desk_after}
-use Rattle.desk.specs.declared.Slip.{Slip}
-use Rattle.desk.specs.declared.Slip.TheVariants.{Quiet, Stop}
 use Rattle.desk.specs.declared.Scanned.{Scanned}
 use Rattle.desk.specs.Kits.{MOST_BARCODES}
 use Rattle.desk.specs.Counted.{calls_in, desk_ledger}
@@ -74,8 +72,8 @@ pub record Leaves (o : Outcome) (calls : List Call) (m m' : List ℕ) (r : ℕ) 
   pub kept : Kept m'
 
 -- the stop slip of a kit prints where its settled answer has just become false
-unfoldable pub slip_for : ℕ → Answer → Answer → Slip
-slip_for kit before after = cond (is_false before) Quiet (cond (is_false after) (Stop kit) Quiet)
+unfoldable pub slip_for : ℕ → Answer → Answer → Option ℕ
+slip_for kit before after = cond (is_false before) None (cond (is_false after) (Some kit) None)
 
 -- the kit whose barcode it is
 abbrev pub kit_of : List ℕ → Scan → ℕ
@@ -83,6 +81,6 @@ kit_of table e = place_of e.barcode (codes_in table) / KIT_ATOMS
 
 -- a scan at a desk handed back r and left m' of m
 pub record Scans (e : Scan) (table m m' : List ℕ) (r : Scanned) : Type 0 where
-  pub leaves : Leaves (scanned_in (book_of m).rows (codes_in table) (state_of m) e) (calls_in (book_of m).rows (codes_in table) (state_of m) e) m m' r.number
+  pub leaves : Leaves (scanned_in (book_of m).rows (codes_in table) (state_of m) e) (calls_in (book_of m).rows (codes_in table) (state_of m) e) m m' (refused_with r.outcome)
   pub slip : r.slip ≡ slip_for (kit_of table e) (verdict_of m (kit_of table e)).settled (verdict_of m' (kit_of table e)).settled
   pub stands : Stands table m'

@@ -1,7 +1,6 @@
 // The words of a desk's book: one guarantee for each kit.
 ghost use Rattle.std.specs.Prelude.{◌≡◌, ◌+◌, ◌*◌, ◌≤◌, ◌<◌, length};
 ghost use Rattle.std.proofs.lemmas.List.Edits.{sets};
-ghost use Rattle.lists.specs.Lists.{put};
 ghost use Rattle.numbers.specs.Limits.{MOST_KITS};
 ghost use Rattle.desk_rules.specs.Scans.{windows};
 ghost use Rattle.desk_rules.specs.Rows.{KIT_OPERANDS, guarantees_from};
@@ -10,8 +9,8 @@ ghost use Rattle.desk.specs.Kits.{kits_in};
 ghost use Rattle.desk.specs.Private.{KIT_ROW_WORDS, MOST_BOOK_WORDS, BookPut};
 
 use crate::given::{KIT_BARCODES, MOST_KIT_WORDS, window_at};
+use book::kind::Kind;
 use numbers::{MAX, MOST_KITS, ROW_WORDS};
-use oracle::{ATOM, HISTORICALLY, IMPLIES, NOT, SINCE};
 
 // How many rows a kit has, and operands, and words of rows.
 const KIT_ROWS: usize = 7;
@@ -27,44 +26,43 @@ const GUARANTEE: usize = 6;
 pub const MOST_BOOK_WORDS: usize = (KIT_ROW_WORDS + KIT_OPERANDS + 1) * MOST_KITS + 4;
 
 // The rows of hist[0,*](implies(handout, since[0,window](not(return), promise))) for kit k: kind, arg, lower and upper of each.
-fn put_kit(k: usize, window: u64, words: &mut [u64], at: usize)
-    requires { (k < MOST_KITS) × (at + KIT_ROW_WORDS ≤ length words.old) }
-    ensures { words.new ≡ put words.old at (kit_words k window) }
+fn kit_words(k: usize, window: u64) -> [u64; KIT_ROW_WORDS]
+    requires { k < MOST_KITS }
+    ensures { result ≡ kit_words k window }
 {
     let promise = (KIT_BARCODES * k) as u64;
     let handout = promise + 1;
     let returned = promise + 2;
-    let rows = [
-        ATOM,
+    [
+        Kind::Atom as u64,
         handout,
         0,
         0,
-        ATOM,
+        Kind::Atom as u64,
         returned,
         0,
         0,
-        NOT,
+        Kind::Not as u64,
         1,
         0,
         0,
-        ATOM,
+        Kind::Atom as u64,
         promise,
         0,
         0,
-        SINCE,
+        Kind::Since as u64,
         2,
         0,
         window,
-        IMPLIES,
+        Kind::Implies as u64,
         2,
         0,
         0,
-        HISTORICALLY,
+        Kind::Historically as u64,
         1,
         0,
         MAX,
-    ];
-    lists::copy(&rows, words, at);
+    ]
 }
 
 // The rows of the first kits, so many of them, from a place on.
@@ -72,21 +70,19 @@ fn put_rows(kits: &[u64; MOST_KIT_WORDS], count: usize, words: &mut [u64], at: u
     requires { (count ≤ MOST_KITS) × (at + KIT_ROW_WORDS * count ≤ length words.old) }
     ensures { words.new ≡ sets words.old at (row_words_from 0 (windows (kits_in kits.now count))) }
 {
-    let mut k = 0;
-    while k < count {
-        put_kit(k, window_at(kits, k), words, at + KIT_ROW_WORDS * k);
-        k += 1;
+    for k in 0..count {
+        let rows = kit_words(k, window_at(kits, k));
+        lists::copy(&rows, words, at + KIT_ROW_WORDS * k);
     }
 }
 
 // The operands of kit k.
-fn put_kit_operands(k: usize, words: &mut [u64], at: usize)
-    requires { (k < MOST_KITS) × (at + KIT_OPERANDS ≤ length words.old) }
-    ensures { words.new ≡ put words.old at (kit_operands k) }
+fn kit_operands(k: usize) -> [u64; KIT_OPERANDS]
+    requires { k < MOST_KITS }
+    ensures { result ≡ kit_operands k }
 {
     let first = (KIT_ROWS * k) as u64;
-    let rows = [first + 1, first + 2, first + 3, first, first + 4, first + 5];
-    lists::copy(&rows, words, at);
+    [first + 1, first + 2, first + 3, first, first + 4, first + 5]
 }
 
 // The operands of so many kits, from a place on.
@@ -94,10 +90,8 @@ fn put_operands(count: usize, words: &mut [u64], at: usize)
     requires { (count ≤ MOST_KITS) × (at + KIT_OPERANDS * count ≤ length words.old) }
     ensures { words.new ≡ sets words.old at (operands_from 0 count) }
 {
-    let mut k = 0;
-    while k < count {
-        put_kit_operands(k, words, at + KIT_OPERANDS * k);
-        k += 1;
+    for k in 0..count {
+        lists::copy(&kit_operands(k), words, at + KIT_OPERANDS * k);
     }
 }
 
@@ -106,10 +100,8 @@ fn put_guarantees(count: usize, words: &mut [u64], at: usize)
     requires { (count ≤ MOST_KITS) × (at + count ≤ length words.old) }
     ensures { words.new ≡ sets words.old at (guarantees_from 0 count) }
 {
-    let mut k = 0;
-    while k < count {
+    for k in 0..count {
         words[at + k] = (KIT_ROWS * k + GUARANTEE) as u64;
-        k += 1;
     }
 }
 

@@ -6,9 +6,9 @@
 pub mod book_words;
 pub mod given;
 
-ghost use Rattle.std.specs.Prelude.{◌≡◌, ◌≤◌, ◌<◌, length, take};
+ghost use Rattle.std.specs.Prelude.{◌≡◌, ◌≤◌, ◌<◌, length};
 ghost use Rattle.numbers.specs.Limits.{MOST_KITS};
-ghost use Rattle.pmtl.specs.Answer.{is_false};
+ghost use Rattle.numbers.specs.Refusals.{refused_with};
 ghost use Rattle.memory.specs.Memory.{book_of, state_of};
 ghost use Rattle.memory.specs.Kept.{Kept};
 ghost use Rattle.property_answers.specs.Verdict.{verdict_of};
@@ -21,7 +21,7 @@ ghost use Rattle.desk.specs.Private.{SetUp, Ready};
 
 use book_words::{MOST_BOOK_WORDS, put_book};
 use given::{KIT_BARCODES, MOST_BARCODES, MOST_KIT_WORDS, judge, place_of, put_barcodes};
-use numbers::{ACCEPTED, UNKNOWN_BARCODE};
+use numbers::Refusal;
 use oracle::{Answer, SIZE, Verdict, load_strict, of_property, update_stamped, update_state};
 
 // The words of the table: how many barcodes there are, and they.
@@ -31,18 +31,11 @@ const COUNT: usize = 0;
 
 const BARCODES: usize = 1;
 
-// Whether a stop slip prints, and of which kit.
-#[derive(Clone, Copy)]
-pub enum Slip {
-    Quiet,
-    Stop(usize),
-}
-
-// What a scan hands back: its number, and the slip that prints at it.
+// What a scan hands back: why it is refused, if it is, and the kit whose stop slip prints at it, if one does.
 #[derive(Clone, Copy)]
 pub struct Scanned {
-    pub number: u64,
-    pub slip: Slip,
+    pub outcome: Result<(), Refusal>,
+    pub slip: Option<usize>,
 }
 
 // The table of the first kits' barcodes, whatever stood there before.
@@ -50,7 +43,7 @@ fn put_table(kits: &[u64; MOST_KIT_WORDS], count: usize, table: &mut [u64])
     requires { (count ≤ MOST_KITS) × (length table.old ≡ TABLE_SIZE) }
     ensures { table.new ≡ table_of (kits_in kits.now count) }
 {
-    lists::clear(table);
+    table.fill(0);
     table[COUNT] = (KIT_BARCODES * count) as u64;
     put_barcodes(kits, count, table, BARCODES);
 }
@@ -63,7 +56,8 @@ fn load_book(kits: &[u64; MOST_KIT_WORDS], count: usize, monitor: &mut [u64; SIZ
 {
     let mut words = [0; MOST_BOOK_WORDS];
     let end = put_book(kits, count, &mut words);
-    load_strict(lists::part_of(&words, 0, end), monitor);
+    // No book of such kits is refused.
+    let _ = load_strict(&words[..end], monitor);
 }
 
 // Opens a desk of the first kits, so many of them, whatever stood in its memory before. A refused desk is one of no kit.
@@ -72,77 +66,56 @@ pub fn open(
     count: usize,
     table: &mut [u64; TABLE_SIZE],
     monitor: &mut [u64; SIZE],
-) -> u64
-    ensures { Opens (kits_in kits.now count) table.new monitor.new result }
+) -> Result<(), Refusal>
+    ensures { Opens (kits_in kits.now count) table.new monitor.new (refused_with result) }
 {
-    let number = judge(kits, count);
-    if number != ACCEPTED {
-        put_table(kits, 0, table);
-        load_book(kits, 0, monitor);
-        return number;
-    }
-    put_table(kits, count, table);
-    load_book(kits, count, monitor);
-    number
-}
-
-// The first bytes of a state, so many of them.
-fn first_of(state: &[u8], width: usize) -> &[u8]
-    requires { width ≤ length state.now }
-    ensures { result.now ≡ take width state.now }
-{
-    &state[0..width]
+    let judged = judge(kits, count);
+    let taken = if judged.is_ok() { count } else { 0 };
+    put_table(kits, taken, table);
+    load_book(kits, taken, monitor);
+    judged
 }
 
 // An atom goes on at a time, and after it, at the same clock, all are off: no promise is seen again later.
-fn on_and_off(monitor: &mut [u64; SIZE], time: u64, width: usize, place: usize) -> u64
+fn on_and_off(
+    monitor: &mut [u64; SIZE],
+    time: u64,
+    width: usize,
+    place: usize,
+) -> Result<(), Refusal>
     requires ready { Ready monitor.old time width place }
     requires place_lt_width { place < width }
-    ensures { Leaves (pulse (book_of monitor.old).rows width (state_of monitor.old) time place) (pulse_calls (book_of monitor.old).rows width (state_of monitor.old) time place) monitor.old monitor.new result }
+    ensures { Leaves (pulse (book_of monitor.old).rows width (state_of monitor.old) time place) (pulse_calls (book_of monitor.old).rows width (state_of monitor.old) time place) monitor.old monitor.new (refused_with result) }
 {
     let mut on = [0u8; MOST_BARCODES];
     on[place] = 1;
-    let number = update_stamped(monitor, time, first_of(&on, width)).number;
-    if number != ACCEPTED {
-        return number;
-    }
+    update_stamped(monitor, time, &on[..width]).outcome?;
     let off = [0u8; MOST_BARCODES];
-    update_state(monitor, first_of(&off, width)).number
+    update_state(monitor, &off[..width]).outcome
 }
 
 // A scan of the barcode at a place among so many, or of none of them.
-fn scan_at(monitor: &mut [u64; SIZE], time: u64, width: usize, place: usize) -> u64
+fn scan_at(monitor: &mut [u64; SIZE], time: u64, width: usize, place: usize) -> Result<(), Refusal>
     requires { Ready monitor.old time width place }
-    ensures { Leaves (scanned_at (book_of monitor.old).rows width (state_of monitor.old) time place) (calls_at (book_of monitor.old).rows width (state_of monitor.old) time place) monitor.old monitor.new result }
+    ensures { Leaves (scanned_at (book_of monitor.old).rows width (state_of monitor.old) time place) (calls_at (book_of monitor.old).rows width (state_of monitor.old) time place) monitor.old monitor.new (refused_with result) }
 {
     if place < width {
-        return on_and_off(monitor, time, width, place);
-    }
-    UNKNOWN_BARCODE
-}
-
-// Whether an answer is false.
-fn is_false(answer: Answer) -> bool
-    ensures { result ≡ is_false answer }
-{
-    match answer {
-        Answer::False => true,
-        Answer::True => false,
-        Answer::Open => false,
+        on_and_off(monitor, time, width, place)
+    } else {
+        Err(Refusal::UnknownBarcode)
     }
 }
 
 // The slip of a kit whose settled answer was `before` and is `after`.
-fn slip_for(kit: usize, before: Answer, after: Answer) -> Slip
+#[tactic(auto, unfolding(crate::specs::Standing::slip_for))]
+fn slip_for(kit: usize, before: Answer, after: Answer) -> Option<usize>
     ensures { result ≡ slip_for kit before after }
 {
-    if is_false(before) {
-        return Slip::Quiet;
+    if before != Answer::False && after == Answer::False {
+        Some(kit)
+    } else {
+        None
     }
-    if is_false(after) {
-        return Slip::Stop(kit);
-    }
-    Slip::Quiet
 }
 
 // A scan: the barcode's atom goes on and off, whole or not at all. A barcode of no kit changes nothing; a time that is refused changes
@@ -160,10 +133,10 @@ pub fn scan(
     let place = place_of(barcode, lists::part_of(table, BARCODES, width));
     let kit = place / KIT_BARCODES;
     let before = of_property(monitor, kit).settled;
-    let number = scan_at(monitor, time, width, place);
+    let outcome = scan_at(monitor, time, width, place);
     let after = of_property(monitor, kit).settled;
     Scanned {
-        number,
+        outcome,
         slip: slip_for(kit, before, after),
     }
 }

@@ -1,19 +1,15 @@
 -- What is written after a line, byte by byte. Assumes nothing.
-use Prim.Native.Nat.{ℕ, ◌+◌, ◌≤◌, ◌<◌}
+use Prim.Native.Nat.{ℕ, ◌+◌}
 use mathlib.Core.Path.{◌≡◌, refl, ◌∙◌}
-use mathlib.Core.Bool.{Bool, true, false}
 use mathlib.Core.List.{List, [], ◌∷◌, append-nil}
-use native.Mathlib.Omega.{arith}
 use native.Mathlib.Numerals.{add-one}
-use lib.ListN.{length}
 use borrow.Author.Tests.{eq-eqb, ne_eqb}
 use Rattle.numbers.specs.Refusals.{WRONG_LENGTH}
+use Rattle.std.specs.Prelude.{Option, Some, None}
 use Rattle.text.specs.Words.{space, digit0}
 use Rattle.text.specs.Decimals.{decimal}
 use Rattle.pmtl.specs.Book.{Book}
 use Rattle.pmtl.specs.Monitor.{State}
-use Rattle.pmtl.specs.declared.Answer.{Answer}
-use Rattle.pmtl.specs.declared.Answer.TheVariants.{False, True, Open}
 use Rattle.pmtl.specs.Answer.{bit_of, digit_of}
 use Rattle.property_answers.specs.declared.Verdict.{Verdict}
 use Rattle.property_answers.specs.Verdict.{verdict_in}
@@ -22,8 +18,10 @@ use Rattle.buffer_writer.specs.Finish.{finish, Wrote}
 use Rattle.buffer_writer.proofs.Writes.{and_then, at_end, whole}
 use Rattle.desk_lines.specs.declared.Stage.{Stage}
 use Rattle.desk_lines.specs.declared.Stage.TheVariants.{Awaited, Giving, Opened, Closed}
-use Rattle.desk_lines.specs.declared.Event.{Event}
-use Rattle.desk_lines.specs.declared.Event.TheVariants.{Nothing, Desk, Scanned, Stopped}
+use Rattle.desk_lines.specs.declared.Event as code
+use Rattle.desk_lines.specs.declared.Event.TheVariants.{Nothing, Desk, Scan}
+use Rattle.desk_lines.specs.Does.{event_of}
+use Rattle.desk_lines.specs.Dialogue.{scan_event}
 use Rattle.desk_lines.specs.Bytes.{desk_word, slip_word, end_line, ended, numbered, kit_word, kit_words, scan_bytes, event_bytes, last_bytes}
 
 nothing_wrote : (out : List ℕ) → Wrote out 0 [] out 0
@@ -39,40 +37,21 @@ pub kit_bytes : {v w : Verdict} {a b c : ℕ} → v ≡ w → a ≡ digit0 + bit
 unfolding kit_word
 kit_bytes z e f g = rw (e, f, g, z)
 
-module _ (b : Bool) where
-  pub bit_true : b ≡ true → 49 ≡ digit0 + bit_of b
-  bit_true e = rw e
-
-  pub bit_false : b ≡ false → 48 ≡ digit0 + bit_of b
-  bit_false e = rw e
-
-module _ (a : Answer) where
-  pub digit_false : a ≡ False → 48 ≡ digit0 + digit_of a
-  digit_false e = rw e
-
-  pub digit_true : a ≡ True → 49 ≡ digit0 + digit_of a
-  digit_true e = rw e
-
-  pub digit_open : a ≡ Open → 50 ≡ digit0 + digit_of a
-  digit_open e = rw e
-
 -- those of the first kits are written
-pub record Wording (b : Book) (st : State) (count : ℕ) (out₀ : List ℕ) (at : ℕ) (out : List ℕ) (p k : ℕ) : Type 0 where
-  pub low : k ≤ count
-  pub size : length out ≡ length out₀
+pub record Wording (b : Book) (st : State) (out₀ : List ℕ) (at : ℕ) (out : List ℕ) (p k : ℕ) : Type 0 where
   pub wrote : Wrote out₀ at (kit_words b st k) out p
 
-pub word_start : (b : Book) (st : State) (count : ℕ) (out : List ℕ) (at : ℕ) → Wording b st count out at out at 0
+pub word_start : (b : Book) (st : State) (out : List ℕ) (at : ℕ) → Wording b st out at out at 0
 unfolding kit_words
-word_start b st count out at = record { low = omega arith; size = refl; wrote = record { same = λ rest. refl } }
+word_start b st out at = record { wrote = record { same = λ rest. refl } }
 
-module _ {b : Book} {st : State} {count : ℕ} {out₀ : List ℕ} {at : ℕ} {out : List ℕ} {p k : ℕ} (g : Wording b st count out₀ at out p k) where
-  pub word_more : {out' : List ℕ} {p' : ℕ} → k < count → Wrote out p (kit_word (verdict_in b st k)) out' p' → length out' ≡ length out → Wording b st count out₀ at out' p' (k + 1)
+module _ {b : Book} {st : State} {out₀ : List ℕ} {at : ℕ} {out : List ℕ} {p k : ℕ} (g : Wording b st out₀ at out p k) where
+  pub word_more : {out' : List ℕ} {p' : ℕ} → Wrote out p (kit_word (verdict_in b st k)) out' p' → Wording b st out₀ at out' p' (k + 1)
   unfolding kit_words
-  word_more h w z = record { low = omega arith; size = z ∙ g.size; wrote = rw add-one (and_then g.wrote w) }
+  word_more w = record { wrote = rw add-one (and_then g.wrote w) }
 
-  pub word_done : count ≤ k → Wrote out₀ at (kit_words b st count) out p
-  word_done h = let e : count ≡ k = omega (arith, g.low) in rw e g.wrote
+  pub word_done : {count : ℕ} → k ≡ count → Wrote out₀ at (kit_words b st count) out p
+  word_done e = rw (← e) g.wrote
 
 -- ---- the line of a scan
 module _ (i n : ℕ) (answers : List ℕ) {m m₁ m₂ m₃ : List ℕ} {at at₁ at₂ at₃ : ℕ} (a : Wrote m at (decimal i) m₁ at₁) (b : Wrote m₁ at₁ (space ∷ []) m₂ at₂) (c : Wrote m₂ at₂ (decimal n) m₃ at₃) where
@@ -85,23 +64,23 @@ module _ (i n : ℕ) (answers : List ℕ) {m m₁ m₂ m₃ : List ℕ} {at at�
   refused_wrote e q = rw (ne_eqb n 0 e, append-nil) (and_then (and_then a (and_then b c)) q)
 
 -- ---- what is said
-module _ (event : Event) (answers : List ℕ) {out : List ℕ} where
-  pub said_nothing : event ≡ Nothing → Wrote out 0 (event_bytes event answers) out 0
+module _ (event : code.Event) (answers : List ℕ) {out : List ℕ} where
+  pub said_nothing : event ≡ Nothing → Wrote out 0 (event_bytes (event_of event) answers) out 0
   unfolding event_bytes
   said_nothing e = rw e (nothing_wrote out)
 
-  pub said_desk : {n : ℕ} {out' : List ℕ} {p : ℕ} → event ≡ Desk n → Wrote out 0 (numbered desk_word n) out' p → Wrote out 0 (event_bytes event answers) out' p
+  pub said_desk : {n : ℕ} {out' : List ℕ} {p : ℕ} → event ≡ Desk n → Wrote out 0 (numbered desk_word n) out' p → Wrote out 0 (event_bytes (event_of event) answers) out' p
   unfolding event_bytes
   said_desk e w = rw e w
 
-  pub said_scan : {i n : ℕ} {out' : List ℕ} {p : ℕ} → event ≡ Scanned i n → Wrote out 0 (scan_bytes i n answers) out' p → Wrote out 0 (event_bytes event answers) out' p
-  unfolding event_bytes
-  said_scan e w = rw e w
+  module _ {i n : ℕ} {slip : Option ℕ} (e : event ≡ Scan i n slip) {out₁ : List ℕ} {p₁ : ℕ} (w : Wrote out 0 (scan_bytes i n answers) out₁ p₁) where
+    pub said_scan : slip ≡ None → Wrote out 0 (event_bytes (event_of event) answers) out₁ p₁
+    unfolding event_bytes scan_event
+    said_scan f = rw (e, f) w
 
-  pub said_slip : {i n kit : ℕ} {out₁ out₂ : List ℕ} {p₁ p₂ : ℕ} → event ≡ Stopped i n kit → Wrote out 0 (scan_bytes i n answers) out₁ p₁ → Wrote out₁ p₁ (numbered slip_word kit) out₂ p₂
-      → Wrote out 0 (event_bytes event answers) out₂ p₂
-  unfolding event_bytes
-  said_slip e w v = rw e (and_then w v)
+    pub said_slip : {kit : ℕ} {out₂ : List ℕ} {p₂ : ℕ} → slip ≡ Some kit → Wrote out₁ p₁ (numbered slip_word kit) out₂ p₂ → Wrote out 0 (event_bytes (event_of event) answers) out₂ p₂
+    unfolding event_bytes scan_event
+    said_slip f v = rw (e, f) (and_then w v)
 
 module _ (stage : Stage) {out : List ℕ} where
   pub last_awaited : {out' : List ℕ} {p : ℕ} → stage ≡ Awaited → Wrote out 0 (numbered desk_word WRONG_LENGTH) out' p → Wrote out 0 (last_bytes stage) out' p

@@ -25,17 +25,15 @@ use Rattle.buffer_writer.specs.Buffer.{Handed, handed, in_buffer}
 use Rattle.desk_rules.specs.Scans.{Kit, Scan, codes, windows, repeats, open_number}
 use Rattle.desk_rules.specs.Desk.{place_of, scanned_in}
 use Rattle.desk_rules.proofs.Theorems.{Few, few_numbers}
-use Rattle.desk.specs.declared.Slip.{Slip}
-use Rattle.desk.specs.declared.Slip.TheVariants as of-slip
+use Rattle.std.specs.Prelude.{Option, Some, None}
 use Rattle.desk.specs.Kits.{KIT_WORDS, kits_in}
 use Rattle.desk.specs.Standing.{codes_in, kit_count, kit_of, slip_for, Stands}
 use Rattle.desk.proofs.Standing.{after_codes, width_small, ready_scan}
 use Rattle.line_words.specs.Line.{LONGEST_LINE, without_return, line_supply, blank, judged_by, word_at, number_for}
 use Rattle.desk_lines.specs.declared.Stage.{Stage}
 use Rattle.desk_lines.specs.declared.Stage.TheVariants.{Awaited, Giving, Opened, Closed}
-use Rattle.desk_lines.specs.declared.Event.TheVariants.{Nothing, Desk}
-use Rattle.desk_lines.specs.declared.Heard.{Heard}
-use Rattle.desk_lines.specs.Dialogue.{Held, Reply, says, unchanged, closed_by, COUNT_WORDS, count_heard, count_line, with_kit, open_heard, opening, kit_given, kit_line, SCAN_WORDS, following, scan_of, scan_event, scanning, scan_line, at_stage, reply_to}
+use Rattle.desk_lines.specs.Dialogue.Event.{Nothing, Desk}
+use Rattle.desk_lines.specs.Dialogue.{Heard, Held, Reply, says, unchanged, closed_by, COUNT_WORDS, count_heard, count_line, with_kit, open_heard, opening, kit_given, kit_line, SCAN_WORDS, following, scan_of, scan_event, scanning, scan_line, at_stage, reply_to}
 use Rattle.desk_lines.specs.Bytes.{desk_word, slip_word, numbered, kit_word, kit_words, scan_bytes, event_bytes, reply_bytes, last_bytes}
 use Rattle.desk_lines.specs.Longest.{KIT_BYTES, SCAN_BYTES, SLIP_BYTES, LONGEST_ANSWER}
 use Rattle.desk_lines.specs.Does.{held_of}
@@ -164,13 +162,13 @@ unfolding event_bytes scan_event slip_for
 event_length i n kit before after answers h small k few =
     chosen FitsSlip (is_false before) quiet (chosen FitsSlip (is_false after) stops quiet)
   where
-    FitsSlip : Slip → Type 0
+    FitsSlip : Option ℕ → Type 0
     FitsSlip p = length (event_bytes (scan_event i n p) answers) ≤ LONGEST_ANSWER
 
-    quiet : FitsSlip of-slip.Quiet
+    quiet : FitsSlip None
     quiet = omega (arith, scan_length i n answers h small few)
 
-    stops : FitsSlip (of-slip.Stop kit)
+    stops : FitsSlip (Some kit)
     stops = simp length-append (omega (arith, scan_length i n answers h small few, slip_length kit k))
 
 module _ {table m : List ℕ} (stands : Stands table m) (words : List ℕ) where

@@ -1,22 +1,23 @@
 -- What each line does, stage by stage. Assumes nothing.
 use Prim.Native.Nat.{ℕ, suc, ◌+◌, ◌≤◌, ◌<◌}
-use mathlib.Core.Path.{◌≡◌, refl, sym, ap, ◌∙◌}
+use mathlib.Core.Path.{◌≡◌, refl, sym, ap, subst, ◌∙◌}
 use mathlib.Core.Bool.{Bool, true, false}
 use mathlib.Core.List.{List, [], ◌∷◌}
 use native.Mathlib.Omega.{arith}
 use lib.ListN.{set}
 use lib.Seq.{sets}
 use lib.Dec.{eqb, ltb}
-use borrow.Author.Tests.{eq-eqb, ne_eqb, lt-ltb, le-ltb, ltb-false, eqb-false}
+use borrow.Author.Tests.{eq-eqb, ne_eqb, lt-ltb, le-ltb, ltb-true, ltb-false, eqb-false}
 use Rattle.numbers.specs.Limits.{MAX, MOST_KITS}
-use Rattle.numbers.specs.Refusals.{ACCEPTED, WRONG_KITS}
+use Rattle.numbers.specs.Refusals.{ACCEPTED, WRONG_KITS, number_of, refused_with}
+use Rattle.numbers.specs.declared.Refusal.{Refusal}
+use Rattle.numbers.proofs.Refused.{never_0}
+use Rattle.std.specs.Prelude.{Result, Ok, Err, None, min, cond}
 use Rattle.text.specs.Words.{Supply}
 use Rattle.memory.specs.Memory.{book_of, state_of}
 use Rattle.property_answers.specs.Verdict.{verdict_in, verdict_of}
 use Rattle.desk_rules.specs.Scans.{Kit, Scan}
 use Rattle.desk_rules.specs.Desk.{scanned_in, desk_after}
-use Rattle.desk.specs.declared.Slip.{Slip}
-use Rattle.desk.specs.declared.Slip.TheVariants as of-slip
 use Rattle.desk.specs.declared.Scanned as of-scan
 use Rattle.desk.specs.Kits.{KIT_WORDS, kits_in}
 use Rattle.desk.specs.Counted.{desk_ledger}
@@ -24,13 +25,13 @@ use Rattle.desk.specs.Standing.{codes_in, kit_of, Stands, Opens, Scans}
 use Rattle.line_words.specs.Line.{line_supply, blank, word_at, number_for}
 use Rattle.desk_lines.specs.declared.Stage.{Stage}
 use Rattle.desk_lines.specs.declared.Stage.TheVariants.{Awaited, Giving, Opened, Closed}
-use Rattle.desk_lines.specs.declared.Event.{Event}
-use Rattle.desk_lines.specs.declared.Event.TheVariants.{Nothing, Desk, Scanned, Stopped}
-use Rattle.desk_lines.specs.declared.Heard.{Heard}
-use Rattle.desk_lines.specs.Dialogue.{Held, Reply, says, unchanged, closed_by, COUNT_WORDS, count_heard, count_line, kit_put, with_kit, open_heard, opening, kit_given, kit_line, SCAN_WORDS, following, scan_event, scanning, scan_line, at_stage, reply_to}
-use Rattle.desk_lines.specs.Does.{held_of, Counts, Good, Does}
+use Rattle.desk_lines.specs.declared.Event.TheVariants as code
+use Rattle.desk_lines.specs.declared.Heard as of-heard
+use Rattle.desk_lines.specs.Dialogue.Event.{Nothing, Scanned}
+use Rattle.desk_lines.specs.Dialogue.{Heard, Held, Reply, says, unchanged, closed_by, COUNT_WORDS, count_heard, count_line, kit_put, with_kit, open_heard, opening, kit_given, kit_line, SCAN_WORDS, following, scan_event, scanning, scan_line, at_stage, reply_to}
+use Rattle.desk_lines.specs.Does.{heard_of, held_of, Counts, Good, Does}
 
-does_by : {a b : Reply} {r : Heard} {words table m : List ℕ} → a ≡ b → Does b r words table m → Does a r words table m
+does_by : {a b : Reply} {r : of-heard.Heard} {words table m : List ℕ} → a ≡ b → Does b r words table m → Does a r words table m
 does_by e d = rw e d
 
 -- ---- the number of kits
@@ -60,13 +61,13 @@ module _ (count : ℕ) where
       by_none false e = by_many (ltb MOST_KITS count) refl e
 
 module _ (s : Supply) where
-  pub count_refused : {n : ℕ} → n ≡ number_for COUNT_WORDS s → (n ≡ ACCEPTED → ⊥) → closed_by n ≡ count_line s
+  pub count_refused : (r : Refusal) → number_of r ≡ number_for COUNT_WORDS s → closed_by (number_of r) ≡ count_line s
   unfolding count_line
-  count_refused {n} e f = rw (ne_eqb (number_for COUNT_WORDS s) ACCEPTED (λ h. f (e ∙ h))) (ap closed_by e)
+  count_refused r e = rw (ne_eqb (number_for COUNT_WORDS s) ACCEPTED (λ h. never_0 r (e ∙ h))) (ap closed_by e)
 
-  pub count_accepted : {n w : ℕ} → n ≡ number_for COUNT_WORDS s → n ≡ ACCEPTED → w ≡ word_at s 0 → count_heard w ≡ count_line s
+  pub count_accepted : {w : ℕ} → ACCEPTED ≡ number_for COUNT_WORDS s → w ≡ word_at s 0 → count_heard w ≡ count_line s
   unfolding count_line
-  count_accepted e f g = rw (eq-eqb (number_for COUNT_WORDS s) ACCEPTED (sym e ∙ f)) (ap count_heard g)
+  count_accepted e g = rw (eq-eqb (number_for COUNT_WORDS s) ACCEPTED (sym e)) (ap count_heard g)
 
   line_counts : Counts (count_line s).stage
   unfolding count_line
@@ -85,25 +86,25 @@ kit_put_lem m a s e₀ e₁ e₂ e₃ =
     let p₃ : a + 3 ≡ suc (suc (suc a)) = omega arith in
     rw (p₁, p₂, p₃, e₀, e₁, e₂, e₃)
 
-module _ (n : ℕ) where
-  pub open_refused : (n ≡ ACCEPTED → ⊥) → closed_by n ≡ open_heard n
+module _ (opened : Result (Unit {0}) Refusal) where
+  pub open_refused : (r : Refusal) (h : of-heard.Heard) → opened ≡ Err r → heard_of h ≡ closed_by (number_of r) → heard_of h ≡ open_heard (refused_with opened)
   unfolding open_heard
-  open_refused e = rw (ne_eqb n ACCEPTED e)
+  open_refused r h e f = rw (e, ne_eqb (number_of r) ACCEPTED (never_0 r)) f
 
-  pub open_accepted : n ≡ ACCEPTED → says (Opened 0) (Desk n) ≡ open_heard n
+  pub open_accepted : {u : Unit {0}} → opened ≡ Ok u → heard_of (record { stage = Opened 0; event = code.Desk ACCEPTED }) ≡ open_heard (refused_with opened)
   unfolding open_heard
-  open_accepted e = rw (eq-eqb n ACCEPTED e)
+  open_accepted e = rw e refl
 
-  open_counts : Counts (open_heard n).stage
-  unfolding open_heard
-  open_counts = by_number (eqb n ACCEPTED) refl
-    where
-      by_number : (t : Bool) → eqb n ACCEPTED ≡ t → Counts (open_heard n).stage
-      by_number true e = rw e tt
-      by_number false e = rw e tt
+open_counts : (n : ℕ) → Counts (open_heard n).stage
+unfolding open_heard
+open_counts n = by_number (eqb n ACCEPTED) refl
+  where
+    by_number : (t : Bool) → eqb n ACCEPTED ≡ t → Counts (open_heard n).stage
+    by_number true e = rw e tt
+    by_number false e = rw e tt
 
-counts_as : {r h : Heard} {table m : List ℕ} → r ≡ h → Counts h.stage → Stands table m → Good r.stage table m
-counts_as {r} e p st = record { counts = rw e p; stands = st }
+counts_as : (r : of-heard.Heard) {h : Heard} {table m : List ℕ} → heard_of r ≡ h → Counts h.stage → Stands table m → Good r.stage table m
+counts_as r e p st = record { counts = subst Counts (sym (ap (λ (x : Heard). x.stage) e)) p; stands = st }
 
 giving_more : (count given : ℕ) (d : Held) → given < count → kit_given count given d ≡ unchanged d (says (Giving count given) Nothing)
 unfolding kit_given
@@ -113,29 +114,29 @@ giving_last : (count given : ℕ) (d : Held) → count ≤ given → kit_given c
 unfolding kit_given
 giving_last count given d h = rw (le-ltb given count h)
 
-opens_so : {kits : List Kit} (d : Held) {words table m : List ℕ} {n : ℕ} {r : Heard} → words ≡ d.words → Opens kits table m n → r ≡ open_heard n → Does (opening kits d) r words table m
+opens_so : {kits : List Kit} (d : Held) {words table m : List ℕ} {n : ℕ} {r : of-heard.Heard} → words ≡ d.words → Opens kits table m n → heard_of r ≡ open_heard n → Does (opening kits d) r words table m
 unfolding opening desk_after desk_ledger
 opens_so {kits} d {n = n} e o h =
     record {
       heard = h ∙ ap open_heard o.number;
       held = rw (e, o.after.barcodes, o.after.book, o.after.state, o.after.ledger);
-      good = counts_as h (open_counts n) o.stands;
+      good = counts_as _ h (open_counts n) o.stands;
     }
 
-module _ (count given : ℕ) (s : Supply) (words : List ℕ) {table m : List ℕ} (g : Good (Giving count given) table m) {n : ℕ} (e : n ≡ number_for KIT_WORDS s) where
-  pub kit_refused : {r : Heard} → (n ≡ ACCEPTED → ⊥) → r ≡ closed_by n → Does (kit_line count given s (held_of words table m)) r words table m
+module _ (count given : ℕ) (s : Supply) (words : List ℕ) {table m : List ℕ} (g : Good (Giving count given) table m) where
+  pub kit_refused : (r : Refusal) (h : of-heard.Heard) → number_of r ≡ number_for KIT_WORDS s → heard_of h ≡ closed_by (number_of r) → Does (kit_line count given s (held_of words table m)) h words table m
   unfolding kit_line
-  kit_refused f h =
+  kit_refused r x e h =
       does_by
-      (rw (ne_eqb (number_for KIT_WORDS s) ACCEPTED (λ k. f (e ∙ k))))
-      (record { heard = h ∙ ap closed_by e; held = refl; good = counts_as h tt g.stands })
+      (rw (ne_eqb (number_for KIT_WORDS s) ACCEPTED (λ k. never_0 r (e ∙ k))))
+      (record { heard = h ∙ ap closed_by e; held = refl; good = counts_as _ h tt g.stands })
 
-  module _ (f : n ≡ ACCEPTED) {words' : List ℕ} (w : words' ≡ kit_put given s words) where
+  module _ (f : ACCEPTED ≡ number_for KIT_WORDS s) {words' : List ℕ} (w : words' ≡ kit_put given s words) where
     accepted : kit_line count given s (held_of words table m) ≡ kit_given count (suc given) (with_kit given s (held_of words table m))
     unfolding kit_line
-    accepted = rw (eq-eqb (number_for KIT_WORDS s) ACCEPTED (sym e ∙ f))
+    accepted = rw (eq-eqb (number_for KIT_WORDS s) ACCEPTED (sym f))
 
-    pub kit_more : given + 1 < count → Does (kit_line count given s (held_of words table m)) (says (Giving count (given + 1)) Nothing) words' table m
+    pub kit_more : given + 1 < count → Does (kit_line count given s (held_of words table m)) (record { stage = Giving count (given + 1); event = code.Nothing }) words' table m
     kit_more h =
         let p : given + 1 ≡ suc given = omega arith in
         let k : given + 1 < count × count ≤ MOST_KITS = (h, g.counts.1) in
@@ -143,7 +144,7 @@ module _ (count given : ℕ) (s : Supply) (words : List ℕ) {table m : List ℕ
         (accepted ∙ giving_more count (suc given) _ (omega arith))
         (record { heard = rw p; held = rw w; good = record { counts = k; stands = g.stands } })
 
-    pub kit_last : {table' m' : List ℕ} {q : ℕ} {r : Heard} → count ≤ given + 1 → Opens (kits_in words' count) table' m' q → r ≡ open_heard q
+    pub kit_last : {table' m' : List ℕ} {q : ℕ} {r : of-heard.Heard} → count ≤ given + 1 → Opens (kits_in words' count) table' m' q → heard_of r ≡ open_heard q
         → Does (kit_line count given s (held_of words table m)) r words' table' m'
     kit_last h o z =
         let v : kits_in words' count ≡ kits_in (kit_put given s words) count = ap (λ (x : List ℕ). kits_in x count) w in
@@ -152,58 +153,49 @@ module _ (count given : ℕ) (s : Supply) (words : List ℕ) {table m : List ℕ
         (opens_so (with_kit given s (held_of words table m)) w o z)
 
 -- ---- a scan
-module _ (done : ℕ) where
-  pub next_less : done < MAX → done + 1 ≡ following done
-  unfolding following
-  next_less h = rw (lt-ltb done MAX h) (omega arith)
+pub next_number : (done n : ℕ) → n ≡ min (done + 1) MAX → n ≡ following done
+unfolding following
+next_number done n e = go (ltb done MAX) refl
+  where
+    go : (z : Bool) → ltb done MAX ≡ z → n ≡ cond z (suc done) MAX
+    go true f = let h = ltb-true done MAX f in omega arith
+    go false f = let h = ltb-false done MAX f in omega arith
 
-  pub next_last : MAX ≤ done → MAX ≡ following done
-  unfolding following
-  next_last h = rw (le-ltb done MAX h)
-
-module _ (i number : ℕ) (p : Slip) where
-  pub event_quiet : p ≡ of-slip.Quiet → Scanned i number ≡ scan_event i number p
-  unfolding scan_event
-  event_quiet e = rw e
-
-  pub event_stop : {kit : ℕ} → p ≡ of-slip.Stop kit → Stopped i number kit ≡ scan_event i number p
-  unfolding scan_event
-  event_stop e = rw e
-
-scanned_so : (i : ℕ) (e : Scan) (words : List ℕ) {table m m' : List ℕ} {q : of-scan.Scanned} {event : Event} → Scans e table m m' q → event ≡ scan_event i q.number q.slip
-    → Does (scanning i e (held_of words table m)) (says (Opened i) event) words table m'
+scanned_so : (i : ℕ) (e : Scan) (words : List ℕ) {table m m' : List ℕ} {q : of-scan.Scanned} {n : ℕ} → Scans e table m m' q → n ≡ refused_with q.outcome
+    → Does (scanning i e (held_of words table m)) (record { stage = Opened i; event = code.Scan i n q.slip }) words table m'
 unfolding scanning
-scanned_so i e words {table} {m} {m'} {q} {event} sc v =
+scanned_so i e words {table} {m} {m'} {q} sc z =
     let l = sc.leaves in
     let k = kit_of table e in
     let o = scanned_in (book_of m).rows (codes_in table) (state_of m) e in
     let after : verdict_of m' k ≡ verdict_in (book_of m) o.state k = rw (l.book, l.state) in
     record {
-      heard = ap (says (Opened i)) (v ∙ rw (l.number, sc.slip, after));
+      heard = ap (says (Opened i)) (rw (z, l.number, sc.slip, after));
       held = rw (l.book, l.state, l.ledger);
       good = record { counts = tt; stands = sc.stands };
     }
 
-module _ (done : ℕ) (s : Supply) {table m : List ℕ} {i n : ℕ} (e : i ≡ following done) (f : n ≡ number_for SCAN_WORDS s) (words : List ℕ) where
-  pub scan_refused : (n ≡ ACCEPTED → ⊥) → Stands table m → Does (scan_line done s (held_of words table m)) (says (Opened i) (Scanned i n)) words table m
-  unfolding scan_line
-  scan_refused h st =
+module _ (done : ℕ) (s : Supply) {table m : List ℕ} {i : ℕ} (e : i ≡ following done) (words : List ℕ) where
+  pub scan_refused : (r : Refusal) {n : ℕ} → number_of r ≡ number_for SCAN_WORDS s → n ≡ number_of r → Stands table m
+      → Does (scan_line done s (held_of words table m)) (record { stage = Opened i; event = code.Scan i n None }) words table m
+  unfolding scan_line scan_event
+  scan_refused r f z st =
       does_by
       {b = unchanged (held_of words table m) (says (Opened (following done)) (Scanned (following done) (number_for SCAN_WORDS s)))}
-      (rw (ne_eqb (number_for SCAN_WORDS s) ACCEPTED (λ k. h (f ∙ k))))
-      (record { heard = rw (e, f); held = refl; good = record { counts = tt; stands = st } })
+      (rw (ne_eqb (number_for SCAN_WORDS s) ACCEPTED (λ k. never_0 r (f ∙ k))))
+      (record { heard = rw (e, z, f); held = refl; good = record { counts = tt; stands = st } })
 
-  pub scan_made : {t b : ℕ} {m' : List ℕ} {q : of-scan.Scanned} {event : Event} → n ≡ ACCEPTED → t ≡ word_at s 0 → b ≡ word_at s 1 → Scans (record { hour = t; barcode = b }) table m m' q
-      → event ≡ scan_event i q.number q.slip → Does (scan_line done s (held_of words table m)) (says (Opened i) event) words table m'
+  pub scan_made : {t b n : ℕ} {m' : List ℕ} {q : of-scan.Scanned} → ACCEPTED ≡ number_for SCAN_WORDS s → t ≡ word_at s 0 → b ≡ word_at s 1 → Scans (record { hour = t; barcode = b }) table m m' q → n ≡ refused_with q.outcome
+      → Does (scan_line done s (held_of words table m)) (record { stage = Opened i; event = code.Scan i n q.slip }) words table m'
   unfolding scan_line
-  scan_made {t} {b} {m'} {q} h x y sc v =
+  scan_made {t} {b} h x y sc z =
       does_by
-      (rw (eq-eqb (number_for SCAN_WORDS s) ACCEPTED (sym f ∙ h), ← e, ← x, ← y))
-      (scanned_so i (record { hour = t; barcode = b }) words sc v)
+      (rw (eq-eqb (number_for SCAN_WORDS s) ACCEPTED (sym h), ← e, ← x, ← y))
+      (scanned_so i (record { hour = t; barcode = b }) words sc z)
 
 -- ---- every line
 module _ (stage : Stage) (line words table m : List ℕ) {b : Bool} (e : b ≡ blank (line_supply line)) where
-  pub passed : b ≡ true → Good stage table m → Does (reply_to stage line (held_of words table m)) (says stage Nothing) words table m
+  pub passed : b ≡ true → Good stage table m → Does (reply_to stage line (held_of words table m)) (record { stage = stage; event = code.Nothing }) words table m
   unfolding reply_to
   passed f g = does_by (rw (sym e ∙ f)) (record { heard = refl; held = refl; good = g })
 
@@ -212,24 +204,24 @@ module _ (stage : Stage) (line words table m : List ℕ) {b : Bool} (e : b ≡ b
     unfolding reply_to
     said = rw (sym e ∙ f)
 
-    pub count_said : {r : Heard} → stage ≡ Awaited → Stands table m → r ≡ count_line (line_supply line) → Does (reply_to stage line (held_of words table m)) r words table m
+    pub count_said : {r : of-heard.Heard} → stage ≡ Awaited → Stands table m → heard_of r ≡ count_line (line_supply line) → Does (reply_to stage line (held_of words table m)) r words table m
     unfolding at_stage
     count_said z st h =
         does_by
         (said ∙ ap (λ (x : Stage). at_stage x (line_supply line) (held_of words table m)) z)
-        (record { heard = h; held = refl; good = counts_as h (line_counts (line_supply line)) st })
+        (record { heard = h; held = refl; good = counts_as _ h (line_counts (line_supply line)) st })
 
-    pub given_so : {count given : ℕ} {r : Heard} {words' table' m' : List ℕ} → stage ≡ Giving count given
+    pub given_so : {count given : ℕ} {r : of-heard.Heard} {words' table' m' : List ℕ} → stage ≡ Giving count given
         → Does (kit_line count given (line_supply line) (held_of words table m)) r words' table' m' → Does (reply_to stage line (held_of words table m)) r words' table' m'
     unfolding at_stage
     given_so z d = does_by (said ∙ ap (λ (x : Stage). at_stage x (line_supply line) (held_of words table m)) z) d
 
-    pub scan_said : {done : ℕ} {r : Heard} {words' table' m' : List ℕ} → stage ≡ Opened done
+    pub scan_said : {done : ℕ} {r : of-heard.Heard} {words' table' m' : List ℕ} → stage ≡ Opened done
         → Does (scan_line done (line_supply line) (held_of words table m)) r words' table' m' → Does (reply_to stage line (held_of words table m)) r words' table' m'
     unfolding at_stage
     scan_said z d = does_by (said ∙ ap (λ (x : Stage). at_stage x (line_supply line) (held_of words table m)) z) d
 
-    pub closed_said : stage ≡ Closed → Stands table m → Does (reply_to stage line (held_of words table m)) (says Closed Nothing) words table m
+    pub closed_said : stage ≡ Closed → Stands table m → Does (reply_to stage line (held_of words table m)) (record { stage = Closed; event = code.Nothing }) words table m
     unfolding at_stage
     closed_said z st =
         does_by

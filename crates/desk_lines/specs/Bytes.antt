@@ -11,9 +11,8 @@ use Rattle.property_answers.specs.Verdict.{verdict_in}
 use Rattle.desk.specs.Standing.{kit_count}
 use Rattle.desk_lines.specs.declared.Stage.{Stage}
 use Rattle.desk_lines.specs.declared.Stage.TheVariants.{Awaited, Giving, Opened, Closed}
-use Rattle.desk_lines.specs.declared.Event.{Event}
-use Rattle.desk_lines.specs.declared.Event.TheVariants.{Nothing, Desk, Scanned, Stopped}
-use Rattle.desk_lines.specs.Dialogue.{Reply}
+use Rattle.desk_lines.specs.Dialogue.{Event, Reply}
+use Rattle.desk_lines.specs.Dialogue.Event.{Nothing, Desk, Scanned, Stopped}
 
 -- ---- the words desk, slip and end are fixed, and lines end in a line feed
 abbrev pub desk_word : List ℕ

@@ -1,5 +1,5 @@
 -- What a line of the dialogue with a kit desk does. Definitions only.
-use Rattle.std.specs.Prelude.{ℕ, suc, ◌*◌, cond, List, [], ◌∷◌, ltb, eqb}
+use Rattle.std.specs.Prelude.{ℕ, suc, ◌*◌, cond, Option, Some, None, List, [], ◌∷◌, ltb, eqb}
 use Rattle.std.proofs.lemmas.List.Edits.{sets}
 use Rattle.numbers.specs.Limits.{MAX, MOST_KITS}
 use Rattle.numbers.specs.Refusals.{ACCEPTED, WRONG_KITS}
@@ -11,17 +11,24 @@ use Rattle.property_answers.specs.Verdict.{verdict_in}
 use Rattle.desk_rules.specs.Scans.{Kit, Scan, windows, open_number, desk_of}
 use Rattle.desk_rules.specs.Rows.{desk_rows, desk_book}
 use Rattle.desk_rules.specs.Desk.{scanned_in}
-use Rattle.desk.specs.declared.Slip.{Slip}
-use Rattle.desk.specs.declared.Slip.TheVariants as of-slip
 use Rattle.desk.specs.Kits.{KIT_WORDS, kits_in}
 use Rattle.desk.specs.Counted.{ledger_with}
 use Rattle.desk.specs.Standing.{table_of, codes_in, kit_of, slip_for}
 use Rattle.line_words.specs.Line.{line_supply, blank, word_at, number_for}
 use Rattle.desk_lines.specs.declared.Stage.{Stage}
 use Rattle.desk_lines.specs.declared.Stage.TheVariants.{Awaited, Giving, Opened, Closed}
-use Rattle.desk_lines.specs.declared.Event.{Event}
-use Rattle.desk_lines.specs.declared.Event.TheVariants.{Nothing, Desk, Scanned, Stopped}
-use Rattle.desk_lines.specs.declared.Heard.{Heard}
+
+-- what is said after a line: nothing; the desk's number; a scan's line and number; and these with the kit whose slip prints
+pub data Event : Type 0 where
+  Nothing : Event
+  Desk : ℕ → Event
+  Scanned : ℕ → ℕ → Event
+  Stopped : ℕ → ℕ → ℕ → Event
+
+-- what came of a line: the stage after it, and what is to be said
+pub record Heard : Type 0 where
+  pub stage : Stage
+  pub event : Event
 
 -- what stays from line to line beside the stage: the words of the kits so far, the table of barcodes, and the monitor's book, state and ledger
 pub record Held : Type 0 where
@@ -100,9 +107,9 @@ abbrev pub scan_of : Supply → Scan
 scan_of s = record { hour = word_at s 0; barcode = word_at s 1 }
 
 -- line i, a scan with this number, and the slip that prints at it
-unfoldable pub scan_event : ℕ → ℕ → Slip → Event
-scan_event i number of-slip.Quiet = Scanned i number
-scan_event i number (of-slip.Stop kit) = Stopped i number kit
+unfoldable pub scan_event : ℕ → ℕ → Option ℕ → Event
+scan_event i number None = Scanned i number
+scan_event i number (Some kit) = Stopped i number kit
 
 unfoldable pub scanning : ℕ → Scan → Held → Reply
 scanning i e d =

@@ -7,11 +7,24 @@ use Rattle.buffer_writer.specs.Buffer.{handed, in_buffer}
 use Rattle.desk.specs.Standing.{Stands}
 use Rattle.desk_lines.specs.declared.Stage.{Stage}
 use Rattle.desk_lines.specs.declared.Stage.TheVariants.{Awaited, Giving, Opened, Closed}
+use Rattle.desk_lines.specs.declared.Event as of-event
+use Rattle.desk_lines.specs.declared.Event.TheVariants as code
 use Rattle.desk_lines.specs.declared.Heard.{Heard}
 use Rattle.desk_lines.specs.declared.Answered.{Answered}
-use Rattle.desk_lines.specs.Dialogue.{Held, Reply, scan_line}
+use Rattle.desk_lines.specs.Dialogue.{Event, Held, Reply, scan_event, scan_line}
+use Rattle.desk_lines.specs.Dialogue.Event.{Nothing, Desk}
+use Rattle.desk_lines.specs.Dialogue as of-dialogue
 use Rattle.desk_lines.specs.Bytes.{reply_bytes}
 use Rattle.desk_lines.specs.Longest.{LONGEST_ANSWER}
+
+-- what is said, of the code's event
+abbrev pub event_of : of-event.Event → Event
+event_of code.Nothing = Nothing
+event_of (code.Desk n) = Desk n
+event_of (code.Scan i n slip) = scan_event i n slip
+
+abbrev pub heard_of : Heard → of-dialogue.Heard
+heard_of r = record { stage = r.stage; event = event_of r.event }
 
 -- what stays, in words, a table and a monitor's memory
 abbrev pub held_of : List ℕ → List ℕ → List ℕ → Held
@@ -31,7 +44,7 @@ pub record Good (stage : Stage) (table m : List ℕ) : Type 0 where
 
 -- a function did what a line does: it handed back r and left the words, the table and the monitor's memory so
 pub record Does (reply : Reply) (r : Heard) (words table m : List ℕ) : Type 0 where
-  pub heard : r ≡ reply.heard
+  pub heard : heard_of r ≡ reply.heard
   pub held : held_of words table m ≡ reply.held
   pub good : Good r.stage table m
 

@@ -5,17 +5,18 @@ pub mod writes;
 
 ghost use Rattle.std.specs.Prelude.{◌≡◌, ◌<◌};
 ghost use Rattle.numbers.specs.Limits.{MOST_KITS};
+ghost use Rattle.numbers.specs.Refusals.{number_of, refused_with};
 ghost use Rattle.buffer_writer.specs.Buffer.{handed, in_buffer};
 ghost use Rattle.line_words.specs.Line.{line_supply};
 ghost use Rattle.desk.specs.Standing.{Stands};
-ghost use Rattle.desk_lines.specs.Dialogue.{closed_by, count_heard, count_line, kit_put, open_heard, kit_line, following, scan_event, reply_to};
+ghost use Rattle.desk_lines.specs.Dialogue.{closed_by, count_heard, count_line, kit_put, open_heard, kit_line, following, reply_to};
 ghost use Rattle.desk_lines.specs.Bytes.{last_bytes};
-ghost use Rattle.desk_lines.specs.Does.{held_of, Good, Does, DoesScan, Answers};
+ghost use Rattle.desk_lines.specs.Does.{heard_of, held_of, Good, Does, DoesScan, Answers};
 
+use desk::TABLE_SIZE;
 use desk::given::{KIT_WORDS, MOST_KIT_WORDS};
-use desk::{Slip, TABLE_SIZE};
-use line_words::{number_for, word_at};
-use numbers::{ACCEPTED, MAX, MOST_KITS, WRONG_KITS};
+use line_words::{judge, word_at};
+use numbers::{ACCEPTED, MOST_KITS, Refusal, refused_with};
 use oracle::SIZE;
 pub use writes::LONGEST_ANSWER;
 
@@ -34,13 +35,13 @@ pub enum Stage {
     Closed,
 }
 
-// What is said after a line: nothing; the desk's number; a scan's line and number; and these with the kit whose slip prints.
+// What is said after a line: nothing; the desk's number; a scan's line and number, and the kit whose slip prints.
+// It says numbers, not Results, and any number: `writes::event` writes any.
 #[derive(Clone, Copy)]
 pub enum Event {
     Nothing,
     Desk(u64),
-    Scanned(u64, u64),
-    Stopped(u64, u64, usize),
+    Scan(u64, u64, Option<usize>),
 }
 
 // What came of a line: the stage after it, and what is to be said.
@@ -58,40 +59,37 @@ pub struct Answered {
 }
 
 // A refused desk.
-fn closed_by(number: u64) -> Heard
-    ensures { result ≡ closed_by number }
+fn closed_by(refusal: Refusal) -> Heard
+    ensures { heard_of result ≡ closed_by (number_of refusal) }
 {
     Heard {
         stage: Stage::Closed,
-        event: Event::Desk(number),
+        event: Event::Desk(refusal.number()),
     }
 }
 
 // What comes of the number of kits.
 fn count_heard(count: usize) -> Heard
-    ensures { result ≡ count_heard count }
+    ensures { heard_of result ≡ count_heard count }
 {
-    if count == 0 {
-        return closed_by(WRONG_KITS);
-    }
-    if MOST_KITS < count {
-        return closed_by(WRONG_KITS);
-    }
-    Heard {
-        stage: Stage::Giving(count, 0),
-        event: Event::Nothing,
+    if count == 0 || MOST_KITS < count {
+        closed_by(Refusal::WrongKits)
+    } else {
+        Heard {
+            stage: Stage::Giving(count, 0),
+            event: Event::Nothing,
+        }
     }
 }
 
 // The line with the number of kits.
 fn count_line(line: &[u8]) -> Heard
-    ensures { result ≡ count_line (line_supply line.now) }
+    ensures { heard_of result ≡ count_line (line_supply line.now) }
 {
-    let number = number_for(COUNT_WORDS, line);
-    if number != ACCEPTED {
-        return closed_by(number);
+    match judge(COUNT_WORDS, line) {
+        Ok(()) => count_heard(word_at(line, 0) as usize),
+        Err(refusal) => closed_by(refusal),
     }
-    count_heard(word_at(line, 0) as usize)
 }
 
 // The words of kit k, from its line.
@@ -107,15 +105,15 @@ fn put_kit(k: usize, line: &[u8], kits: &mut [u64; MOST_KIT_WORDS])
 }
 
 // What comes of opening a desk.
-fn open_heard(number: u64) -> Heard
-    ensures { result ≡ open_heard number }
+fn open_heard(opened: Result<(), Refusal>) -> Heard
+    ensures { heard_of result ≡ open_heard (refused_with opened) }
 {
-    if number != ACCEPTED {
-        return closed_by(number);
-    }
-    Heard {
-        stage: Stage::Opened(0),
-        event: Event::Desk(number),
+    match opened {
+        Ok(()) => Heard {
+            stage: Stage::Opened(0),
+            event: Event::Desk(ACCEPTED),
+        },
+        Err(refusal) => closed_by(refusal),
     }
 }
 
@@ -131,39 +129,25 @@ fn kit_line(
     requires { Good (Stage.Giving count given) table.old monitor.old }
     ensures { Does (kit_line count given (line_supply line.now) (held_of kits.old table.old monitor.old)) result kits.new table.new monitor.new }
 {
-    let number = number_for(KIT_WORDS, line);
-    if number != ACCEPTED {
-        return closed_by(number);
+    if let Err(refusal) = judge(KIT_WORDS, line) {
+        return closed_by(refusal);
     }
     put_kit(given, line, kits);
     if given + 1 < count {
-        return Heard {
+        Heard {
             stage: Stage::Giving(count, given + 1),
             event: Event::Nothing,
-        };
+        }
+    } else {
+        open_heard(desk::open(kits, count, table, monitor))
     }
-    let opened = desk::open(kits, count, table, monitor);
-    open_heard(opened)
 }
 
 // The number of the line after so many.
 fn next_number(done: u64) -> u64
     ensures { result ≡ following done }
 {
-    if done < MAX {
-        return done + 1;
-    }
-    MAX
-}
-
-// What is said of a scan.
-fn scan_event(i: u64, number: u64, slip: Slip) -> Event
-    ensures { result ≡ scan_event i number slip }
-{
-    match slip {
-        Slip::Quiet => Event::Scanned(i, number),
-        Slip::Stop(kit) => Event::Stopped(i, number, kit),
-    }
+    done.saturating_add(1)
 }
 
 // The line of a scan; a bad one is passed over.
@@ -172,18 +156,18 @@ fn scan_line(done: u64, line: &[u8], table: &[u64; TABLE_SIZE], monitor: &mut [u
     ensures { DoesScan done (line_supply line.now) table.now monitor.old result monitor.new }
 {
     let i = next_number(done);
-    let number = number_for(SCAN_WORDS, line);
-    if number != ACCEPTED {
-        return Heard {
+    match judge(SCAN_WORDS, line) {
+        Ok(()) => {
+            let scanned = desk::scan(word_at(line, 0), word_at(line, 1), table, monitor);
+            Heard {
+                stage: Stage::Opened(i),
+                event: Event::Scan(i, refused_with(scanned.outcome), scanned.slip),
+            }
+        }
+        Err(refusal) => Heard {
             stage: Stage::Opened(i),
-            event: Event::Scanned(i, number),
-        };
-    }
-    let scanned = desk::scan(word_at(line, 0), word_at(line, 1), table, monitor);
-    let slip = scanned.slip;
-    Heard {
-        stage: Stage::Opened(i),
-        event: scan_event(i, scanned.number, slip),
+            event: Event::Scan(i, refusal.number(), None),
+        },
     }
 }
 
@@ -205,21 +189,13 @@ fn hear(
         };
     }
     match stage {
-        Stage::Awaited => {
-            return count_line(line);
-        }
-        Stage::Giving(count, given) => {
-            return kit_line(count, given, line, kits, table, monitor);
-        }
-        Stage::Opened(done) => {
-            return scan_line(done, line, table, monitor);
-        }
-        Stage::Closed => {
-            return Heard {
-                stage: Stage::Closed,
-                event: Event::Nothing,
-            };
-        }
+        Stage::Awaited => count_line(line),
+        Stage::Giving(count, given) => kit_line(count, given, line, kits, table, monitor),
+        Stage::Opened(done) => scan_line(done, line, table, monitor),
+        Stage::Closed => Heard {
+            stage: Stage::Closed,
+            event: Event::Nothing,
+        },
     }
 }
 
@@ -237,11 +213,9 @@ pub fn answer(
     ensures { Answers (reply_to stage line.now (held_of kits.old table.old monitor.old)) result kits.new table.new monitor.new out.old out.new }
 {
     let heard = hear(stage, line, kits, table, monitor);
-    let next = heard.stage;
-    let event = heard.event;
-    let length = writes::event(event, table, monitor, out);
+    let length = writes::event(heard.event, table, monitor, out);
     Answered {
-        stage: next,
+        stage: heard.stage,
         length,
     }
 }
@@ -261,6 +235,7 @@ pub fn start(
 ) -> Stage
     ensures { (result ≡ Stage.Awaited) × Good result table.new monitor.new }
 {
-    desk::open(kits, 0, table, monitor);
+    // A desk of no kit is refused, and stands.
+    let _ = desk::open(kits, 0, table, monitor);
     Stage::Awaited
 }

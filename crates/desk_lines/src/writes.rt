@@ -1,20 +1,19 @@
 // What a kit desk writes.
-ghost use Rattle.std.specs.Prelude.{◌≡◌, ◌+◌};
-ghost use Rattle.text.specs.Words.{digit0};
-ghost use Rattle.pmtl.specs.Answer.{bit_of, digit_of};
+ghost use Rattle.std.specs.Prelude.{◌≡◌};
 ghost use Rattle.memory.specs.Memory.{book_of, state_of};
 ghost use Rattle.memory.specs.Kept.{Kept};
 ghost use Rattle.property_answers.specs.Verdict.{verdict_of};
 ghost use Rattle.buffer_writer.specs.Buffer.{handed, in_buffer};
 ghost use Rattle.buffer_writer.specs.Finish.{Wrote};
 ghost use Rattle.desk.specs.Standing.{kit_count};
+ghost use Rattle.desk_lines.specs.Does.{event_of};
 ghost use Rattle.desk_lines.specs.Bytes.{numbered, kit_word, kit_words, scan_bytes, event_bytes, last_bytes};
 
 use crate::{Event, Stage};
 use buffer_writer::{put_bytes, put_number};
 use desk::TABLE_SIZE;
-use numbers::{ACCEPTED, MOST_KITS, WRONG_LENGTH};
-use oracle::{Answer, SIZE};
+use numbers::{ACCEPTED, MOST_KITS, Refusal};
+use oracle::SIZE;
 
 // The most digits of a line's number.
 const NUMBER_DIGITS: usize = 20;
@@ -40,33 +39,18 @@ fn put_numbered(out: &mut [u8], at: usize, word: &[u8], number: u64) -> usize
     put_bytes(out, b, b"\n")
 }
 
-// The byte of an answer.
-fn glyph(answer: Answer) -> u8
-    ensures { result ≡ digit0 + digit_of answer }
-{
-    match answer {
-        Answer::False => b'0',
-        Answer::True => b'1',
-        Answer::Open => b'2',
-    }
-}
-
-// The byte of a truth value.
-fn bit_glyph(value: bool) -> u8
-    ensures { result ≡ digit0 + bit_of value }
-{
-    if value { b'1' } else { b'0' }
-}
-
 // The answers of a kit.
 fn put_kit(out: &mut [u8], at: usize, monitor: &[u64; SIZE], kit: usize) -> usize
     requires { Kept monitor.now }
     ensures { Wrote out.old at (kit_word (verdict_of monitor.now kit)) out.new result }
 {
     let v = desk::of_kit(monitor, kit);
-    let early = v.early;
-    let settled = v.settled;
-    let word = [b' ', bit_glyph(v.value), glyph(early), glyph(settled)];
+    let word = [
+        b' ',
+        b'0' + u8::from(v.value),
+        b'0' + v.early.digit(),
+        b'0' + v.settled.digit(),
+    ];
     put_bytes(out, at, &word)
 }
 
@@ -75,12 +59,9 @@ fn put_kits(out: &mut [u8], at: usize, table: &[u64; TABLE_SIZE], monitor: &[u64
     requires { Kept monitor.now }
     ensures { Wrote out.old at (kit_words (book_of monitor.now) (state_of monitor.now) (kit_count table.now)) out.new result }
 {
-    let count = desk::kit_count(table);
     let mut p = at;
-    let mut kit = 0;
-    while kit < count {
+    for kit in 0..desk::kit_count(table) {
         p = put_kit(out, p, monitor, kit);
-        kit += 1;
     }
     p
 }
@@ -99,11 +80,12 @@ fn put_scan(
     let a = put_number(out, 0, i);
     let b = put_bytes(out, a, b" ");
     let c = put_number(out, b, number);
-    if number != ACCEPTED {
-        return put_bytes(out, c, b"\n");
+    if number == ACCEPTED {
+        let d = put_kits(out, c, table, monitor);
+        put_bytes(out, d, b"\n")
+    } else {
+        put_bytes(out, c, b"\n")
     }
-    let d = put_kits(out, c, table, monitor);
-    put_bytes(out, d, b"\n")
 }
 
 // What is said after a line, up to a place.
@@ -114,21 +96,17 @@ fn put_event(
     out: &mut [u8],
 ) -> usize
     requires { Kept monitor.now }
-    ensures { Wrote out.old 0 (event_bytes event (kit_words (book_of monitor.now) (state_of monitor.now) (kit_count table.now))) out.new result }
+    ensures { Wrote out.old 0 (event_bytes (event_of event) (kit_words (book_of monitor.now) (state_of monitor.now) (kit_count table.now))) out.new result }
 {
     match event {
-        Event::Nothing => {
-            return 0;
-        }
-        Event::Desk(number) => {
-            return put_numbered(out, 0, b"desk ", number);
-        }
-        Event::Scanned(i, number) => {
-            return put_scan(out, i, number, table, monitor);
-        }
-        Event::Stopped(i, number, kit) => {
+        Event::Nothing => 0,
+        Event::Desk(number) => put_numbered(out, 0, b"desk ", number),
+        Event::Scan(i, number, slip) => {
             let a = put_scan(out, i, number, table, monitor);
-            return put_numbered(out, a, b"slip ", kit as u64);
+            match slip {
+                Some(kit) => put_numbered(out, a, b"slip ", kit as u64),
+                None => a,
+            }
         }
     }
 }
@@ -136,7 +114,7 @@ fn put_event(
 // What is said after a line: its length, and its bytes from the start of `out`.
 pub fn event(event: Event, table: &[u64; TABLE_SIZE], monitor: &[u64; SIZE], out: &mut [u8]) -> u64
     requires { Kept monitor.now }
-    ensures { handed result out.new ≡ in_buffer out.old (event_bytes event (kit_words (book_of monitor.now) (state_of monitor.now) (kit_count table.now))) }
+    ensures { handed result out.new ≡ in_buffer out.old (event_bytes (event_of event) (kit_words (book_of monitor.now) (state_of monitor.now) (kit_count table.now))) }
 {
     let end = put_event(event, table, monitor, out);
     buffer_writer::finished(out, end)
@@ -147,18 +125,11 @@ fn put_last(stage: Stage, out: &mut [u8]) -> usize
     ensures { Wrote out.old 0 (last_bytes stage) out.new result }
 {
     match stage {
-        Stage::Awaited => {
-            return put_numbered(out, 0, b"desk ", WRONG_LENGTH);
+        Stage::Awaited | Stage::Giving(_, _) => {
+            put_numbered(out, 0, b"desk ", Refusal::WrongLength.number())
         }
-        Stage::Giving(_, _) => {
-            return put_numbered(out, 0, b"desk ", WRONG_LENGTH);
-        }
-        Stage::Opened(_) => {
-            return put_bytes(out, 0, b"end\n");
-        }
-        Stage::Closed => {
-            return 0;
-        }
+        Stage::Opened(_) => put_bytes(out, 0, b"end\n"),
+        Stage::Closed => 0,
     }
 }
 

@@ -14,7 +14,7 @@ use Rattle.book.specs.declared.loading.Loading.TheVariants.{Strict}
 use Rattle.book.specs.Judging.{arg_good, form_good, range_good, loaded}
 use Rattle.book.specs.Loading.{loaded_by}
 use Rattle.book.proofs.Admitted.{admitted_as}
-use Rattle.trees.specs.declared.Word.TheVariants.{Atom, Not, Implies, Hist, Since}
+use Rattle.book.specs.declared.kind.Kind.TheVariants.{Atom, Not, Implies, Historically, Since}
 use Rattle.trees.specs.Forest.{Head, head_of, Forest, none, tree, one, ◌then◌, count, size, roots, Entry, entries, Good}
 use Rattle.trees.specs.Numbered.{row_with, row_of as treeRow, rows_from as treeRows, book_of}
 use Rattle.trees.specs.Building.{all_rows, all_operands, words_of}
@@ -35,7 +35,7 @@ promised k window =
 
 trees : ℕ → List ℕ → Forest
 trees k [] = none
-trees k (w ∷ ws) = tree (head_of Hist 0 0 MAX) (one (head_of Implies 0 0 0) (promised k w)) (trees (suc k) ws)
+trees k (w ∷ ws) = tree (head_of Historically 0 0 MAX) (one (head_of Implies 0 0 0) (promised k w)) (trees (suc k) ws)
 
 -- ---- their rows
 abbrev entry : Head → List ℕ → Entry
@@ -48,7 +48,7 @@ kit_entries : (n k w : ℕ) (ws : List ℕ) → entries n (trees k (w ∷ ws)) �
     ∷ entry (head_of Atom (atom_of k PROMISE) 0 0) []
     ∷ entry (head_of Since 0 0 w) ((n + 2) ∷ (n + 3) ∷ [])
     ∷ entry (head_of Implies 0 0 0) ((n + 0) ∷ (n + 4) ∷ [])
-    ∷ entry (head_of Hist 0 0 MAX) ((n + 5) ∷ [])
+    ∷ entry (head_of Historically 0 0 MAX) ((n + 5) ∷ [])
     ∷ entries (n + 7) (trees (suc k) ws)
 unfolding trees promised entries roots size
 kit_entries n k w ws = simp add_assoc

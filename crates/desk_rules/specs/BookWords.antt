@@ -1,20 +1,20 @@
 -- The words of a desk's book: four sections, each after its count. Definitions only.
 use Rattle.std.specs.Prelude.{ℕ, zero, suc, ◌*◌, List, [], ◌∷◌, ◌++◌, length}
 use Rattle.numbers.specs.Limits.{MAX}
-use Rattle.trees.specs.Building.{kind_of}
-use Rattle.trees.specs.declared.Word.TheVariants.{Atom, Not, Implies, Hist, Since}
+use Rattle.book.specs.Kinds.{word_of_kind}
+use Rattle.book.specs.declared.kind.Kind.TheVariants.{Atom, Not, Implies, Historically, Since}
 use Rattle.desk_rules.specs.Rows.{PROMISE, HANDOUT, RETURN, atom_of, KIT_ROWS, KIT_OPERANDS, row_of, guarantees_from}
 
 -- the rows of kit k: kind, arg, lower and upper of each
 abbrev pub kit_words : ℕ → ℕ → List ℕ
 kit_words k window =
-    kind_of Atom ∷ atom_of k HANDOUT ∷ 0 ∷ 0
-    ∷ kind_of Atom ∷ atom_of k RETURN ∷ 0 ∷ 0
-    ∷ kind_of Not ∷ 1 ∷ 0 ∷ 0
-    ∷ kind_of Atom ∷ atom_of k PROMISE ∷ 0 ∷ 0
-    ∷ kind_of Since ∷ 2 ∷ 0 ∷ window
-    ∷ kind_of Implies ∷ 2 ∷ 0 ∷ 0
-    ∷ kind_of Hist ∷ 1 ∷ 0 ∷ MAX
+    word_of_kind Atom ∷ atom_of k HANDOUT ∷ 0 ∷ 0
+    ∷ word_of_kind Atom ∷ atom_of k RETURN ∷ 0 ∷ 0
+    ∷ word_of_kind Not ∷ 1 ∷ 0 ∷ 0
+    ∷ word_of_kind Atom ∷ atom_of k PROMISE ∷ 0 ∷ 0
+    ∷ word_of_kind Since ∷ 2 ∷ 0 ∷ window
+    ∷ word_of_kind Implies ∷ 2 ∷ 0 ∷ 0
+    ∷ word_of_kind Historically ∷ 1 ∷ 0 ∷ MAX
     ∷ []
 
 -- their operands

@@ -6,9 +6,9 @@ ghost use Rattle.std.specs.Prelude.{◌<◌, ◌≤◌};
 ghost use Rattle.numbers.specs.Limits.{LAST_TIME, MOST_KITS};
 ghost use Rattle.desk.specs.Standing.{Stands};
 
+use desk::TABLE_SIZE;
 use desk::given::{KIT_WORDS, MOST_KIT_WORDS};
-use desk::{Slip, TABLE_SIZE};
-use numbers::{LAST_TIME, MOST_KITS};
+use numbers::{LAST_TIME, MOST_KITS, refused_with};
 use oracle::{SIZE, Verdict};
 use show::{number, text};
 
@@ -37,37 +37,23 @@ fn give(kits: &mut [u64; MOST_KIT_WORDS], kit: usize, promise: u64, window: u64)
     kits[at + 3] = window;
 }
 
-// Value, early and settled.
 fn verdict(rt: &(impl Print + Eprint), v: Verdict) {
-    let early = v.early;
-    let settled = v.settled;
-    show::digits(
-        rt,
-        oracle::bit(v.value),
-        oracle::digit(early),
-        oracle::digit(settled),
-    );
+    show::value(rt, format_args!(" {v}"));
 }
 
 // The answers of every kit.
 fn answers(rt: &(impl Print + Eprint), table: &[u64; TABLE_SIZE], monitor: &[u64; SIZE])
     requires { Stands table.now monitor.now }
 {
-    let count = desk::kit_count(table);
-    let mut kit = 0;
-    while kit < count {
+    for kit in 0..desk::kit_count(table) {
         verdict(rt, desk::of_kit(monitor, kit));
-        kit += 1;
     }
 }
 
-fn slip(rt: &(impl Print + Eprint), printed: Slip) {
-    match printed {
-        Slip::Quiet => {}
-        Slip::Stop(kit) => {
-            text(rt, b" slip ");
-            number(rt, kit as u64);
-        }
+fn slip(rt: &(impl Print + Eprint), printed: Option<usize>) {
+    if let Some(kit) = printed {
+        text(rt, b" slip ");
+        number(rt, kit as u64);
     }
 }
 
@@ -80,9 +66,9 @@ fn open(
 )
     ensures { Stands table.new monitor.new }
 {
-    let refusal = desk::open(kits, count, table, monitor);
+    let opened = desk::open(kits, count, table, monitor);
     text(rt, b"  desk ");
-    number(rt, refusal);
+    number(rt, refused_with(opened));
     answers(rt, table, monitor);
     text(rt, b"\n");
 }
@@ -103,10 +89,9 @@ fn scan(
     text(rt, b" ");
     number(rt, barcode);
     text(rt, b": ");
-    number(rt, scanned.number);
+    number(rt, refused_with(scanned.outcome));
     answers(rt, table, monitor);
-    let printed = scanned.slip;
-    slip(rt, printed);
+    slip(rt, scanned.slip);
     text(rt, b"\n");
 }
 
@@ -202,11 +187,9 @@ fn wrong_kits(
 fn all_kits(rt: &(impl Print + Eprint), table: &mut [u64; TABLE_SIZE], monitor: &mut [u64; SIZE]) {
     text(rt, b"Sixteen kits\n");
     let mut kits = [0u64; MOST_KIT_WORDS];
-    let mut kit = 0;
     let mut promise = MICROSCOPE;
-    while kit < MOST_KITS {
+    for kit in 0..MOST_KITS {
         give(&mut kits, kit, promise, WINDOW);
-        kit += 1;
         promise += HANDOUT + RETURN;
     }
     open(rt, &kits, MOST_KITS, table, monitor);

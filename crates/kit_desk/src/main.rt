@@ -5,12 +5,10 @@ ghost use Rattle.std.specs.Prelude.{◌≤◌, length as list_length};
 ghost use Rattle.desk_lines.specs.Does.{Good};
 ghost use Rattle.kit_desk.specs.Keeps.{Keeps};
 
-use console::Came;
 use desk::TABLE_SIZE;
 use desk::given::MOST_KIT_WORDS;
 use desk_lines::{LONGEST_ANSWER, Stage};
 use line_words::LONGEST_LINE;
-use numbers::MAX;
 use oracle::SIZE;
 use std::io::Read;
 
@@ -33,32 +31,27 @@ fn keep(line: &mut [u8], held: usize, byte: u8) -> usize
 {
     if held < line.len() {
         line[held] = byte;
-        return held + 1;
+        held + 1
+    } else {
+        held
     }
-    held
 }
 
-// Reads a line to its end, byte by byte, so that nothing is awaited that the line does not need. A proved loop has to end: it counts its
-// turns down from a number that no run uses up.
+// Reads a line to its end, byte by byte, so that nothing is awaited that the line does not need. A proved loop has to end: it has more
+// turns than a run uses up.
 fn read_line(rt: &impl Eprint, from: &mut impl Read, line: &mut [u8]) -> Line
     ensures { result.held ≤ list_length line.old }
 {
     let mut one = [0u8; 1];
     let mut held = 0;
-    let mut turns = MAX;
-    while 0 < turns {
-        let came = console::read_some(rt, from, &mut one);
-        let Came::Bytes(n) = came else {
-            return Line { held, ended: true };
-        };
-        if n == 0 {
-            return Line { held, ended: true };
+    for _ in 0..u64::MAX {
+        if let None | Some(0) = console::read_some(rt, from, &mut one) {
+            break;
         }
         if one[0] == LINE_FEED {
             return Line { held, ended: false };
         }
         held = keep(line, held, one[0]);
-        turns -= 1;
     }
     Line { held, ended: true }
 }
@@ -67,8 +60,7 @@ fn read_line(rt: &impl Eprint, from: &mut impl Read, line: &mut [u8]) -> Line
 fn print_answer(rt: &(impl Print + Eprint), out: &[u8], length: u64)
     requires { length ≤ list_length out.now }
 {
-    let n = length as usize;
-    console::print(rt, &out[..n]);
+    console::print(rt, &out[..length as usize]);
 }
 
 // Answers a line, and prints the answer.
@@ -103,14 +95,12 @@ fn main(rt: HostRuntime) {
     let mut table = [0u64; TABLE_SIZE];
     let mut monitor = [0u64; SIZE];
     let mut stage = desk_lines::start(&kits, &mut table, &mut monitor);
-    let mut turns = MAX;
-    while 0 < turns {
+    for _ in 0..u64::MAX {
         let read = read_line(&rt, &mut from, &mut line);
-        let held = read.held;
         stage = answer_line(
             &rt,
             stage,
-            &line[..held],
+            &line[..read.held],
             &mut kits,
             &mut table,
             &mut monitor,
@@ -119,6 +109,5 @@ fn main(rt: HostRuntime) {
             say_last(&rt, stage);
             return;
         }
-        turns -= 1;
     }
 }

@@ -1,14 +1,15 @@
-// The set lent whole: an addition alters the lent set itself, and hands back its number with the count; dropping what is over alters it, too.
+// The set lent whole: an addition alters the lent set itself, and hands back whether there was room with the count; dropping what is over alters it, too.
 #![tactic(auto)]
 
 ghost use Rattle.std.specs.Prelude.{◌≡◌, length};
+ghost use Rattle.numbers.specs.Refusals.{refused_with};
 ghost use Rattle.numset.specs.Runs.{Good, runs, kept, pack, add_number, add_words, add_count};
 
 use numset::{Added, NumSet, Tally};
 
 pub fn add(set: &mut NumSet, lower: u64, upper: u64) -> Tally
     requires { Good set.old.words }
-    ensures { (result.number ≡ add_number set.old.words lower upper) × (result.count ≡ add_count set.old.words lower upper) × (set.new.words ≡ add_words set.old.words lower upper) }
+    ensures { (refused_with result.outcome ≡ add_number set.old.words lower upper) × (result.count ≡ add_count set.old.words lower upper) × (set.new.words ≡ add_words set.old.words lower upper) }
 {
     let sum = (*set).add(lower, upper);
     *set = sum.set;
@@ -18,7 +19,7 @@ pub fn add(set: &mut NumSet, lower: u64, upper: u64) -> Tally
 // The same on a set by value, which it lends to `add`: whoever calls this one makes no reference to a set.
 pub fn added(set: NumSet, lower: u64, upper: u64) -> Added
     requires { Good set.words }
-    ensures { (result.tally.number ≡ add_number set.words lower upper) × (result.tally.count ≡ add_count set.words lower upper) × (result.set.words ≡ add_words set.words lower upper) }
+    ensures { (refused_with result.tally.outcome ≡ add_number set.words lower upper) × (result.tally.count ≡ add_count set.words lower upper) × (result.set.words ≡ add_words set.words lower upper) }
 {
     let mut lent = set;
     let tally = add(&mut lent, lower, upper);

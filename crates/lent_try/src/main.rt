@@ -4,7 +4,7 @@
 ghost use Rattle.std.specs.Prelude.{◌<◌, ◌≤◌};
 ghost use Rattle.numset.specs.Runs.{Good};
 
-use numbers::MOST_RUNS;
+use numbers::{MOST_RUNS, refused_with};
 use numset::{Added, NumSet};
 use show::{interval, number, runs, text};
 
@@ -30,7 +30,7 @@ fn add(rt: &(impl Print + Eprint), set: NumSet, lower: u64, upper: u64) -> NumSe
     text(rt, b"  add ");
     interval(rt, lower, upper);
     text(rt, b": ");
-    number(rt, sum.tally.number);
+    number(rt, refused_with(sum.tally.outcome));
     text(rt, b", count ");
     number(rt, sum.tally.count);
     text(rt, b" ");
@@ -91,11 +91,8 @@ fn full() -> NumSet
     ensures { Good result.words }
 {
     let mut set = NumSet::empty();
-    let mut i = 0;
-    while i < FULL {
-        let sum = added(set, 2 * i, 2 * i);
-        set = sum.set;
-        i += 1;
+    for i in 0..FULL {
+        set = added(set, 2 * i, 2 * i).set;
     }
     set
 }

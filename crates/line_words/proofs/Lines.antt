@@ -1,16 +1,23 @@
 -- Laws of the words of a line, as they are counted and looked up. Assumes nothing.
 use Prim.Native.Nat.{ℕ, suc, ◌+◌, ◌-◌, ◌≤◌, ◌<◌}
-use mathlib.Core.Path.{◌≡◌, refl, sym, ap, ap₂, ◌∙◌}
-use mathlib.Core.Bool.{Bool, true, false}
+use mathlib.Core.Path.{◌≡◌, refl, sym, ap, ◌∙◌}
+use mathlib.Core.Bool.{true, false, and-true}
 use mathlib.Core.List.{List, [], ◌∷◌}
 use native.Mathlib.Omega.{arith}
-use lib.ListN.{length, get_or, take}
-use borrow.Author.Tests.{eq-eqb, ne_eqb, lt-ltb, le-ltb}
-use Rattle.numbers.specs.Refusals.{WRONG_LENGTH, BAD_WORD}
-use Rattle.text.specs.Words.{Supply, ends, next_word, supply, supply_from}
-use Rattle.text.specs.declared.words.Read.TheVariants.{Word, Refused}
+use lib.ListN.{length, get_or, take, drop}
+use lib.Seq.{drop-cons, drop-length}
+use lib.Dec.{eqb}
+use lib.Pointwise.{pointwise}
+use denote.Bor.{Bor}
+use Rattle.std.specs.Prelude.{Option, Some, None, Ok, Err, MatchOption}
+use Rattle.std.specs.Option.{unwrap_or}
+use Rattle.lists.proofs.Tests.{clash}
+use Rattle.numbers.specs.declared.Refusal.{Refusal}
+use Rattle.numbers.specs.Refusals.{number_of}
+use Rattle.text.specs.Words.{Supply, next_word, supply, supply_from}
+use Rattle.text.specs.declared.words.Word.{Word}
 use Rattle.text.proofs.Supplies.{word, refused}
-use Rattle.line_words.specs.Line.{LONGEST_LINE, carriage_return, without_return, line_supply, no_word, judged_by}
+use Rattle.line_words.specs.Line.{carriage_return, without_return}
 
 -- ---- counting
 -- so many words were counted up to a place
@@ -24,10 +31,10 @@ pub count_start : (s : List ℕ) → Counting s 0 0
 count_start s = record { within = omega arith; few = omega arith; words = omega arith; ending = refl }
 
 module _ {s : List ℕ} {at count : ℕ} (g : Counting s at count) where
-  pub count_more : {w next : ℕ} → next_word s at ≡ Word w next → Counting s next (count + 1)
-  count_more {w} {next} e =
+  pub count_more : {w : Word} → next_word s at ≡ Ok w → Counting s w.next (count + 1)
+  count_more {w} e =
       let t = word s at e in
-      let l : length (supply_from s at).words ≡ suc (length (supply_from s next).words) = ap (λ (x : Supply). length x.words) t.gave in
+      let l : length (supply_from s at).words ≡ suc (length (supply_from s w.next).words) = ap (λ (x : Supply). length x.words) t.gave in
       record {
         within = t.within;
         few = omega (arith, t.further, g.few);
@@ -35,110 +42,60 @@ module _ {s : List ℕ} {at count : ℕ} (g : Counting s at count) where
         ending = g.ending ∙ ap (λ (x : Supply). x.ending) t.gave;
       }
 
-  pub count_less : {w next : ℕ} → next_word s at ≡ Word w next → length s - next < length s - at
+  pub count_less : {w : Word} → next_word s at ≡ Ok w → length s - w.next < length s - at
   count_less e = let t = word s at e in omega (arith, t.further, t.within)
 
-  pub count_done : {n r : ℕ} → next_word s at ≡ Refused n → r ≡ n → (count ≡ length (supply s).words) × (r ≡ (supply s).ending)
-  count_done {n} {r} e f =
+  pub count_done : {r : Refusal} → next_word s at ≡ Err r → (count ≡ length (supply s).words) × (number_of r ≡ (supply s).ending)
+  count_done {r} e =
       let t = refused s at e in
       let l : length (supply_from s at).words ≡ 0 = ap (λ (x : Supply). length x.words) t in
-      (omega (arith, g.words, l), f ∙ sym (g.ending ∙ ap (λ (x : Supply). x.ending) t))
+      (omega (arith, g.words, l), sym (g.ending ∙ ap (λ (x : Supply). x.ending) t))
 
 -- ---- looking up
-pub record Seeking (s : List ℕ) (i at left : ℕ) : Type 0 where
-  pub same : get_or (supply s).words i 0 ≡ get_or (supply_from s at).words left 0
+-- so many words were passed up to a place
+pub record Seeking (s : List ℕ) (at passed : ℕ) : Type 0 where
+  pub same : (i : ℕ) → get_or (supply s).words (passed + i) 0 ≡ get_or (supply_from s at).words i 0
 
-pub seek_start : (s : List ℕ) (i : ℕ) → Seeking s i 0 i
-seek_start s i = record { same = refl }
+pub seek_start : (s : List ℕ) → Seeking s 0 0
+seek_start s = record { same = λ i. let z : 0 + i ≡ i = omega arith in rw z }
 
-module _ {s : List ℕ} {i at left : ℕ} (g : Seeking s i at left) where
-  pub seek_none : {n : ℕ} → next_word s at ≡ Refused n → 0 ≡ get_or (supply s).words i 0
-  seek_none e = sym (g.same ∙ ap (λ (x : Supply). get_or x.words left 0) (refused s at e))
+module _ {s : List ℕ} {at passed : ℕ} (g : Seeking s at passed) where
+  -- no word is left, so none stands at a later place
+  pub seek_none : {r : Refusal} (i : ℕ) → passed ≤ i → next_word s at ≡ Err r → 0 ≡ get_or (supply s).words i 0
+  seek_none i h e =
+      let z : passed + (i - passed) ≡ i = omega arith in
+      sym (rw z at (g.same (i - passed)) ∙ ap (λ (x : Supply). get_or x.words (i - passed) 0) (refused s at e))
 
-  pub seek_found : {w next : ℕ} → next_word s at ≡ Word w next → left ≡ 0 → w ≡ get_or (supply s).words i 0
-  seek_found {w} {next} e z =
-      sym (g.same ∙ ap (λ (x : Supply). get_or x.words left 0) (word s at e).gave ∙ ap (λ (j : ℕ). get_or (w ∷ (supply_from s next).words) j 0) z)
+  pub seek_found : {w : Word} → next_word s at ≡ Ok w → w.number ≡ get_or (supply s).words passed 0
+  seek_found {w} e =
+      let z : passed + 0 ≡ passed = omega arith in
+      sym (rw z at (g.same 0) ∙ ap (λ (x : Supply). get_or x.words 0 0) (word s at e).gave)
 
-  pub seek_more : {w next : ℕ} → next_word s at ≡ Word w next → (left ≡ 0 → ⊥) → Seeking s i next (left - 1)
-  seek_more {w} {next} e z =
-      let p : left ≡ suc (left - 1) = omega arith in
-      record { same = g.same ∙ ap (λ (x : Supply). get_or x.words left 0) (word s at e).gave ∙ ap (λ (j : ℕ). get_or (w ∷ (supply_from s next).words) j 0) p }
+  pub seek_more : {w : Word} → next_word s at ≡ Ok w → Seeking s w.next (passed + 1)
+  seek_more {w} e = record {
+    same = λ i.
+        let z : passed + 1 + i ≡ passed + suc i = omega arith in
+        rw z (g.same (suc i)) ∙ ap (λ (x : Supply). get_or x.words (suc i) 0) (word s at e).gave;
+  }
 
 -- ---- the end of a line
-pub no_byte : (s : List ℕ) → length s ≡ 0 → s ≡ without_return s
+-- the last byte of a line alone
+last_alone : (s : List ℕ) → 0 < length s → drop (length s - 1) s ≡ get_or s (length s - 1) 0 ∷ []
+last_alone s h =
+    let e : suc (length s - 1) ≡ length s = omega arith in
+    drop-cons s (length s - 1) 0 (omega arith) ∙ rw (e, drop-length s)
+
+at_end : (s : List ℕ) → pointwise eqb (drop (length s - 1) s) (carriage_return ∷ []) ≡ true → eqb (get_or s (length s - 1) 0) carriage_return ≡ true
+at_end [] p = absurd (clash p refl)
+at_end (b ∷ s) p = sym (and-true (eqb (get_or (b ∷ s) (length (b ∷ s) - 1) 0) carriage_return)) ∙ (rw (last_alone (b ∷ s) (omega arith)) at p)
+
+not_at_end : (s : List ℕ) → pointwise eqb (drop (length s - 1) s) (carriage_return ∷ []) ≡ false → eqb (get_or s (length s - 1) 0) carriage_return ≡ false
+not_at_end [] p = refl
+not_at_end (b ∷ s) p = sym (and-true (eqb (get_or (b ∷ s) (length (b ∷ s) - 1) 0) carriage_return)) ∙ (rw (last_alone (b ∷ s) (omega arith)) at p)
+
+pub stripped : (s : List ℕ) (r : Option (Bor (List ℕ))) (u line : Bor (List ℕ))
+    → MatchOption r (pointwise eqb (drop (length s - 1) s) (carriage_return ∷ []) ≡ false) (λ x. (pointwise eqb (drop (length s - 1) s) (carriage_return ∷ []) ≡ true) × (x.now ≡ take (length s - 1) s) × (length x.now + 1 ≡ length s))
+    → u ≡ unwrap_or r line → line.now ≡ s → u.now ≡ without_return s
 unfolding without_return
-no_byte [] e = refl
-no_byte (b ∷ s) e = absurd (omega arith)
-
-pub returned : (s : List ℕ) → get_or s (length s - 1) 0 ≡ carriage_return → take (length s - 1 - 0) s ≡ without_return s
-unfolding without_return
-returned s e =
-    let z : length s - 1 - 0 ≡ length s - 1 = omega arith in
-    rw (z, eq-eqb (get_or s (length s - 1) 0) carriage_return e)
-
-pub not_returned : (s : List ℕ) → (get_or s (length s - 1) 0 ≡ carriage_return → ⊥) → s ≡ without_return s
-unfolding without_return
-not_returned s e = rw (ne_eqb (get_or s (length s - 1) 0) carriage_return e)
-
-pub too_long : (s : List ℕ) → LONGEST_LINE < length s → line_supply s ≡ ends BAD_WORD
-unfolding line_supply
-too_long s h = rw (lt-ltb LONGEST_LINE (length s) h)
-
-pub not_too_long : (s : List ℕ) → length s ≤ LONGEST_LINE → line_supply s ≡ supply (without_return s)
-unfolding line_supply
-not_too_long s h = rw (le-ltb LONGEST_LINE (length s) h)
-
--- ---- what is wrong with so many words
-module _ (count ending : ℕ) where
-  pub a_word : 0 < count → false ≡ no_word count ending
-  unfolding no_word
-  a_word h = rw (ne_eqb count 0 (λ e. omega arith))
-
-  pub none_at_all : count ≤ 0 → ending ≡ WRONG_LENGTH → true ≡ no_word count ending
-  unfolding no_word
-  none_at_all h e = rw (eq-eqb count 0 (omega arith), eq-eqb ending WRONG_LENGTH e)
-
-  pub a_bad_one : count ≤ 0 → (ending ≡ WRONG_LENGTH → ⊥) → false ≡ no_word count ending
-  unfolding no_word
-  a_bad_one h e = rw (eq-eqb count 0 (omega arith), ne_eqb ending WRONG_LENGTH e)
-
-module _ (n count ending : ℕ) where
-  pub too_few : count < n → ending ≡ judged_by n count ending
-  unfolding judged_by
-  too_few h = rw (lt-ltb count n h)
-
-  pub too_many : n < count → WRONG_LENGTH ≡ judged_by n count ending
-  unfolding judged_by
-  too_many h = rw (le-ltb count n (omega arith), lt-ltb n count h)
-
-  pub bad_after : n ≤ count → count ≤ n → ending ≡ BAD_WORD → BAD_WORD ≡ judged_by n count ending
-  unfolding judged_by
-  bad_after h k e = rw (le-ltb count n h, le-ltb n count k, eq-eqb ending BAD_WORD e)
-
-  pub just_right : n ≤ count → count ≤ n → (ending ≡ BAD_WORD → ⊥) → 0 ≡ judged_by n count ending
-  unfolding judged_by
-  just_right h k e = rw (le-ltb count n h, le-ltb n count k, ne_eqb ending BAD_WORD e)
-
--- ---- a line's words are those of its text without the end
-module _ (s : List ℕ) where
-  pub counted_long : LONGEST_LINE < length s → (0 ≡ length (line_supply s).words) × (BAD_WORD ≡ (line_supply s).ending)
-  counted_long h = let t = sym (too_long s h) in (ap (λ (x : Supply). length x.words) t, ap (λ (x : Supply). x.ending) t)
-
-  pub word_long : (i : ℕ) → LONGEST_LINE < length s → 0 ≡ get_or (line_supply s).words i 0
-  word_long i h = ap (λ (x : Supply). get_or x.words i 0) (sym (too_long s h))
-
-  module _ {u : List ℕ} (h : length s ≤ LONGEST_LINE) (e : u ≡ without_return s) where
-    same_supply : supply u ≡ line_supply s
-    same_supply = ap supply e ∙ sym (not_too_long s h)
-
-    pub counted_short : {count number : ℕ} → (count ≡ length (supply u).words) × (number ≡ (supply u).ending) → (count ≡ length (line_supply s).words) × (number ≡ (line_supply s).ending)
-    counted_short p = (p.0 ∙ ap (λ (x : Supply). length x.words) same_supply, p.1 ∙ ap (λ (x : Supply). x.ending) same_supply)
-
-    pub word_short : (i : ℕ) {w : ℕ} → w ≡ get_or (supply u).words i 0 → w ≡ get_or (line_supply s).words i 0
-    word_short i p = p ∙ ap (λ (x : Supply). get_or x.words i 0) same_supply
-
-pub none_so : {a b x y : ℕ} {r : Bool} → r ≡ no_word a b → (a ≡ x) × (b ≡ y) → r ≡ no_word x y
-none_so p e = p ∙ ap₂ no_word e.0 e.1
-
-pub judged_so : (n : ℕ) {a b x y r : ℕ} → r ≡ judged_by n a b → (a ≡ x) × (b ≡ y) → r ≡ judged_by n x y
-judged_so n p e = p ∙ ap₂ (judged_by n) e.0 e.1
+stripped s None u line p e f = rw (not_at_end s p) (ap (λ (b : Bor (List ℕ)). b.now) e ∙ f)
+stripped s (Some x) u line p e f = rw (at_end s p.0) (ap (λ (b : Bor (List ℕ)). b.now) e ∙ p.1)

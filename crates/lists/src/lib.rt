@@ -8,11 +8,7 @@ ghost use Rattle.lists.specs.Lists.{part, put};
 pub fn clear(words: &mut [u64])
     ensures { words.new ≡ replicate (length words.old) 0 }
 {
-    let mut i = 0;
-    while i < words.len() {
-        words[i] = 0;
-        i += 1;
-    }
+    words.fill(0);
 }
 
 // Words, one for one, from a place on.
@@ -20,11 +16,7 @@ pub fn copy(from: &[u64], words: &mut [u64], at: usize)
     requires { at + length from.now ≤ length words.old }
     ensures { words.new ≡ put words.old at from.now }
 {
-    let mut k = 0;
-    while k < from.len() {
-        words[at + k] = from[k];
-        k += 1;
-    }
+    words[at..at + from.len()].copy_from_slice(from);
 }
 
 // So many words from a place on.
@@ -34,11 +26,4 @@ pub fn part_of(words: &[u64], from: usize, count: usize) -> &[u64]
 {
     let end = from + count;
     &words[from..end]
-}
-
-// A byte as a word: a function, so that a caller need not show that it fits.
-pub fn wide(byte: u8) -> u64
-    ensures { result ≡ byte }
-{
-    byte as u64
 }

@@ -18,7 +18,7 @@ use Rattle.memory.proofs.Alike.{alike_sound, alike_book, alike_set, alike_state}
 use Rattle.ledger.specs.Ledger.{blank_ledger}
 use Rattle.book.specs.declared.loading.Loading.{Loading}
 use Rattle.book.specs.Judging.{Loaded, book_in, loaded}
-use Rattle.book.specs.Placing.{parts_of, Placed, PlacedBy}
+use Rattle.book.specs.Placing.{parts_of, Counted, Placed}
 use Rattle.book.specs.Strict.{roomed}
 use Rattle.book.specs.Loading.{way_in, takes, loaded_by}
 use Rattle.book.proofs.Placing.{parts_few, accepted, accepted_book}
@@ -28,23 +28,23 @@ use Rattle.loader.specs.Loading.{Loads}
 use Rattle.loader.specs.Private.{Accepted, Holds, Stored}
 use Rattle.loader.proofs.Blank.{ledger_blank, kept_blank}
 
-module _ (way : Loading) (words : List ℕ) (number n o a g : ℕ) (p : PlacedBy way words number n o a g) where
+module _ (way : Loading) (words : List ℕ) where
   -- a book that is accepted is accepted in ordinary loading, as the same book
-  same_book : number ≡ 0 → roomed way (loaded words) ≡ loaded words
-  same_book e = accepted_roomed way (loaded words) (sym p.number_is ∙ e)
+  module _ {n o a g : ℕ} (en : ◌≡◌ {A = ℕ} 0 (roomed way (loaded words)).number) (counted : Counted words n o a g) where
+    same_book : roomed way (loaded words) ≡ loaded words
+    same_book = accepted_roomed way (loaded words) (sym en)
 
-  placed : number ≡ 0 → Placed words number n o a g
-  placed e = record { number_is = p.number_is ∙ ap (λ (l : Loaded). l.number) (same_book e); counted = p.counted; none = p.none }
+    placed : Placed words 0 n o a g
+    placed = record { number_is = en ∙ ap (λ (l : Loaded). l.number) same_book; counted = λ z. counted; none = λ ne. absurd (ne refl) }
 
-  pub placed_accepted : number ≡ 0 → Accepted (parts_of words n o a g)
-  placed_accepted e = record { few = parts_few words n o a g (p.counted e); good = accepted words number n o a g (placed e) e }
+    pub placed_accepted : Accepted (parts_of words n o a g)
+    placed_accepted = record { few = parts_few words n o a g counted; good = accepted words 0 n o a g placed refl }
 
-  module _ (m : List ℕ) where
-    pub stored_accepted : number ≡ 0 → Holds (way_in way) (book_in (parts_of words n o a g)) m → Stored way words m number
-    stored_accepted e h = record { number = p.number_is; held = rw (same_book e ∙ accepted_book words number n o a g (placed e) e) h }
+    pub stored_accepted : {m : List ℕ} → Holds (way_in way) (book_in (parts_of words n o a g)) m → Stored way words m 0
+    stored_accepted h = record { number = en; held = rw (same_book ∙ accepted_book words 0 n o a g placed refl) h }
 
-    pub stored_refused : (number ≡ 0 → ⊥) → Holds (way_in way) empty_book m → Stored way words m number
-    stored_refused no-0 h = record { number = p.number_is; held = rw (refused_roomed way words (λ e. no-0 (p.number_is ∙ e))) h }
+  pub stored_refused : {number : ℕ} → number ≡ (roomed way (loaded words)).number → (number ≡ 0 → ⊥) → {m : List ℕ} → Holds (way_in way) empty_book m → Stored way words m number
+  stored_refused en no-0 h = record { number = en; held = rw (refused_roomed way words (λ e. no-0 (en ∙ e))) h }
 
 -- ---- once the tables are worked out, too
 module _ {w : Way} {b : Book} {m m' : List ℕ} (h : Holds w b m) (alike : Alike m m') where

@@ -12,11 +12,12 @@ use Rattle.pmtl.specs.Book.{Row, map_row, row_at, Below, some, itself, moves}
 use Rattle.pmtl.specs.Flat.{flat_rule, flat}
 use Rattle.pmtl.proofs.Table.{map_row_local}
 use Rattle.pmtl.proofs.Flat.{flat_by_rows, nested_by}
+use Rattle.book.specs.Kinds.{word_of_kind}
 use Rattle.book.specs.Rows.{row_from, count_of}
 use Rattle.book.specs.Loading.{takes}
-use Rattle.memory.specs.declared.RowWords.{RowWords}
+use Rattle.memory.specs.declared.RowSaid.{RowSaid}
 use Rattle.memory.specs.Layout.{OPERANDS, MOVES}
-use Rattle.memory.specs.Memory.{row_count, kind_at, arg_at, lower_at, upper_at, start_at, words_at, operands_of, operands_from, way_word, way_of, is_one, row_of, rows_of}
+use Rattle.memory.specs.Memory.{row_count, kind_at, arg_at, lower_at, upper_at, start_at, row_said, operands_of, operands_from, way_word, way_of, is_one, row_of, rows_of}
 use Rattle.memory.specs.Kept.{Sound}
 use Rattle.memory.specs.Tables.{Moving}
 use Rattle.memory.proofs.Bits.{bit_back}
@@ -66,8 +67,8 @@ temporal_flat f kind arg lower upper os h most =
     let e : kind ≡ suc (suc (suc (suc (suc (suc (suc (kind - 7))))))) = omega arith in
     subst⁻¹ (λ (k : ℕ). Found f k arg lower upper os) e (from_seven f (kind - 7) arg lower upper os (omega arith))
 
-module _ {m : List ℕ} {r : ℕ} {words : RowWords} (sound : Sound m) (moving : Moving m) (inside : r < row_count m) (ew : words ≡ words_at m r) where
-  read : Read m r words.kind words.arg words.start
+module _ {m : List ℕ} {r : ℕ} {words : RowSaid} (sound : Sound m) (moving : Moving m) (inside : r < row_count m) (ew : words ≡ row_said m r) where
+  read : Read m r (word_of_kind words.kind) words.arg words.start
   read = read_words m r sound.book inside ew
 
   -- the table says which rows move
@@ -78,11 +79,11 @@ module _ {m : List ℕ} {r : ℕ} {words : RowWords} (sound : Sound m) (moving :
       λ o l. ap is_one (moving.right o (omega arith)) ∙ bit_back (moves (rows_of m) o) in
       ap flat_rule (map_row_local r (bit_in m MOVES) (moves (rows_of m)) right (row_of m r) low)
 
-  pub nested_plain : words.kind < 7 → false ≡ not (flat_rule (map_row (moves (rows_of m)) (row_of m r)))
+  pub nested_plain : word_of_kind words.kind < 7 → false ≡ not (flat_rule (map_row (moves (rows_of m)) (row_of m r)))
   unfolding row_of
   nested_plain h = plain_flat (moves (rows_of m)) (kind_at m r) (arg_at m r) (lower_at m r) (upper_at m r) (drop (start_at m r) (operands_of m)) (rw read.kind_is at h)
 
-  pub nested_temporal : 7 ≤ words.kind → {n : ℕ} → n ≡ count_of words.kind words.arg → {v : Bool} → v ≡ joined true (map (bit_in m MOVES) (operands_from m words.start n))
+  pub nested_temporal : 7 ≤ word_of_kind words.kind → {n : ℕ} → n ≡ count_of (word_of_kind words.kind) words.arg → {v : Bool} → v ≡ joined true (map (bit_in m MOVES) (operands_from m words.start n))
       → v ≡ not (flat_rule (map_row (moves (rows_of m)) (row_of m r)))
   unfolding row_of
   nested_temporal h en ev =
@@ -91,7 +92,7 @@ module _ {m : List ℕ} {r : ℕ} {words : RowWords} (sound : Sound m) (moving :
       let most = (sound.book.rows r inside).kind in
       ev ∙ ap (λ (n : ℕ). joined true (map (bit_in m MOVES) (operands_from m words.start n))) en
       ∙ rw (← read.kind_is, ← read.arg_is, ← read.start_is)
-      (temporal_flat (bit_in m MOVES) words.kind words.arg (lower_at m r) (upper_at m r) (drop words.start (operands_of m)) h (omega (arith, read.kind_is)) (omega (arith, length-drop words.start (operands_of m))))
+      (temporal_flat (bit_in m MOVES) (word_of_kind words.kind) words.arg (lower_at m r) (upper_at m r) (drop words.start (operands_of m)) h (omega (arith, read.kind_is)) (omega (arith, length-drop words.start (operands_of m))))
       ∙ ap not by_table
 
 -- ---- the walk over the rows: none so far is nested

@@ -7,7 +7,6 @@ ghost use Rattle.memory.specs.Memory.{row_count, row_of, rows_of, way_of};
 ghost use Rattle.memory.specs.Kept.{Sound};
 ghost use Rattle.memory.specs.Tables.{Moving};
 
-use book::HISTORICALLY;
 use memory::{MOVES, SIZE};
 
 // Whether a temporal row lies below this one, which is temporal, too.
@@ -16,11 +15,11 @@ fn is_nested(monitor: &[u64; SIZE], row: usize) -> bool
     requires row_bound { row < row_count monitor.now }
     ensures { result ≡ not (flat_rule (map_row (moves (rows_of monitor.now)) (row_of monitor.now row))) }
 {
-    let words = memory::row_at(monitor, row);
-    if words.kind < HISTORICALLY {
+    let words = memory::read_row(monitor, row);
+    if !words.kind.is_temporal() {
         return false;
     }
-    let count = book::check::taken_by(words.kind, words.arg as u64);
+    let count = book::check::taken_by(words.kind.word(), words.arg as u64);
     tables::joined_at(monitor, MOVES, words.start, count, true)
 }
 
@@ -29,13 +28,10 @@ fn is_flat(monitor: &[u64; SIZE]) -> bool
     requires { Sound monitor.now × Moving monitor.now }
     ensures { result ≡ flat (rows_of monitor.now) }
 {
-    let count = memory::row_count(monitor);
-    let mut row = 0;
-    while row < count {
+    for row in 0..memory::row_count(monitor) {
         if is_nested(monitor, row) {
             return false;
         }
-        row += 1;
     }
     true
 }

@@ -7,7 +7,9 @@ ghost use Rattle.std.specs.Prelude.{◌≡◌, ◌+◌, ◌*◌, ◌/◌, ◌≤
 ghost use Rattle.std.proofs.Math.Seq.{paste};
 ghost use Rattle.pmtl.specs.Book.{empty_book};
 ghost use Rattle.memory.specs.Layout.{ROWS, ROW, SIZE};
+ghost use Rattle.memory.specs.Words.{word_of_way};
 ghost use Rattle.numbers.specs.Limits.{ROW_WORDS, MOST_ATOMS, MOST_ROWS};
+ghost use Rattle.numbers.specs.Refusals.{refused_with};
 ghost use Rattle.book.specs.Placing.{sections_of, parts_of, Counted};
 ghost use Rattle.book.specs.Judging.{start_in, temporals_in, book_in};
 ghost use Rattle.book.specs.Loading.{way_in};
@@ -18,14 +20,14 @@ use book::check::{
     Places, arg_in, assumes_part, guarantees_part, kind_in, lower_in, operands_part, rows_part,
     taken_by, upper_in,
 };
+use book::kind::Kind;
 use book::loading::Loading;
 use book::strict::place_by;
-use book::{ATOM, HISTORICALLY};
 use memory::{
-    ARG, ASSUMES, GUARANTEES, LASTING, LOWER, OPERANDS, ORDINARY, OWNERS, PROPERTIES, ROW,
-    ROW_COUNT, ROWS, SIZE, SLOT, START, TEMPORALS, UPPER, WAY, WIDTH,
+    ARG, ASSUMES, GUARANTEES, LOWER, OPERANDS, OWNERS, PROPERTIES, ROW, ROW_COUNT, ROWS, SIZE,
+    SLOT, START, TEMPORALS, UPPER, WAY, WIDTH, Way,
 };
-use numbers::{ACCEPTED, NESTED, ROW_WORDS};
+use numbers::{ROW_WORDS, Refusal};
 
 // What the head of a memory says of its rows: the largest atom plus 1, and how many are temporal.
 #[derive(Clone, Copy)]
@@ -39,16 +41,14 @@ fn wider(width: u64, kind: u64, arg: u64) -> u64
     requires { reach kind arg ≤ MOST_ATOMS }
     ensures { result ≡ max width (reach kind arg) }
 {
-    if kind == ATOM {
-        if width <= arg {
-            return arg + 1;
-        }
-        return width;
+    if kind == Kind::Atom.word() {
+        width.max(arg + 1)
+    } else {
+        width
     }
-    width
 }
 
-// The six words of a row.
+// The six words of a row, one by one: each place has a name, of which a copied array would say none.
 fn put_words(given: &[u64], row: usize, start: usize, slot: usize, monitor: &mut [u64])
     requires { (row < MOST_ROWS) × (row < length given.now / ROW_WORDS) × (length monitor.old ≡ SIZE) }
     ensures { monitor.new ≡ paste monitor.old (ROWS + ROW * row) (words_with given.now row start slot) ROW }
@@ -69,7 +69,7 @@ fn put_row(given: &[u64], row: usize, start: usize, slot: usize, monitor: &mut [
     requires start_value { (start ≡ start_in given.now row) × (slot ≡ temporals_in given.now row) }
     ensures { (result ≡ temporals_in given.now (row + 1)) × (monitor.new ≡ row_put given.now monitor.old row) }
 {
-    if kind_in(given, row) < HISTORICALLY {
+    if kind_in(given, row) < Kind::Historically.word() {
         put_words(given, row, start, 0, monitor);
         return slot;
     }
@@ -85,17 +85,15 @@ fn put_rows(given: &[u64], monitor: &mut [u64]) -> Totals
     ensures { (result.width ≡ width_in given.now (length given.now / ROW_WORDS)) × (result.temporals ≡ temporals_in given.now (length given.now / ROW_WORDS)) × (monitor.new ≡ rows_put given.now monitor.old (length given.now / ROW_WORDS)) }
 {
     let rows = given.len() / ROW_WORDS;
-    let mut row = 0;
     let mut start = 0;
     let mut slot = 0;
-    let mut width: u64 = 0;
-    while row < rows {
+    let mut width = 0;
+    for row in 0..rows {
         let kind = kind_in(given, row);
         let arg = arg_in(given, row);
         slot = put_row(given, row, start, slot, monitor);
         start += taken_by(kind, arg);
         width = wider(width, kind, arg);
-        row += 1;
     }
     Totals {
         width,
@@ -103,15 +101,13 @@ fn put_rows(given: &[u64], monitor: &mut [u64]) -> Totals
     }
 }
 
-// The word of the way of monitoring that a way of loading is for.
-fn way_word(way: Loading) -> u64
-    ensures { result ≡ word_for (way_in way) }
+// The way of monitoring that a way of loading is for.
+fn way_for(way: Loading) -> Way
+    ensures { word_of_way result ≡ word_for (way_in way) }
 {
     match way {
-        Loading::Ordinary => ORDINARY,
-        Loading::Strict => ORDINARY,
-        Loading::Lasting => LASTING,
-        Loading::LastingStrict => LASTING,
+        Loading::Ordinary | Loading::Strict => Way::Ordinary,
+        Loading::Lasting | Loading::LastingStrict => Way::Lasting,
     }
 }
 
@@ -132,7 +128,7 @@ fn put_head(
     monitor[TEMPORALS] = totals.temporals;
     monitor[ASSUMES] = assumes;
     monitor[GUARANTEES] = guarantees;
-    monitor[WAY] = way_word(way);
+    monitor[WAY] = way_for(way).word();
 }
 
 // The memory of an accepted book, in a memory of zeros.
@@ -183,30 +179,32 @@ fn store_empty(way: Loading, monitor: &mut [u64])
     requires { length monitor.old ≡ SIZE }
     ensures { Holds (way_in way) empty_book monitor.new }
 {
-    lists::clear(monitor);
-    monitor[WAY] = way_word(way);
+    monitor.fill(0);
+    monitor[WAY] = way_for(way).word();
 }
 
 // Loading as far as the words alone tell, and but for the tables, over a memory of zeros whose length is not part of its type.
-fn store_judged(way: Loading, words: &[u64], monitor: &mut [u64]) -> u64
+fn store_judged(way: Loading, words: &[u64], monitor: &mut [u64]) -> Result<(), Refusal>
     requires { Zeroed monitor.old }
-    ensures { Stored way words.now monitor.new result }
+    ensures { Stored way words.now monitor.new (refused_with result) }
 {
-    let places = place_by(way, words);
-    let number = places.number;
-    if number != ACCEPTED {
-        store_empty(way, monitor);
-        return number;
+    match place_by(way, words) {
+        Ok(places) => {
+            store_parts(way, words, places, monitor);
+            Ok(())
+        }
+        Err(refusal) => {
+            store_empty(way, monitor);
+            Err(refusal)
+        }
     }
-    store_parts(way, words, places, monitor);
-    number
 }
 
 // Loads a book from words in a way of loading: a fresh monitor of it, or of an empty book where it is refused. For a caller whose
 // memory is all zeros already.
-pub fn load_in_zeros(way: Loading, words: &[u64], monitor: &mut [u64; SIZE]) -> u64
+pub fn load_in_zeros(way: Loading, words: &[u64], monitor: &mut [u64; SIZE]) -> Result<(), Refusal>
     requires { monitor.old ≡ replicate SIZE 0 }
-    ensures { Loads way words.now monitor.new result }
+    ensures { Loads way words.now monitor.new (refused_with result) }
 {
     let judged = store_judged(way, words, monitor);
     tables::work_out(monitor);
@@ -215,42 +213,42 @@ pub fn load_in_zeros(way: Loading, words: &[u64], monitor: &mut [u64; SIZE]) -> 
     }
     store_empty(way, monitor);
     tables::work_out(monitor);
-    NESTED
+    Err(Refusal::Nested)
 }
 
 // The same, whatever stood in the memory before.
-pub fn load_by(way: Loading, words: &[u64], monitor: &mut [u64; SIZE]) -> u64
-    ensures { Loads way words.now monitor.new result }
+pub fn load_by(way: Loading, words: &[u64], monitor: &mut [u64; SIZE]) -> Result<(), Refusal>
+    ensures { Loads way words.now monitor.new (refused_with result) }
 {
-    lists::clear(monitor);
+    monitor.fill(0);
     load_in_zeros(way, words, monitor)
 }
 
 // Loads a book as any that is in order.
-pub fn load(words: &[u64], monitor: &mut [u64; SIZE]) -> u64
-    ensures { Loads Loading.Ordinary words.now monitor.new result }
+pub fn load(words: &[u64], monitor: &mut [u64; SIZE]) -> Result<(), Refusal>
+    ensures { Loads Loading.Ordinary words.now monitor.new (refused_with result) }
 {
     load_by(Loading::Ordinary, words, monitor)
 }
 
 // Loads a book so that no call ever lacks room: one in which a row can need more runs than a set may have is refused, too.
-pub fn load_strict(words: &[u64], monitor: &mut [u64; SIZE]) -> u64
-    ensures { Loads Loading.Strict words.now monitor.new result }
+pub fn load_strict(words: &[u64], monitor: &mut [u64; SIZE]) -> Result<(), Refusal>
+    ensures { Loads Loading.Strict words.now monitor.new (refused_with result) }
 {
     load_by(Loading::Strict, words, monitor)
 }
 
 // Loads a book for the lasting way of monitoring, in which a state lasts until the next call: one in which a temporal row lies below another is refused,
 // too.
-pub fn load_lasting(words: &[u64], monitor: &mut [u64; SIZE]) -> u64
-    ensures { Loads Loading.Lasting words.now monitor.new result }
+pub fn load_lasting(words: &[u64], monitor: &mut [u64; SIZE]) -> Result<(), Refusal>
+    ensures { Loads Loading.Lasting words.now monitor.new (refused_with result) }
 {
     load_by(Loading::Lasting, words, monitor)
 }
 
 // Loads a book for the lasting way, and so that no call ever lacks room.
-pub fn load_lasting_strict(words: &[u64], monitor: &mut [u64; SIZE]) -> u64
-    ensures { Loads Loading.LastingStrict words.now monitor.new result }
+pub fn load_lasting_strict(words: &[u64], monitor: &mut [u64; SIZE]) -> Result<(), Refusal>
+    ensures { Loads Loading.LastingStrict words.now monitor.new (refused_with result) }
 {
     load_by(Loading::LastingStrict, words, monitor)
 }

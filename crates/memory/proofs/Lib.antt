@@ -1,3 +1,4 @@
+pub mod KindWords
 pub mod Rows
 pub mod Sets
 pub mod Stepped

@@ -3,3 +3,4 @@ pub mod Memory
 pub mod Tables
 pub mod Kept
 pub mod Alike
+pub mod Words

@@ -8,8 +8,9 @@ use Rattle.pmtl.specs.Book.{Range, Row, Rows, Book}
 use Rattle.pmtl.specs.Sets.{Way, ordinary, lasting}
 use Rattle.pmtl.specs.Monitor.{State}
 use Rattle.book.specs.Rows.{row_from, temporal}
+use Rattle.book.specs.Kinds.{kind_of_word}
 use Rattle.ledger.specs.Ledger.{Entry, Ledger}
-use Rattle.memory.specs.declared.RowWords.{RowWords}
+use Rattle.memory.specs.declared.RowSaid.{RowSaid}
 use Rattle.memory.specs.Layout.{ROW_COUNT, BEGUN, CLOCK, WIDTH, TEMPORALS, ASSUMES, GUARANTEES, WAY, ROWS, ROW, OPERANDS, PROPERTIES, ATOMS, OWNERS, SETS, SET, VALUES, TOLD, EARLY, SETTLED, MOVES, LOWEST, FULLEST, UNTIL, LEDGER, TAKEN, ENTRIES, ENTRY, FAILED, FIRST, LAST, LONGEST, SETTLED_CALL, STRETCH}
 
 -- ---- words read off a memory
@@ -56,8 +57,8 @@ abbrev pub slot_at : List ℕ → ℕ → ℕ
 slot_at m r = get_or m (ROWS + ROW * r + 5) 0
 
 -- those that a row's answer is made from
-abbrev pub words_at : List ℕ → ℕ → RowWords
-words_at m r = record { kind = kind_at m r; arg = arg_at m r; lower = lower_at m r; start = start_at m r }
+abbrev pub row_said : List ℕ → ℕ → RowSaid
+row_said m r = record { kind = kind_of_word (kind_at m r); arg = arg_at m r; lower = lower_at m r; start = start_at m r }
 
 abbrev pub operands_of : List ℕ → List ℕ
 operands_of m = part OPERANDS MOST_OPERANDS m

@@ -3,11 +3,15 @@
 
 ghost use Rattle.std.specs.Prelude.{◌≡◌, ◌<◌, get_or};
 ghost use Rattle.numbers.specs.Limits.{MOST_ROWS, MOST_OPERANDS, MOST_PROPERTIES, MOST_TEMPORALS};
+ghost use Rattle.book.specs.Rows.{KINDS};
+ghost use Rattle.book.specs.Kinds.{word_of_kind, kind_of_word};
 ghost use Rattle.memory.specs.Layout.{ENTRY, SIZE};
-ghost use Rattle.memory.specs.Memory.{row_count, begun_word, clock_of, width_word, temporals, assume_count, guarantee_count, way_word, kind_at, arg_at, lower_at, upper_at, start_at, words_at, slot_at, operand_at, property_row, owner_at, slot_words, value_at, told_at, early_at, settled_at, moves_at, lowest_at, fullest_word, until_word, number_word, taken_word, entry_word, is_one};
+ghost use Rattle.memory.specs.Memory.{row_count, begun_word, clock_of, width_word, temporals, assume_count, guarantee_count, way_word, kind_at, arg_at, lower_at, upper_at, start_at, row_said, slot_at, operand_at, property_row, owner_at, slot_words, value_at, told_at, early_at, settled_at, moves_at, lowest_at, fullest_word, until_word, number_word, taken_word, entry_word, is_one};
 ghost use Rattle.memory.specs.Kept.{BookKept};
 ghost use Rattle.memory.specs.Tables.{property_count};
+ghost use Rattle.memory.specs.Words.{word_of_way, word_of_standing};
 
+use book::kind::Kind;
 use numbers::{MOST_ATOMS, MOST_OPERANDS, MOST_PROPERTIES, MOST_ROWS, MOST_TEMPORALS};
 
 // The head: how many rows, whether a call was accepted, the clock, the largest atom plus 1, how many temporal rows, assumes and
@@ -30,10 +34,21 @@ pub const WAY: usize = 7;
 
 const HEAD: usize = 8;
 
-// The ways: only calls count, or a state lasts until the next call.
-pub const ORDINARY: u64 = 0;
+// The ways, each with its word: only calls count, or a state lasts until the next call.
+#[derive(Clone, Copy, Debug, PartialEq, Eq)]
+pub enum Way {
+    Ordinary = 0,
+    Lasting = 1,
+}
 
-pub const LASTING: u64 = 1;
+impl Way {
+    // The word that says it.
+    pub fn word(self) -> u64
+        ensures { result ≡ word_of_way self }
+    {
+        self as u64
+    }
+}
 
 // A row's words: kind, arg, lower, upper, where its operands start, which set is its own.
 pub const ROW: usize = 6;
@@ -86,12 +101,22 @@ pub const FULLEST: usize = LOWEST + MOST_ROWS;
 // And up to when a time call moves the clock alone.
 pub const UNTIL: usize = FULLEST + 1;
 
-// What is told of a set: that it has every instant from the clock on, that it has none of them, or neither.
-pub const COVERS: u64 = 1;
+// What is told of a set: that it has every instant from the clock on, that it has none of them, or neither; each with its word.
+#[derive(Clone, Copy, Debug, PartialEq, Eq)]
+pub enum Standing {
+    Neither = 0,
+    Covers = 1,
+    Gone = 2,
+}
 
-pub const GONE: u64 = 2;
-
-pub const NEITHER: u64 = 0;
+impl Standing {
+    // The word that says it.
+    pub fn word(self) -> u64
+        ensures { result ≡ word_of_standing self }
+    {
+        self as u64
+    }
+}
 
 // The ledger: the number of the last call, how many calls were accepted, and an entry for each property.
 pub const LEDGER: usize = UNTIL + 1;
@@ -180,7 +205,7 @@ pub fn guarantee_count(monitor: &[u64; SIZE]) -> usize
 pub fn is_lasting(monitor: &[u64; SIZE]) -> bool
     ensures { result ≡ is_one (way_word monitor.now) }
 {
-    monitor[WAY] == LASTING
+    monitor[WAY] == Way::Lasting as u64
 }
 
 // How many properties there are.
@@ -191,12 +216,20 @@ pub fn property_count(monitor: &[u64; SIZE]) -> usize
     assume_count(monitor) + guarantee_count(monitor)
 }
 
-// The words of a row.
+// The words of a row: the one that says its kind.
 pub fn kind_at(monitor: &[u64; SIZE], row: usize) -> u64
     requires { row < MOST_ROWS }
     ensures { result ≡ kind_at monitor.now row }
 {
     monitor[ROWS + ROW * row]
+}
+
+// The kind that this says. A row of a book in order has one of these words, and then the kind's word is the row's.
+pub fn row_kind(monitor: &[u64; SIZE], row: usize) -> Kind
+    requires { row < MOST_ROWS }
+    ensures { (result ≡ kind_of_word (kind_at monitor.now row)) × (kind_at monitor.now row < KINDS → word_of_kind result ≡ kind_at monitor.now row) }
+{
+    Kind::of_word(kind_at(monitor, row))
 }
 
 pub fn arg_at(monitor: &[u64; SIZE], row: usize) -> usize
@@ -236,20 +269,20 @@ pub fn slot_at(monitor: &[u64; SIZE], row: usize) -> usize
 
 // What a row's answer is made from, besides its operands' answers and its set.
 #[derive(Clone, Copy)]
-pub struct RowWords {
-    pub kind: u64,
+pub struct RowSaid {
+    pub kind: Kind,
     pub arg: usize,
     pub lower: u64,
     pub start: usize,
 }
 
 // A row's words, read once and by name.
-pub fn row_at(monitor: &[u64; SIZE], row: usize) -> RowWords
+pub fn read_row(monitor: &[u64; SIZE], row: usize) -> RowSaid
     requires { row < MOST_ROWS }
-    ensures { result ≡ words_at monitor.now row }
+    ensures { result ≡ row_said monitor.now row }
 {
-    RowWords {
-        kind: kind_at(monitor, row),
+    RowSaid {
+        kind: row_kind(monitor, row),
         arg: arg_at(monitor, row),
         lower: lower_at(monitor, row),
         start: start_at(monitor, row),
@@ -337,7 +370,7 @@ pub fn until(monitor: &[u64; SIZE]) -> u64
     monitor[UNTIL]
 }
 
-// What was told of a set.
+// What was told of a set, the word of a `Standing`. It stays the word, as do the digits below: lent words may say none of the three.
 pub fn told_at(monitor: &[u64; SIZE], slot: usize) -> u64
     requires { slot < MOST_TEMPORALS }
     ensures { result ≡ told_at monitor.now slot }

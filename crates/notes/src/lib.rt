@@ -16,9 +16,7 @@ use memory::{
     entry_word,
 };
 use numbers::{ACCEPTED, LAST_TIME};
-
-// The digit of a settled answer that is open.
-const OPEN: u64 = 2;
+use pmtl::Answer;
 
 // Puts a word of a property's entry.
 fn put_word(monitor: &mut [u64; SIZE], i: usize, word: usize, value: u64)
@@ -80,7 +78,7 @@ fn note_settled(monitor: &mut [u64; SIZE], n: u64, i: usize)
     requires { (i < MOST_PROPERTIES) × (length monitor.old ≡ SIZE) }
     ensures { EntryPut monitor.old i (settled_noted n (open_now monitor.old i) (entry_of monitor.old i)) monitor.new }
 {
-    if memory::settled_at(monitor, i) == OPEN {
+    if memory::settled_at(monitor, i) == u64::from(Answer::Open.digit()) {
         return;
     }
     if entry_word(monitor, i, SETTLED_CALL) != 0 {
@@ -108,10 +106,8 @@ fn note_entries(monitor: &mut [u64; SIZE], n: u64)
     ensures { EntriesNoted monitor.old n (property_count monitor.old) monitor.new }
 {
     let count = memory::property_count(monitor);
-    let mut i = 0;
-    while i < count {
+    for i in 0..count {
         note_property(monitor, n, i);
-        i += 1;
     }
 }
 
@@ -132,7 +128,7 @@ fn count_taken(monitor: &mut [u64; SIZE])
 }
 
 // Notes a call that handed back `number`, after it was made: a refused one numbers on and changes nothing else. After the last call
-// that is counted nothing is noted any more.
+// that is counted nothing is noted any more. It takes the number, and any, as it always did: an outcome can say those of refusals alone.
 pub fn note(monitor: &mut [u64; SIZE], number: u64)
     requires { Kept monitor.old }
     ensures { CallNoted monitor.old number monitor.new }

@@ -1,5 +1,7 @@
 -- The numbers that loading, calls and answers hand back: the code has the same names. Definitions only.
-use Rattle.std.specs.Prelude.{ℕ}
+use Rattle.std.specs.Prelude.{ℕ, Result, Ok, Err}
+use Rattle.numbers.specs.declared.Refusal.{Refusal}
+use Rattle.numbers.specs.declared.Refusal.TheVariants.{WrongLength, PastLimit, WrongForm, WrongRange, WrongLink, WrongUse, TooEarly, TooLate, TooNarrow, NotABit, NoRoom, ListTooShort, BadWord, CouldRunOut, TooWide, Nested, WrongKits, WindowTooLong, UnknownBarcode, DoesNotFit}
 
 -- nothing is wrong
 abbrev pub ACCEPTED : ℕ
@@ -84,3 +86,31 @@ UNKNOWN_BARCODE = 20
 -- a step of tidying that does not fit
 abbrev pub DOES_NOT_FIT : ℕ
 DOES_NOT_FIT = 21
+
+-- the number of a refusal
+abbrev pub number_of : Refusal → ℕ
+number_of WrongLength = WRONG_LENGTH
+number_of PastLimit = PAST_LIMIT
+number_of WrongForm = WRONG_FORM
+number_of WrongRange = WRONG_RANGE
+number_of WrongLink = WRONG_LINK
+number_of WrongUse = WRONG_USE
+number_of TooEarly = TOO_EARLY
+number_of TooLate = TOO_LATE
+number_of TooNarrow = TOO_NARROW
+number_of NotABit = NOT_A_BIT
+number_of NoRoom = NO_ROOM
+number_of ListTooShort = LIST_TOO_SHORT
+number_of BadWord = BAD_WORD
+number_of CouldRunOut = COULD_RUN_OUT
+number_of TooWide = TOO_WIDE
+number_of Nested = NESTED
+number_of WrongKits = WRONG_KITS
+number_of WindowTooLong = WINDOW_TOO_LONG
+number_of UnknownBarcode = UNKNOWN_BARCODE
+number_of DoesNotFit = DOES_NOT_FIT
+
+-- the number that an outcome is handed over with
+abbrev pub refused_with : {A : Type 0} → Result A Refusal → ℕ
+refused_with (Ok _) = ACCEPTED
+refused_with (Err r) = number_of r

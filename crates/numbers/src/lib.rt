@@ -1,6 +1,9 @@
 // Limits and refusals, once for all crates. The definitions (specs/) have the same names.
 #![tactic(auto)]
 
+ghost use Rattle.std.specs.Prelude.{◌≡◌};
+ghost use Rattle.numbers.specs.Refusals.{number_of, refused_with};
+
 // The largest number of 64 bits: the last instant, and an upper bound that means none.
 pub const MAX: u64 = 0xffff_ffff_ffff_ffff;
 
@@ -39,65 +42,68 @@ pub const LONGEST_INPUT: usize = 65536;
 // Room for every report: the crate `slip` proves that none is longer.
 pub const LONGEST_REPORT: usize = 2300000;
 
-// Nothing is wrong.
+// The number of an outcome in which nothing is wrong.
 pub const ACCEPTED: u64 = 0;
 
-// Words end early, or are left over.
-pub const WRONG_LENGTH: u64 = 1;
+// Why a book, a call, a text or a step is refused; each with its number in what is handed over.
+#[derive(Clone, Copy, Debug, PartialEq, Eq)]
+pub enum Refusal {
+    // Words end early, or are left over.
+    WrongLength = 1,
+    // A count, a state's width or the temporal rows pass a limit; an input is too long.
+    PastLimit = 2,
+    // A row's kind, its arg, or a bound where the kind has none.
+    WrongForm = 3,
+    // A row's range.
+    WrongRange = 4,
+    // An operand or a property.
+    WrongLink = 5,
+    // A row used never or twice.
+    WrongUse = 6,
+    // A time below the clock.
+    TooEarly = 7,
+    // A time above the last.
+    TooLate = 8,
+    // A state shorter than the largest atom plus 1.
+    TooNarrow = 9,
+    // A byte of a state other than 0 and 1.
+    NotABit = 10,
+    // A set would have more runs than there is room for.
+    NoRoom = 11,
+    // A list for the answers shorter than the properties.
+    ListTooShort = 12,
+    // A bad word in text, or a call of no kind.
+    BadWord = 13,
+    // A range of which a set could need more runs than there is room for: refused where a book is loaded strictly.
+    CouldRunOut = 15,
+    // A state longer than the largest atom plus 1.
+    TooWide = 16,
+    // A temporal row that lies below another: refused where a book is loaded in the lasting way.
+    Nested = 17,
+    // A desk of no kit or of too many, or a barcode given twice.
+    WrongKits = 18,
+    // A window of a kit above the last time.
+    WindowTooLong = 19,
+    // A barcode that no kit of the desk has.
+    UnknownBarcode = 20,
+    // A step of tidying that does not fit.
+    DoesNotFit = 21,
+}
 
-// A count, a state's width or the temporal rows pass a limit; an input is too long.
-pub const PAST_LIMIT: u64 = 2;
+impl Refusal {
+    pub fn number(self) -> u64
+        ensures { result ≡ number_of self }
+    {
+        self as u64
+    }
+}
 
-// A row's kind, its arg, or a bound where the kind has none.
-pub const WRONG_FORM: u64 = 3;
-
-// A row's range.
-pub const WRONG_RANGE: u64 = 4;
-
-// An operand or a property.
-pub const WRONG_LINK: u64 = 5;
-
-// A row used never or twice.
-pub const WRONG_USE: u64 = 6;
-
-// A time below the clock.
-pub const TOO_EARLY: u64 = 7;
-
-// A time above the last.
-pub const TOO_LATE: u64 = 8;
-
-// A state shorter than the largest atom plus 1.
-pub const TOO_NARROW: u64 = 9;
-
-// A byte of a state other than 0 and 1.
-pub const NOT_A_BIT: u64 = 10;
-
-// A set would have more runs than there is room for.
-pub const NO_ROOM: u64 = 11;
-
-// A list for the answers shorter than the properties.
-pub const LIST_TOO_SHORT: u64 = 12;
-
-// A bad word in text, or a call of no kind.
-pub const BAD_WORD: u64 = 13;
-
-// A range of which a set could need more runs than there is room for: refused where a book is loaded strictly.
-pub const COULD_RUN_OUT: u64 = 15;
-
-// A state longer than the largest atom plus 1.
-pub const TOO_WIDE: u64 = 16;
-
-// A temporal row that lies below another: refused where a book is loaded in the lasting way.
-pub const NESTED: u64 = 17;
-
-// A desk of no kit or of too many, or a barcode given twice.
-pub const WRONG_KITS: u64 = 18;
-
-// A window of a kit above the last time.
-pub const WINDOW_TOO_LONG: u64 = 19;
-
-// A barcode that no kit of the desk has.
-pub const UNKNOWN_BARCODE: u64 = 20;
-
-// A step of tidying that does not fit.
-pub const DOES_NOT_FIT: u64 = 21;
+// What is handed over of an outcome: 0 where nothing is wrong, else the refusal's number.
+pub fn refused_with<T: Copy>(outcome: Result<T, Refusal>) -> u64
+    ensures { result ≡ refused_with outcome }
+{
+    match outcome {
+        Ok(_) => ACCEPTED,
+        Err(refusal) => refusal.number(),
+    }
+}

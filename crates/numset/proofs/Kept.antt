@@ -5,17 +5,15 @@ use mathlib.Core.Logic.{⊎_elim}
 use mathlib.Core.Bool.{Bool, false, ◌||◌}
 use mathlib.Core.List.{List, [], ◌∷◌}
 use native.Mathlib.Omega.{arith}
-use lib.ListN.{length, get_or, set}
-use lib.Seq.{get_or-set_other}
+use lib.ListN.{length, get_or}
 use lib.Dec.{ltb}
 use borrow.Author.Tests.{lt-ltb, le-ltb, ltb-false}
 use Rattle.numset.specs.Runs.{run, Runs, Under, Canonical, within, has, lo, hi, runs_to, runs, Good, kept, pack}
-use Rattle.numset.specs.Private.{Shifted, Cleared, oldest_lapsed, Lapsed, Dropped}
+use Rattle.numset.specs.Private.{oldest_lapsed, Lapsed, Dropped}
 use Rattle.lists.proofs.Tests.{lt_or_ge}
 use Rattle.numset.proofs.Laws.{outside_below, under_mono, canonical, top_of, under_top_of}
 use Rattle.numset.proofs.Words.{at, runs_suc, length_runs}
 use Rattle.numset.proofs.Packs.{packed, good_pack}
-use Rattle.numset.proofs.Moves.{put_here}
 
 -- ---- one run: it goes if it ends before t, else it stays
 module _ (t l u : ℕ) (rs : Runs) where
@@ -153,20 +151,6 @@ module _ {m : List ℕ} {t k : ℕ} (w : Lapsed m t k) where
 
     pub kept_all : kept t (runs m) ≡ runs m
     kept_all = all_to_lem (get_or m 0 0) (omega arith)
-
--- ---- what the stores of `drop_oldest` leave
-pub dropped : {m m₁ m₂ m' : List ℕ} {k : ℕ} → Shifted m m₁ (2 * k + 1) 1 (2 * (get_or m 0 0 - k)) → Cleared m₁ m₂ (2 * (get_or m 0 0 - k) + 1) (2 * get_or m 0 0 + 1)
-    → m' ≡ set m₂ 0 (get_or m 0 0 - k) → Good m → 0 < length m₂ → Dropped m m' k (get_or m 0 0)
-dropped {m} {m₁} {m₂} {m'} {k} w v q g r =
-    let n = get_or m 0 0 in
-    rw q
-    (record {
-      count = put_here m₂ 0 0 (n - k) refl r;
-      moved = λ d h. get_or-set_other m₂ 0 (1 + d) (n - k) 0 (omega arith) ∙ v.below (1 + d) (omega arith) ∙ w.moved d h;
-      zeros = λ i h.
-          get_or-set_other m₂ 0 i (n - k) 0 (omega arith)
-          ∙ ⊎_elim (λ x. v.zeros i (omega arith) x) (λ x. v.above i x ∙ w.above i (omega arith) ∙ g.rest i (omega arith)) (lt_or_ge i (2 * n + 1));
-    })
 
 module _ {m : List ℕ} {t k : ℕ} (w : Lapsed m t k) (g : Good m) where
   pub none_lapsed : k ≡ 0 → m ≡ pack (length m) (kept t (runs m))

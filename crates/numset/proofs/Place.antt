@@ -7,13 +7,14 @@ use mathlib.Core.List.{List, ◌∷◌}
 use native.Mathlib.Omega.{arith}
 use lib.ListN.{length, get_or, set, length-set}
 use lib.Seq.{get_or-set_other}
+use lib.Dec.{ltb}
 use borrow.Author.Tests.{lt-ltb, le-ltb}
 use Rattle.numset.specs.Runs.{run, lo, hi, runs_to, runs, Under, Good, insert, union, fits, pack, add_number, add_words}
 use Rattle.numset.specs.Private.{Shifted, Cleared, Replaced, Spanned, with_run}
 use Rattle.lists.proofs.Tests.{lt_or_ge}
 use Rattle.numset.proofs.Words.{at, runs_suc, length_runs, same_runs}
 use Rattle.numset.proofs.Packs.{packed}
-use Rattle.numset.proofs.Union.{insert_over, insert_under, union_none, union_some}
+use Rattle.numset.proofs.Union.{insert_over, insert_under, union_none, union_some, most_one}
 use Rattle.numset.proofs.Moves.{put_here}
 
 -- ---- the words
@@ -111,6 +112,10 @@ module _ (m : List ℕ) (l u : ℕ) where
   unfolding add_number add_words
   adds_full f = (rw f, rw f)
 
+-- a free place is room for any, since an interval adds at most one run
+pub fits_free : (m : List ℕ) (l u : ℕ) → 2 * get_or m 0 0 + 2 < length m → fits (length m) (union l u (runs m)) ≡ true
+fits_free m l u h = let k = most_one l u (runs m) in let n = length_runs m (get_or m 0 0) in lt-ltb _ _ (omega arith)
+
 module _ {m : List ℕ} {l u : ℕ} (g : Good m) where
   pub fits_none : u < l → fits (length m) (union l u (runs m)) ≡ true
   fits_none h = rw (union_none l u (runs m) h, length_runs m (get_or m 0 0), lt-ltb _ _ g.room)
@@ -129,6 +134,14 @@ module _ {m : List ℕ} {s e l u low up : ℕ} (x : Spanned m l u s e low up) (o
 
   pub room_lacks : length m ≤ 2 * (s + 1 + (get_or m 0 0 - e)) → fits (length m) (union l u (runs m)) ≡ false
   room_lacks h = rw (union_length, le-ltb _ _ h)
+
+  -- with no place free there is room where a run is joined
+  pub room_joined : Good m → length m ≤ 2 * get_or m 0 0 + 2 → ltb s e ≡ fits (length m) (union l u (runs m))
+  room_joined g h =
+      ⊎_elim
+      (λ p. lt-ltb s e p ∙ sym (room_there (omega (arith, x.ended.few, g.room))))
+      (λ p. le-ltb s e p ∙ sym (room_lacks (omega (arith, x.ended.few, x.met.few))))
+      (lt_or_ge s e)
 
   pub added_full : length m ≤ 2 * (s + 1 + (get_or m 0 0 - e)) → Adds m m l u 11
   added_full h = adds_full m l u (room_lacks h)

@@ -1,10 +1,11 @@
 -- `union` has the members of both, and keeps sets canonical. Assumes nothing.
-use Prim.Native.Nat.{ℕ, ◌+◌, ◌≤◌, ◌<◌, min, max}
+use Prim.Native.Nat.{ℕ, suc, ◌+◌, ◌≤◌, ◌<◌, min, max}
 use mathlib.Core.Path.{◌≡◌, refl, ◌∙◌}
 use mathlib.Core.Logic.{⊎_elim}
 use mathlib.Core.Bool.{Bool, true, false, ◌||◌, or_assoc}
 use mathlib.Core.List.{[], ◌∷◌}
 use native.Mathlib.Omega.{arith}
+use lib.ListN.{length}
 use borrow.Author.Tests.{lt-ltb, le-ltb}
 use Rattle.numset.specs.Runs.{run, Runs, Under, Canonical, within, has, insert, union}
 use Rattle.lists.proofs.Tests.{lt_or_ge}
@@ -94,3 +95,20 @@ pub union_canonical : (l u : ℕ) (rs : Runs) → Canonical rs → Canonical (un
 union_canonical l u rs w =
     let top : ℕ = max (top_of rs) (u + 2) in
     canonical top (union l u rs) (union_under top l u rs (under_mono (top_of rs) top rs (omega arith) (under_top_of rs w)) (omega arith))
+
+-- ---- an interval adds at most one run
+insert_most : (l u : ℕ) (rs : Runs) → length (insert l u rs) ≤ suc (length rs)
+unfolding insert
+insert_most l u [] = omega arith
+insert_most l u (run a b ∷ rs) =
+    let k = insert_most l u rs in
+    ⊎_elim
+    (λ p. rw (insert_over l u a b rs p) (omega arith))
+    (λ p. ⊎_elim
+    (λ q. rw (insert_past l u a b rs p q) (omega arith))
+    (λ q. let j = insert_most (min l a) (max u b) rs in rw (insert_join l u a b rs p q) (omega arith))
+    (lt_or_ge (b + 1) l))
+    (lt_or_ge (u + 1) a)
+
+pub most_one : (l u : ℕ) (rs : Runs) → length (union l u rs) ≤ suc (length rs)
+most_one l u rs = ⊎_elim (λ p. rw (union_none l u rs p) (omega arith)) (λ p. rw (union_some l u rs p) (insert_most l u rs)) (lt_or_ge u l)

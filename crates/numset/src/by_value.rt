@@ -1,5 +1,6 @@
 // A set by value, with room for 64 runs. Each function lends the words to the core, and does nothing of its own.
 ghost use Rattle.std.specs.Prelude.{◌≡◌, true, [], ◌↔◌, length};
+ghost use Rattle.numbers.specs.Refusals.{refused_with};
 ghost use Rattle.numset.specs.Runs.{SET_WORDS, Good, Covers, runs, has, kept, union, pack, add_number, add_words, add_count};
 
 use crate::Tally;
@@ -13,7 +14,7 @@ pub struct NumSet {
     pub words: [u64; SET_WORDS],
 }
 
-// What an addition to a set by value hands back: its number with the count, and the set.
+// What an addition to a set by value hands back: whether there was room and the count, and the set.
 #[derive(Clone, Copy)]
 pub struct Added {
     pub tally: Tally,
@@ -33,13 +34,14 @@ impl NumSet {
         ensures { result.words ≡ pack SET_WORDS (union lower upper []) }
     {
         let mut words = [0u64; SET_WORDS];
-        crate::set_to(&mut words, lower, upper);
+        // Never refused: so many words have room for one run.
+        let _ = crate::set_to(&mut words, lower, upper);
         Self { words }
     }
 
     pub fn add(self, lower: u64, upper: u64) -> Added
         requires { Good self.words }
-        ensures { (result.tally.number ≡ add_number self.words lower upper) × (result.tally.count ≡ add_count self.words lower upper) × (result.set.words ≡ add_words self.words lower upper) }
+        ensures { (refused_with result.tally.outcome ≡ add_number self.words lower upper) × (result.tally.count ≡ add_count self.words lower upper) × (result.set.words ≡ add_words self.words lower upper) }
     {
         let mut words = self.words;
         let tally = crate::add(&mut words, lower, upper);

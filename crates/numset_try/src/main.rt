@@ -6,7 +6,7 @@ mod print; // print.rt: a call, and what it gave, on one line
 
 ghost use Rattle.numset.specs.Runs.{Good};
 
-use numbers::{ACCEPTED, MAX, MOST_RUNS};
+use numbers::{MAX, MOST_RUNS};
 use numset::{NumSet, SET_WORDS};
 use print::{
     add, add_to_many, add_value, added, ask, ask_cover, ask_room, ask_value, clear, drop_before,
@@ -71,17 +71,9 @@ fn members(rt: &(impl Print + Eprint), set: &mut [u64])
 fn ask_ends(rt: &(impl Print + Eprint), set: &[u64])
     requires { Good set.now }
 {
-    ask(rt, set, 0);
-    ask(rt, set, 1);
-    ask(rt, set, 2);
-    ask(rt, set, 3);
-    ask(rt, set, 9);
-    ask(rt, set, 10);
-    ask(rt, set, 20);
-    ask(rt, set, 21);
-    ask(rt, set, 29);
-    ask(rt, set, 30);
-    ask(rt, set, MAX);
+    for t in [0, 1, 2, 3, 9, 10, 20, 21, 29, 30, MAX] {
+        ask(rt, set, t);
+    }
 }
 
 fn coverage(rt: &(impl Print + Eprint), set: &mut [u64])
@@ -163,10 +155,8 @@ fn fill(rt: &(impl Print + Eprint), set: &mut [u64])
     ensures { Good set.new }
 {
     clear(rt, set);
-    let mut i = 0;
-    while i < FULL {
+    for i in 0..FULL {
         added(set, 2 * i, 2 * i);
-        i += 1;
     }
     text(rt, b"  filled: ");
     many(rt, set);
@@ -339,9 +329,9 @@ fn old_runs(rt: &(impl Print + Eprint), set: &mut [u64])
 
 // The words may hold anything at first.
 fn show_all(rt: &(impl Print + Eprint), set: &mut [u64]) {
-    if numset::empty(set) != ACCEPTED {
+    let Ok(()) = numset::empty(set) else {
         return;
-    }
+    };
     examples(rt, set);
     edges(rt, set);
     old_runs(rt, set);

@@ -1,6 +1,7 @@
 // A call, and what it gave, on one line.
 ghost use Rattle.numset.specs.Runs.{Good};
 
+use numbers::{Refusal, refused_with};
 use numset::{NumSet, Tally};
 use show::{instant, interval, runs, text};
 
@@ -12,27 +13,27 @@ fn answer(rt: &(impl Print + Eprint), yes: bool) {
     text(rt, b": no\n");
 }
 
-fn result(rt: &(impl Print + Eprint), number: u64, set: &[u64])
+fn result(rt: &(impl Print + Eprint), outcome: Result<(), Refusal>, set: &[u64])
     requires { Good set.now }
 {
     text(rt, b": ");
-    instant(rt, number);
+    instant(rt, refused_with(outcome));
     text(rt, b" ");
     runs(rt, set);
 }
 
 // What an addition hands back.
-fn handed(rt: &(impl Print + Eprint), number: u64, count: u64) {
+fn handed(rt: &(impl Print + Eprint), sum: Tally) {
     text(rt, b": ");
-    instant(rt, number);
+    instant(rt, refused_with(sum.outcome));
     text(rt, b", count ");
-    instant(rt, count);
+    instant(rt, sum.count);
 }
 
-fn counted(rt: &(impl Print + Eprint), number: u64, count: u64, set: &[u64])
+fn counted(rt: &(impl Print + Eprint), sum: Tally, set: &[u64])
     requires { Good set.now }
 {
-    handed(rt, number, count);
+    handed(rt, sum);
     text(rt, b" ");
     runs(rt, set);
 }
@@ -43,8 +44,8 @@ pub fn set_to(rt: &(impl Print + Eprint), set: &mut [u64], lower: u64, upper: u6
 {
     text(rt, b"  set to ");
     interval(rt, lower, upper);
-    let number = numset::set_to(set, lower, upper);
-    result(rt, number, set);
+    let outcome = numset::set_to(set, lower, upper);
+    result(rt, outcome, set);
 }
 
 // The set's own `add`, of which only this is needed here: it gives a set again.
@@ -62,7 +63,7 @@ pub fn add(rt: &(impl Print + Eprint), set: &mut [u64], lower: u64, upper: u64)
     text(rt, b"  add ");
     interval(rt, lower, upper);
     let sum = added(set, lower, upper);
-    counted(rt, sum.number, sum.count, set);
+    counted(rt, sum, set);
 }
 
 // Adds, where the set is too long to print whole.
@@ -73,7 +74,7 @@ pub fn add_to_many(rt: &(impl Print + Eprint), set: &mut [u64], lower: u64, uppe
     text(rt, b"  add ");
     interval(rt, lower, upper);
     let sum = added(set, lower, upper);
-    handed(rt, sum.number, sum.count);
+    handed(rt, sum);
     text(rt, b", ");
     many(rt, set);
 }
@@ -171,7 +172,7 @@ pub fn add_value(rt: &(impl Print + Eprint), set: NumSet, lower: u64, upper: u64
     let words = after.words;
     text(rt, b"  add ");
     interval(rt, lower, upper);
-    counted(rt, sum.tally.number, sum.tally.count, &words);
+    counted(rt, sum.tally, &words);
 }
 
 // What is left of a set by value.

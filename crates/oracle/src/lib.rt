@@ -6,16 +6,16 @@ ghost use Rattle.std.specs.Prelude.{◌≡◌};
 ghost use Rattle.memory.specs.Kept.{Kept};
 ghost use Rattle.property_answers.specs.Verdict.{properties_in};
 
+pub use book::kind::Kind;
 pub use book::loading::Loading;
 pub use book::strict::{Excess, first_excess};
-pub use book::{AND, ATOM, FALSE, HISTORICALLY, IMPLIES, NOT, ONCE, OR, SINCE, TRUE};
 pub use calls::{update_stamped, update_state, update_time};
 pub use ledger::Summary;
 pub use loader::{load, load_by, load_lasting, load_lasting_strict, load_strict};
 pub use memory::{SIZE, clock};
-pub use numbers::MOST_PROPERTIES;
+pub use numbers::{MOST_PROPERTIES, Refusal, refused_with};
 pub use numset::Tally;
-pub use pmtl::{Answer, bit, digit};
+pub use pmtl::Answer;
 pub use property_answers::{Verdict, Verdicts, all, answers, of_property};
 pub use property_summaries::{summaries, summary_of};
 

@@ -13,6 +13,9 @@ use Rattle.lists.proofs.Tests.{lt_or_ge}
 use Rattle.pmtl.specs.Book.{Row, map_row, Range, stop}
 use Rattle.memory.specs.Layout.{OPERANDS}
 use Rattle.memory.specs.Memory.{row_count, clock_of, way_word, kind_at, arg_at, lower_at, upper_at, start_at, operands_of, row_of, is_one}
+use Rattle.book.specs.declared.kind.Kind.{Kind}
+use Rattle.book.specs.declared.kind.Kind.TheVariants.{False, True, Atom, And, Or, Not, Implies, Historically, Once, Since}
+use Rattle.book.specs.Kinds.{word_of_kind, kind_of_word}
 use Rattle.book.specs.Rows.{row_from, count_of}
 use Rattle.memory.specs.Kept.{BookKept, Span}
 use Rattle.memory.proofs.Rows.{Read, span_read, first_is, second_is, first_below, second_below}
@@ -20,6 +23,23 @@ use Rattle.row_answers.proofs.Answers.{span_as, first_inside, second_inside}
 use Rattle.set_change.specs.Change.{mode_of, mode_in}
 use Rattle.set_change.proofs.AsOne.{small_from, large_from}
 use Rattle.planning.specs.Plan.{spans_in, counts_from}
+
+-- another kind has another word
+kind_back : (k : Kind) → kind_of_word (word_of_kind k) ≡ k
+unfolding kind_of_word
+kind_back False = refl
+kind_back True = refl
+kind_back Atom = refl
+kind_back And = refl
+kind_back Or = refl
+kind_back Not = refl
+kind_back Implies = refl
+kind_back Historically = refl
+kind_back Once = refl
+kind_back Since = refl
+
+pub other_word : {k : Kind} (j : Kind) → (k ≡ j → ⊥) → word_of_kind k ≡ word_of_kind j → ⊥
+other_word {k} j n e = n (sym (kind_back k) ∙ ap kind_of_word e ∙ kind_back j)
 
 -- a temporal row has an operand
 some_operand : (k arg : ℕ) → 7 ≤ k → k ≤ 9 → 0 < count_of k arg
@@ -35,7 +55,10 @@ some_operand k arg h l =
     go (suc (suc (suc j))) h = absurd (omega arith)
 
 -- a row whose kind and place of operands the code has read
-module _ {m : List ℕ} {r kind start : ℕ} (kept : BookKept m) (inside : r < row_count m) (temporal : 7 ≤ kind_at m r) (ek : kind ≡ kind_at m r) (es : start ≡ start_at m r) where
+module _ {m : List ℕ} {r kind start : ℕ} (kept : BookKept m) (inside : r < row_count m) (temporal : 7 ≤ kind_at m r) (told : kind_at m r < 10 → kind ≡ kind_at m r) (es : start ≡ start_at m r) where
+  ek : kind ≡ kind_at m r
+  ek = told (omega (arith, (kept.rows r inside).kind))
+
   pub read : Read m r kind (arg_at m r) start
   read = record { kept = kept; inside = inside; kind_is = ek; arg_is = refl; start_is = es }
 
@@ -43,7 +66,7 @@ module _ {m : List ℕ} {r kind start : ℕ} (kept : BookKept m) (inside : r < r
   few = (kept.rows r inside).kind
 
   one : 0 < count_of kind (arg_at m r)
-  one = some_operand kind (arg_at m r) (omega arith) (omega (arith, few))
+  one = some_operand kind (arg_at m r) (omega (arith, ek)) (omega (arith, ek, few))
 
   pub first_place : start < 128
   first_place = first_inside read refl one
@@ -53,7 +76,7 @@ module _ {m : List ℕ} {r kind start : ℕ} (kept : BookKept m) (inside : r < r
 
   -- neither Historically nor Once
   past : (kind ≡ 7 → ⊥) → (kind ≡ 8 → ⊥) → kind ≡ 9
-  past p q = omega (arith, few)
+  past p q = omega (arith, ek, few)
 
   two : (kind ≡ 7 → ⊥) → (kind ≡ 8 → ⊥) → Span m r start 2
   unfolding count_of

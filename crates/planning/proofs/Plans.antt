@@ -3,6 +3,7 @@ use Prim.Native.Nat.{ℕ, zero, suc, ◌+◌, ◌*◌, ◌≤◌, ◌<◌, min}
 use mathlib.Core.Path.{◌≡◌, refl, sym, ap, ap₂, subst, ◌∙◌}
 use mathlib.Core.Logic.{⊎_elim}
 use mathlib.Core.Bool.{Bool, true, false, cond, not, true≢false}
+use Rattle.std.specs.Prelude.{Result, Ok, Err, is_ok}
 use mathlib.Core.List.{List, [], ◌∷◌, map}
 use native.Mathlib.Omega.{arith}
 use lib.ListN.{length, get_or, length-set}
@@ -19,6 +20,8 @@ use Rattle.pmtl.specs.Book.{Range, Row, Rows, row_at, map_row, Below, start, sto
 use Rattle.pmtl.specs.Sets.{Renew, ordinary, lasting, renewed_in, set_rule_by}
 use Rattle.pmtl.specs.Monitor.{Snap, State, set_at, value_rule, value}
 use Rattle.numbers.specs.Limits.{LAST_TIME, MOST_RUNS}
+use Rattle.numbers.specs.declared.Refusal.{Refusal}
+use Rattle.numbers.specs.declared.Refusal.TheVariants.{NoRoom}
 use Rattle.pmtl.specs.Calls.{crowded}
 use Rattle.pmtl.proofs.Table.{map_row_local}
 use Rattle.pmtl.proofs.Answers.{value_fix, set_fix_by, step_sets_by, step_now_by}
@@ -224,8 +227,8 @@ module _ {m : List ℕ} {spans : Bool} {modes₀ : List ℕ} {c : ℕ} {atoms : 
           ∙ ap₂ (λ (s : Runs) (row : Row Bool). set_rule_by (renew_over m spans) c s row) (sym (ahead_at m c modes₀ n h)) operands_right
           ∙ sym (set_now m sound.book (renew_over m spans) (ahead m c modes₀) c atoms n h)
 
-      module _ {bytes m'' modes' : List ℕ} {room turned : Bool} (same : value_next m' spans c modes bytes n ≡ value_next m' spans c modes atoms n) (t : RowTried m' spans c bytes modes n m'' modes' room turned) where
-        fits_right : fits SET_WORDS (set_at (step_of m (renew_over m spans) (ahead m c modes₀) c atoms) n) ≡ room
+      module _ {bytes m'' modes' : List ℕ} {turned : Result Bool Refusal} (same : value_next m' spans c modes bytes n ≡ value_next m' spans c modes atoms n) (t : RowTried m' spans c bytes modes n m'' modes' turned) where
+        fits_right : fits SET_WORDS (set_at (step_of m (renew_over m spans) (ahead m c modes₀) c atoms) n) ≡ is_ok turned
         fits_right = sym (ap (fits SET_WORDS) set_right) ∙ sym t.room_is
 
         -- the mode of a slot whose row is below stays; that of this row is noted
@@ -258,7 +261,7 @@ module _ {m : List ℕ} {spans : Bool} {modes₀ : List ℕ} {c : ℕ} {atoms : 
             (λ (k : 7 ≤ kind_at m' n). rw (le-leb 7 (kind_at m' n) k) (length-set modes (slot_at m' n) (mode_next m' spans modes n) ∙ g.modes_long))
             (lt_or_ge (kind_at m' n) 7)
 
-        pub going_more : room ≡ true → Going m spans modes₀ c atoms m'' modes' (n + 1)
+        pub going_more : is_ok turned ≡ true → Going m spans modes₀ c atoms m'' modes' (n + 1)
         going_more e =
             rw (t.mode_is_put e)
             (record {
@@ -280,14 +283,14 @@ module _ {m : List ℕ} {spans : Bool} {modes₀ : List ℕ} {c : ℕ} {atoms : 
                   (lt_or_ge (owner_at m j) n);
             })
 
-        temporal_full : room ≡ false → 7 ≤ kind_at m n
+        temporal_full : is_ok turned ≡ false → 7 ≤ kind_at m n
         temporal_full e =
             ⊎_elim
             (λ (k : kind_at m n < 7). absurd (true≢false (sym (ap (fits SET_WORDS) (set_none m sound.book (renew_over m spans) (ahead m c modes₀) c atoms n h k)) ∙ fits_right ∙ e)))
             (λ (k : 7 ≤ kind_at m n). k)
             (lt_or_ge (kind_at m n) 7)
 
-        pub going_full : room ≡ false → {ms : List ℕ} → Planned m (renew_over m spans) (ahead m c modes₀) c atoms m'' false ms
+        pub going_full : is_ok turned ≡ false → {ms : List ℕ} → Planned m (renew_over m spans) (ahead m c modes₀) c atoms m'' false ms
         going_full e =
             let k = temporal_full e in
             let row = sound.book.rows n h in
@@ -346,16 +349,16 @@ module _ {m : List ℕ} {c j r : ℕ} (slot : Slot m c j r) where
     pub plan_made :
         {mode s t : ℕ} {room here : Bool} → s ≡ start (range_at m r) (counts_from m c mode) → t ≡ stop (range_at m r) c
         → room ≡ fits SET_WORDS (changed mode s t c (ringed p)) → here ≡ has (changed mode s t c (ringed p)) c → {wanted : ℕ} → mode ≡ wanted
-        → record { mode = mode; here = here; room = room } ≡ row_plan m c wanted j
+        → cond room (Ok (record { mode = mode; here = here })) (Err NoRoom) ≡ row_plan m c wanted j
     plan_made {mode} {s} {t} {room} {here} es et er eh {wanted} em =
         let q : changed mode s t c (ringed p) ≡ set_after m c wanted j = rw (es, et, e, slot.owner, em) in
         let er' : room ≡ fits SET_WORDS (set_after m c wanted j) = er ∙ ap (λ (rs : Runs). fits SET_WORDS rs) q in
         let eh' : here ≡ has (set_after m c wanted j) c = eh ∙ ap (λ (rs : Runs). has rs c) q in
-        λ i. record { mode = em i; here = eh' i; room = er' i }
+        λ i. cond (er' i) (Ok (record { mode = em i; here = eh' i })) (Err NoRoom)
 
     -- a set that stays has room for itself
     pub plan_stays :
-        {mode : ℕ} {here : Bool} → mode ≡ 0 → here ≡ has (ringed p) c → {wanted : ℕ} → mode ≡ wanted → record { mode = mode; here = here; room = true } ≡ row_plan m c wanted j
+        {mode : ℕ} {here : Bool} → mode ≡ 0 → here ≡ has (ringed p) c → {wanted : ℕ} → mode ≡ wanted → Ok (record { mode = mode; here = here }) ≡ row_plan m c wanted j
     plan_stays {mode} {here} z eh {wanted} em =
         let g = range_at m r in
         let s : ℕ = start g (counts_from m c mode) in

@@ -1,9 +1,10 @@
 -- What a step with fresh atoms passes over: a row to which nothing is new keeps its value and its set. Assumes nothing.
-use Prim.Native.Nat.{ℕ, zero, suc, ◌+◌, ◌*◌, ◌≤◌, ◌<◌}
+use Prim.Native.Nat.{ℕ, zero, suc, ◌+◌, ◌-◌, ◌*◌, ◌≤◌, ◌<◌}
 use native.Mathlib.Omega.{arith}
 use mathlib.Core.Path.{◌≡◌, refl, sym, ap, ap₂, subst, ◌∙◌}
 use mathlib.Core.Logic.{⊎_elim}
 use mathlib.Core.Bool.{Bool, true, false, cond, true≢false}
+use Rattle.std.specs.Prelude.{Ok}
 use mathlib.Core.List.{List, map}
 use lib.ListN.{get_or, set, get_or-map}
 use lib.Seq.{set-get_or}
@@ -20,7 +21,11 @@ use Rattle.pmtl.specs.Monitor.{State, set_at, value_rule, value}
 use Rattle.pmtl.proofs.Lowest.{lowest_low, between}
 use Rattle.pmtl.proofs.Renewed.{renewed_now}
 use Rattle.pmtl.proofs.Answers.{value_fix, set_fix_by}
+use Rattle.book.specs.declared.kind.Kind.{Kind}
+use Rattle.book.specs.declared.kind.Kind.TheVariants.{Atom}
+use Rattle.book.specs.Kinds.{word_of_kind, kind_of_word}
 use Rattle.book.specs.Rows.{row_from, ATOM}
+use Rattle.memory.proofs.KindWords.{word_back}
 use Rattle.memory.specs.Layout.{ROWS, ROW, VALUES, LOWEST}
 use Rattle.memory.specs.Memory.{row_count, begun_word, temporals, kind_at, arg_at, slot_at, owner_at, value_at, moves_at, lowest_at, row_of, rows_of, is_one}
 use Rattle.memory.specs.Tables.{Founded}
@@ -46,14 +51,33 @@ unfolding row_of row_from value_rule
 atom_value atoms here f m r k = rw k (get_or-map is_one atoms (arg_at m r) 0)
 
 -- ---- as the code finds it
-module _ (m bytes : List ℕ) (r changed : ℕ) {k : ℕ} (ek : k ≡ kind_at m r) where
-  pub new_byte : k ≡ 2 → {v w : Bool} {a : ℕ} → v ≡ held_in m r → a ≡ arg_at m r → w ≡ is_one (get_or bytes a 0) → turned_to v w ≡ new_to m bytes r changed
-  unfolding new_to
-  new_byte two ev ea ew = ap₂ turned_to ev (ew ∙ ap (λ (x : ℕ). is_one (get_or bytes x 0)) ea) ∙ sym (rw (eq-eqb (kind_at m r) ATOM (sym ek ∙ two)))
+past_last : (k : ℕ) → word_of_kind (kind_of_word (suc (suc (suc (suc (suc (suc (suc (suc (suc (suc k))))))))))) ≡ 9
+unfolding kind_of_word
+past_last k = refl
 
-  pub new_below : (k ≡ 2 → ⊥) → {l : ℕ} → l ≡ lowest_at m r → ltb l changed ≡ new_to m bytes r changed
+pub atom_word : (w : ℕ) → kind_of_word w ≡ Atom → w ≡ 2
+atom_word w e =
+    ⊎_elim (λ (p : w < 10). sym (word_back w p) ∙ ap word_of_kind e)
+    (λ (p : 10 ≤ w).
+    let large : w ≡ suc (suc (suc (suc (suc (suc (suc (suc (suc (suc (w - 10)))))))))) = omega arith in
+    let nine = past_last (w - 10) in
+    let two : word_of_kind (kind_of_word w) ≡ 2 = ap word_of_kind e in
+    let same : word_of_kind (kind_of_word w) ≡ 9 = ap (λ (x : ℕ). word_of_kind (kind_of_word x)) large ∙ nine in
+    absurd (omega arith))
+    (lt_or_ge w 10)
+
+not_word : (w : ℕ) → (kind_of_word w ≡ Atom → ⊥) → w ≡ 2 → ⊥
+unfolding kind_of_word
+not_word w n e = n (ap kind_of_word e)
+
+module _ (m bytes : List ℕ) (r changed : ℕ) {kind : Kind} (ek : kind ≡ kind_of_word (kind_at m r)) where
+  pub new_byte : kind ≡ Atom → {v w : Bool} {a : ℕ} → v ≡ held_in m r → a ≡ arg_at m r → w ≡ is_one (get_or bytes a 0) → turned_to v w ≡ new_to m bytes r changed
   unfolding new_to
-  new_below other el = ap (λ (x : ℕ). ltb x changed) el ∙ sym (rw (ne_eqb (kind_at m r) ATOM (λ e. other (ek ∙ e))))
+  new_byte atom ev ea ew = ap₂ turned_to ev (ew ∙ ap (λ (x : ℕ). is_one (get_or bytes x 0)) ea) ∙ sym (rw (eq-eqb (kind_at m r) ATOM (atom_word (kind_at m r) (sym ek ∙ atom))))
+
+  pub new_below : (kind ≡ Atom → ⊥) → {l : ℕ} → l ≡ lowest_at m r → ltb l changed ≡ new_to m bytes r changed
+  unfolding new_to
+  new_below other el = ap (λ (x : ℕ). ltb x changed) el ∙ sym (rw (ne_eqb (kind_at m r) ATOM (not_word (kind_at m r) (λ e. other (ek ∙ e)))))
 
 pub visited_fresh : (m bytes : List ℕ) (r changed : ℕ) {fresh v : Bool} → fresh ≡ true → v ≡ new_to m bytes r changed → v ≡ visited m bytes r fresh changed
 unfolding visited
@@ -69,19 +93,9 @@ unmade_made m eb one = sym (rw (eq-eqb (begun_word m) 1 (sym eb ∙ one)))
 pub unmade_all : (m : List ℕ) {b : ℕ} → b ≡ begun_word m → (b ≡ 1 → ⊥) → MOST_ROWS ≡ unmade_in m
 unmade_all m eb other = sym (rw (ne_eqb (begun_word m) 1 (λ e. other (eb ∙ e))))
 
-pub unmade_most : (m : List ℕ) {n : ℕ} → n ≡ unmade_in m → n ≤ MOST_ROWS
-unmade_most m e = rw e (go (is_one (begun_word m)))
-  where
-    go : (b : Bool) → cond b 0 MOST_ROWS ≤ MOST_ROWS
-    go true = omega arith
-    go false = omega arith
-
 -- the rows up to n that are not below `changed` have the values that stand in the table
 pub record Spared (m : List ℕ) (new : ℕ → Bool) (changed n : ℕ) : Type 0 where
   pub same : (o : ℕ) → o < n → changed ≤ o → new o ≡ held_in m o
-
-pub spared_start : (m : List ℕ) (new : ℕ → Bool) (changed : ℕ) → Spared m new changed 0
-spared_start m new changed = record { same = λ o h l. absurd (omega arith) }
 
 -- a row that was changed: none past it is
 pub spared_turned : (m : List ℕ) (new : ℕ → Bool) (n all : ℕ) → Spared m new (n + 1 + all) (n + 1)
@@ -278,11 +292,11 @@ module _ {m : List ℕ} (sound : Sound m) {c : ℕ} {modes₀ m' modes : List �
   -- and one that was tried and keeps its value
   pub spared_on :
       (fresh : Bool) → spans ≡ spans_in m fresh → (bytes : List ℕ) → Going m spans modes₀ c (atoms_for m fresh bytes) m' modes n → c ≤ LAST_TIME → (fresh ≡ false → Kept m × Unplanned m modes₀)
-      → {m'' modes' : List ℕ} {room turned : Bool} → RowTried m' spans c bytes modes n m'' modes' room turned → room ≡ true → turned ≡ false
+      → {m'' modes' : List ℕ} {turned : Bool} → RowTried m' spans c bytes modes n m'' modes' (Ok turned) → turned ≡ false
       → {changed : ℕ} → (fresh ≡ true → Spared m (new_of m c modes₀ bytes) changed n) → fresh ≡ true → Spared m (new_of m c modes₀ bytes) changed (n + 1)
-  spared_on true es bytes g early first t room turned spared z =
+  spared_on true es bytes g early first t turned spared z =
       let g₁ = subst (λ (s : Bool). Going m s modes₀ c bytes m' modes n) es g in
       let right = value_right sound early (λ q. absurd (true≢false (sym q))) g₁ h in
-      let same = sym (t.turned_is room) ∙ turned in
+      let same = sym t.turned_is ∙ turned in
       spared_tried sound g₁ h (spared z) right (subst (λ (s : Bool). turned_to (held_in m' n) (value_next m' s c modes bytes n) ≡ false) es same)
-  spared_on false es bytes g early first t room turned spared z = absurd (true≢false (sym z))
+  spared_on false es bytes g early first t turned spared z = absurd (true≢false (sym z))

@@ -1,7 +1,9 @@
 -- Private steps of the calls: what a step plans, from the sets as the steps before it leave them. No public call cites these. Definitions only.
-use Rattle.std.specs.Prelude.{ℕ, ◌+◌, ◌≤◌, ◌<◌, min, ◌≡◌, Bool, true, false, cond, not, List, [], map, length, get_or, set, ltb, eqb}
+use Rattle.std.specs.Prelude.{ℕ, ◌+◌, ◌≤◌, ◌<◌, min, ◌≡◌, Bool, true, false, cond, not, List, [], map, length, get_or, set, ltb, eqb, Result, Ok, Err, is_ok, IfOk, IsOkUnless}
 use Rattle.std.specs.Bool.{beq}
 use Rattle.numbers.specs.Limits.{MAX, LAST_TIME, MOST_ROWS}
+use Rattle.numbers.specs.declared.Refusal.{Refusal}
+use Rattle.numbers.specs.declared.Refusal.TheVariants.{NoRoom}
 use Rattle.lists.specs.Lists.{listed, filled_from}
 use Rattle.numset.specs.Runs.{Runs, has, fits, SET_WORDS}
 use Rattle.ring.specs.Ring.{ringed}
@@ -71,13 +73,9 @@ value_next m spans c modes atoms r = value_rule (map is_one atoms) (has (set_nex
 abbrev pub mode_at : List ℕ → ℕ → ℕ
 mode_at m r = mode_in (map_row (held_in m) (row_of m r))
 
--- what is planned for slot j: the mode, whether the set will contain the clock, and whether there is room
-abbrev pub row_plan : List ℕ → ℕ → ℕ → ℕ → RowPlan
-row_plan m c mode j = record {
-  mode = mode;
-  here = has (set_after m c mode j) c;
-  room = fits SET_WORDS (set_after m c mode j);
-}
+-- what is planned for slot j, where there is room: the mode, and whether the set will contain the clock
+abbrev pub row_plan : List ℕ → ℕ → ℕ → ℕ → Result RowPlan Refusal
+row_plan m c mode j = cond (fits SET_WORDS (set_after m c mode j)) (Ok (record { mode = mode; here = has (set_after m c mode j) c })) (Err NoRoom)
 
 -- if row r is an atom, there is a byte for it
 pub record Named (m bytes : List ℕ) (r : ℕ) : Type 0 where
@@ -103,13 +101,21 @@ pub record Leading (m modes : List ℕ) (spans : Bool) (r : ℕ) : Type 0 where
 abbrev pub turned_to : Bool → Bool → Bool
 turned_to old new = not (beq old new)
 
+-- of row r it was noted how its set is to change, if it is temporal, and it is known whether the set will contain the clock; or the set lacks room
+pub record ModeNoted (m : List ℕ) (spans : Bool) (c : ℕ) (modes : List ℕ) (r : ℕ) (modes' : List ℕ) (here : Result Bool Refusal) : Type 0 where
+  pub room_is : is_ok here ≡ fits SET_WORDS (set_next m spans c modes r)
+  pub mode_is_put : is_ok here ≡ true → modes' ≡ mode_put m spans modes r
+  pub here_is : IfOk here (λ h. h ≡ has (set_next m spans c modes r) c)
+  pub refused : IsOkUnless here NoRoom
+
 -- row r was tried: its set has room, its value and mode are noted, and it is known whether its value was turned; or it lacks room, and nothing is
-pub record RowTried (m : List ℕ) (spans : Bool) (c : ℕ) (atoms modes : List ℕ) (r : ℕ) (m' modes' : List ℕ) (room turned : Bool) : Type 0 where
-  pub room_is : room ≡ fits SET_WORDS (set_next m spans c modes r)
-  pub value_put : room ≡ true → m' ≡ set m (VALUES + r) (bit_of (value_next m spans c modes atoms r))
-  pub mode_is_put : room ≡ true → modes' ≡ mode_put m spans modes r
-  pub turned_is : room ≡ true → turned ≡ turned_to (held_in m r) (value_next m spans c modes atoms r)
-  pub none : room ≡ false → m' ≡ m
+pub record RowTried (m : List ℕ) (spans : Bool) (c : ℕ) (atoms modes : List ℕ) (r : ℕ) (m' modes' : List ℕ) (turned : Result Bool Refusal) : Type 0 where
+  pub room_is : is_ok turned ≡ fits SET_WORDS (set_next m spans c modes r)
+  pub value_put : is_ok turned ≡ true → m' ≡ set m (VALUES + r) (bit_of (value_next m spans c modes atoms r))
+  pub mode_is_put : is_ok turned ≡ true → modes' ≡ mode_put m spans modes r
+  pub turned_is : IfOk turned (λ t. t ≡ turned_to (held_in m r) (value_next m spans c modes atoms r))
+  pub refused : IsOkUnless turned NoRoom
+  pub none : is_ok turned ≡ false → m' ≡ m
 
 -- something is new to row r where the rows that were changed are below `changed`: to an atom its byte, to another row that one from the lowest below it on is
 unfoldable pub new_to : List ℕ → List ℕ → ℕ → ℕ → Bool

@@ -2,7 +2,7 @@
 // monitor. No set changes yet.
 #![tactic(auto)]
 
-ghost use Rattle.std.specs.Prelude.{◌≡◌, true, false, cond, not, map, ◌+◌, ◌≤◌, ◌<◌, length, get_or, set, eqb};
+ghost use Rattle.std.specs.Prelude.{◌≡◌, true, false, map, ◌+◌, ◌≤◌, ◌<◌, length, get_or, set, is_ok, IsOkUnless};
 ghost use Rattle.pmtl.specs.Answer.{bit_of};
 ghost use Rattle.pmtl.specs.Book.{start, stop, map_row};
 ghost use Rattle.pmtl.specs.Monitor.{value_rule};
@@ -11,21 +11,20 @@ ghost use Rattle.memory.specs.Memory.{row_count, begun_word, width_word, kind_at
 ghost use Rattle.memory.specs.Tables.{Founded};
 ghost use Rattle.memory.specs.Kept.{BookKept, Sound, Kept};
 ghost use Rattle.set_change.specs.Change.{spanned_if, both_of};
-ghost use Rattle.planning.specs.Plan.{ahead, atoms_for, spans_in, renew_over, counts_from, held_in, Named, mode_at, row_plan, Unplanned, Leading, turned_to, RowTried, new_to, visited, unmade_in, Bits, Stands, Bounded, Slot, Planned, Timely};
+ghost use Rattle.planning.specs.Plan.{ahead, atoms_for, spans_in, renew_over, counts_from, held_in, Named, mode_at, row_plan, Unplanned, Leading, turned_to, ModeNoted, RowTried, new_to, visited, unmade_in, Bits, Stands, Bounded, Slot, Planned, Timely};
 ghost use Rattle.book.specs.Rows.{HISTORICALLY};
 ghost use Rattle.numbers.specs.Limits.{LAST_TIME, MOST_ROWS, MOST_TEMPORALS};
 
-use book::{AND, ATOM, FALSE, HISTORICALLY, NOT, ONCE, OR, TRUE};
+use book::kind::Kind;
 use memory::{SIZE, VALUES, holds, operand_at, set_at};
-use numbers::{MAX, MOST_ROWS};
+use numbers::{MAX, MOST_ROWS, Refusal};
 use tables::joined_at;
 
-// What is planned for a temporal row: the change of its set, whether the set will contain the clock, and whether there is room.
+// What is planned for a temporal row whose set has room: the change of its set, and whether the set will contain the clock.
 #[derive(Clone, Copy)]
 pub struct RowPlan {
     pub mode: u8,
     pub here: bool,
-    pub room: bool,
 }
 
 // Whether an atom holds.
@@ -36,29 +35,31 @@ fn atom_at(atoms: &[u8], atom: usize) -> bool
     atoms[atom] == 1
 }
 
-// The new value of a row that is not temporal, where those of its operands are new in the table.
-fn plain_value<'a>(monitor: &'a [u64; SIZE], atoms: &'a [u8], row: usize) -> bool
+// The new value of a row, where those of its operands are new in the table; `here` is whether its set will contain the clock, if it has
+// one.
+fn new_value<'a>(monitor: &'a [u64; SIZE], atoms: &'a [u8], row: usize, here: bool) -> bool
     requires book_kept { BookKept monitor.now }
-    requires row_bound { (row < row_count monitor.now) × (kind_at monitor.now row < HISTORICALLY) }
+    requires row_bound { row < row_count monitor.now }
     requires named { Named monitor.now atoms.now row }
-    ensures { result ≡ value_rule (map is_one atoms.now) false (map_row (held_in monitor.now) (row_of monitor.now row)) }
+    ensures { result ≡ value_rule (map is_one atoms.now) here (map_row (held_in monitor.now) (row_of monitor.now row)) }
 {
-    let words = memory::row_at(monitor, row);
-    let kind = words.kind;
-    match kind {
-        FALSE => false,
-        TRUE => true,
-        ATOM => atom_at(atoms, words.arg),
-        AND => joined_at(monitor, VALUES, words.start, words.arg, false),
-        OR => joined_at(monitor, VALUES, words.start, words.arg, true),
-        NOT => !holds(monitor, operand_at(monitor, words.start)),
-        _ => {
+    let words = memory::read_row(monitor, row);
+    match words.kind {
+        Kind::False => false,
+        Kind::True => true,
+        Kind::Atom => atom_at(atoms, words.arg),
+        Kind::And => joined_at(monitor, VALUES, words.start, words.arg, false),
+        Kind::Or => joined_at(monitor, VALUES, words.start, words.arg, true),
+        Kind::Not => !holds(monitor, operand_at(monitor, words.start)),
+        Kind::Implies => {
             if holds(monitor, operand_at(monitor, words.start)) {
                 holds(monitor, operand_at(monitor, words.start + 1))
             } else {
                 true
             }
         }
+        Kind::Historically => !here,
+        Kind::Once | Kind::Since => here,
     }
 }
 
@@ -68,17 +69,16 @@ fn mode_of(monitor: &[u64; SIZE], row: usize) -> u8
     requires row_bound { (row < row_count monitor.now) × (HISTORICALLY ≤ kind_at monitor.now row) }
     ensures { result ≡ mode_at monitor.now row }
 {
-    let kind = memory::kind_at(monitor, row);
     let start = memory::start_at(monitor, row);
     let first = holds(monitor, operand_at(monitor, start));
-    if kind == HISTORICALLY {
-        return set_change::mode(true, !first);
+    match memory::row_kind(monitor, row) {
+        Kind::Historically => set_change::mode(true, !first),
+        Kind::Once => set_change::mode(true, first),
+        _ => {
+            let second = holds(monitor, operand_at(monitor, start + 1));
+            set_change::mode(first, second)
+        }
     }
-    if kind == ONCE {
-        return set_change::mode(true, first);
-    }
-    let second = holds(monitor, operand_at(monitor, start + 1));
-    set_change::mode(first, second)
 }
 
 // The first instant that a change at a clock counts from: where it spans a stretch that after the clock before, which stands in the
@@ -125,34 +125,24 @@ fn plan_row(
     row: usize,
     before: u8,
     spans: bool,
-) -> RowPlan
+) -> Result<RowPlan, Refusal>
     requires { Slot monitor.now clock slot row }
     ensures { result ≡ row_plan monitor.now clock (spanned_if spans (both_of before (mode_at monitor.now row))) slot }
 {
     let mode = set_change::next(before, mode_of(monitor, row), spans);
     let set = set_at(monitor, slot);
     if mode == set_change::STAYS {
-        return RowPlan {
-            mode,
-            here: ring::contains(set, clock),
-            room: true,
-        };
+        let here = ring::contains(set, clock);
+        return Ok(RowPlan { mode, here });
     }
     let start = start_of(monitor, clock, row, mode);
     let stop = stop_of(monitor, clock, row);
     let ahead = set_change::look_ahead(set, mode, start, stop, clock);
-    RowPlan {
-        mode,
-        here: ahead.here,
-        room: ahead.room,
+    if ahead.room {
+        let here = ahead.here;
+        return Ok(RowPlan { mode, here });
     }
-}
-
-// A temporal row's value: Historically holds where nothing in the set says otherwise.
-fn temporal_value(kind: u64, here: bool) -> bool
-    ensures { result ≡ cond (eqb kind HISTORICALLY) (not here) here }
-{
-    if kind == HISTORICALLY { !here } else { here }
+    Err(Refusal::NoRoom)
 }
 
 // Notes a row's new value. Whether it is another than before.
@@ -161,19 +151,34 @@ fn put_value(monitor: &mut [u64; SIZE], row: usize, value: bool) -> bool
     ensures { (monitor.new ≡ set monitor.old (VALUES + row) (bit_of value)) × (result ≡ turned_to (held_in monitor.old row) value) }
 {
     let old = holds(monitor, row);
-    monitor[VALUES + row] = lists::wide(pmtl::bit(value));
+    monitor[VALUES + row] = u64::from(value);
     old != value
 }
 
-// What came of trying a row: whether its set has room, and whether its value is another than before.
-#[derive(Clone, Copy)]
-pub struct Trial {
-    pub room: bool,
-    pub turned: bool,
+// Notes how the set of a row is to change, if it is temporal, where the values of the rows below it are new in the table; but nothing
+// where the set lacks room. The answer is whether the set will contain the clock.
+fn note_mode(
+    monitor: &[u64; SIZE],
+    clock: u64,
+    row: usize,
+    modes: &mut [u8],
+    spans: bool,
+) -> Result<bool, Refusal>
+    requires timely { Timely monitor.now clock }
+    requires row_bound { (row < row_count monitor.now) × (length modes.old ≡ MOST_TEMPORALS) × Leading monitor.now modes.old spans row }
+    ensures { ModeNoted monitor.now spans clock modes.old row modes.new result }
+{
+    if !memory::row_kind(monitor, row).is_temporal() {
+        return Ok(false);
+    }
+    let slot = memory::slot_at(monitor, row);
+    let plan = plan_row(monitor, clock, slot, row, modes[slot], spans)?;
+    modes[slot] = plan.mode;
+    Ok(plan.here)
 }
 
 // Tries a row, where the values of the rows below it are new in the table: its own is noted, and if it is temporal its mode; but nothing
-// where its set lacks room.
+// where its set lacks room. The answer is whether its value is another than before.
 fn try_row(
     monitor: &mut [u64; SIZE],
     clock: u64,
@@ -181,29 +186,14 @@ fn try_row(
     row: usize,
     modes: &mut [u8],
     spans: bool,
-) -> Trial
+) -> Result<bool, Refusal>
     requires timely { Timely monitor.old clock }
     requires row_bound { (row < row_count monitor.old) × (length modes.old ≡ MOST_TEMPORALS) × Named monitor.old atoms.now row × Leading monitor.old modes.old spans row }
-    ensures { RowTried monitor.old spans clock atoms.now modes.old row monitor.new modes.new result.room result.turned }
+    ensures { RowTried monitor.old spans clock atoms.now modes.old row monitor.new modes.new result }
 {
-    let kind = memory::kind_at(monitor, row);
-    if kind < HISTORICALLY {
-        let value = plain_value(monitor, atoms, row);
-        let turned = put_value(monitor, row, value);
-        return Trial { room: true, turned };
-    }
-    let slot = memory::slot_at(monitor, row);
-    let plan = plan_row(monitor, clock, slot, row, modes[slot], spans);
-    let room = plan.room;
-    if room {
-        modes[slot] = plan.mode;
-        let turned = put_value(monitor, row, temporal_value(kind, plan.here));
-        return Trial { room: true, turned };
-    }
-    Trial {
-        room: false,
-        turned: false,
-    }
+    let here = note_mode(monitor, clock, row, modes, spans)?;
+    let value = new_value(monitor, atoms, row, here);
+    Ok(put_value(monitor, row, value))
 }
 
 // Whether a state says something new to a row: to an atom its byte, to another row that one of those below it was changed. The rows that
@@ -212,10 +202,10 @@ fn is_new(monitor: &[u64; SIZE], atoms: &[u8], row: usize, changed: usize) -> bo
     requires { (row < MOST_ROWS) × Named monitor.now atoms.now row }
     ensures { result ≡ new_to monitor.now atoms.now row changed }
 {
-    if memory::kind_at(monitor, row) == ATOM {
-        return holds(monitor, row) != atom_at(atoms, memory::arg_at(monitor, row));
+    match memory::row_kind(monitor, row) {
+        Kind::Atom => holds(monitor, row) != atom_at(atoms, memory::arg_at(monitor, row)),
+        _ => memory::lowest_at(monitor, row) < changed,
     }
-    memory::lowest_at(monitor, row) < changed
 }
 
 // Whether a step looks at a row: one with fresh atoms at those to which it says something new, a time step at those that move with the
@@ -253,42 +243,29 @@ fn counts_stretch(monitor: &[u64; SIZE], fresh: bool) -> bool
 }
 
 // The plan of a step, from row 0 upward, up to the first row whose set lacks room, over the modes that the steps before it left. A step
-// with no fresh atoms has no bytes for them.
+// with no fresh atoms has no bytes for them. `fresh` stays beside the bytes: what the clause says of either step it says by `fresh`.
 pub fn plan_call(
     monitor: &mut [u64; SIZE],
     clock: u64,
     atoms: &[u8],
     fresh: bool,
     modes: &mut [u8],
-) -> bool
+) -> Result<(), Refusal>
     requires sound { Sound monitor.old × (clock ≤ LAST_TIME) × (fresh ≡ false → Kept monitor.old × Unplanned monitor.old modes.old) }
     requires modes_len { (length modes.old ≡ MOST_TEMPORALS) × (fresh ≡ true → width_word monitor.old ≤ length atoms.now) }
     requires founded { fresh ≡ true → Founded monitor.old × Bits monitor.old × (begun_word monitor.old ≡ 1 → Stands monitor.old clock modes.old) }
-    ensures { Planned monitor.old (renew_over monitor.old (spans_in monitor.old fresh)) (ahead monitor.old clock modes.old) clock (atoms_for monitor.old fresh atoms.now) monitor.new result modes.new }
+    ensures planned { Planned monitor.old (renew_over monitor.old (spans_in monitor.old fresh)) (ahead monitor.old clock modes.old) clock (atoms_for monitor.old fresh atoms.now) monitor.new (is_ok result) modes.new }
+    ensures refused { IsOkUnless result Refusal.NoRoom }
 {
     let spans = counts_stretch(monitor, fresh);
-    let count = memory::row_count(monitor);
     let all = unmade(monitor);
     let mut changed = all;
-    let mut row = 0;
-    while row < count {
+    for row in 0..memory::row_count(monitor) {
         if visits(monitor, atoms, row, fresh, changed) {
-            let tried = try_row(monitor, clock, atoms, row, modes, spans);
-            let room = tried.room;
-            if room {
-                let turned = tried.turned;
-                if turned {
-                    changed = row + 1 + all;
-                    row += 1;
-                } else {
-                    row += 1;
-                }
-            } else {
-                return false;
+            if try_row(monitor, clock, atoms, row, modes, spans)? {
+                changed = row + 1 + all;
             }
-        } else {
-            row += 1;
         }
     }
-    true
+    Ok(())
 }

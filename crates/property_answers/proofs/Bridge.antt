@@ -1,14 +1,12 @@
 -- From the tables to the answers of the monitor that a memory holds. Assumes nothing.
-use Prim.Native.Nat.{ℕ, zero, suc, ◌+◌, ◌≤◌, ◌<◌}
+use Prim.Native.Nat.{ℕ, ◌+◌, ◌≤◌, ◌<◌}
 use native.Mathlib.Omega.{arith}
-use native.Mathlib.Decide.{dec_lt}
 use mathlib.Core.Path.{◌≡◌, refl, sym, ap, ◌∙◌}
-use mathlib.Core.Bool.{Bool, cond}
-use mathlib.Core.List.{List, ◌++◌}
-use lib.ListN.{length, get_or, drop, get_or-eq_default}
+use mathlib.Core.Bool.{Bool, false}
+use mathlib.Core.List.{List}
+use lib.ListN.{length, get_or-eq_default}
 use borrow.Author.Tests.{lt-ltb, le-ltb}
-use Rattle.lists.specs.Lists.{listed, filled_to}
-use Rattle.lists.proofs.Listed.{listed_at}
+use Rattle.lists.specs.Lists.{filled_to}
 use Rattle.lists.proofs.Filled.{filled_to_is}
 use Rattle.pmtl.specs.declared.Answer.{Answer}
 use Rattle.pmtl.specs.declared.Answer.TheVariants.{False, True, Open}
@@ -24,8 +22,8 @@ use Rattle.memory.specs.Kept.{Kept}
 use Rattle.memory.proofs.Bits.{bit_back}
 use Rattle.memory.proofs.Properties.{properties_length, property_is}
 use Rattle.property_answers.specs.declared.Verdict.{Verdict}
-use Rattle.property_answers.specs.Verdict.{verdict_in, verdict_of, properties_in, answers_number, answers_list}
-use Rattle.property_answers.specs.Private.{answer_of, absent, blank, Answered}
+use Rattle.property_answers.specs.Verdict.{verdict_in, verdict_of, properties_in, answers_number, records_list}
+use Rattle.property_answers.specs.Private.{answer_of}
 
 -- a verdict is its three answers
 together : {v v' : Bool} {e e' s s' : Answer} → v ≡ v' → e ≡ e' → s ≡ s'
@@ -38,7 +36,7 @@ module _ (m : List ℕ) where
   property_out kept i h = let long = properties_length m kept.sound.book in get_or-eq_default (properties (book_of m)) _ (omega arith)
 
   -- the answers of a property that is not there
-  pub verdict_out : Kept m → (i : ℕ) → assume_count m + guarantee_count m ≤ i → verdict_of m i ≡ absent
+  pub verdict_out : Kept m → (i : ℕ) → assume_count m + guarantee_count m ≤ i → verdict_of m i ≡ record { value = false; early = Open; settled = Open }
   unfolding verdict_in
   verdict_out kept i h =
       let b = (book_of m).rows in
@@ -47,7 +45,6 @@ module _ (m : List ℕ) where
 
 -- a digit is that of one answer
 answer_back : (x : Answer) → answer_of (digit_of x) ≡ x
-unfolding answer_of
 answer_back False = refl
 answer_back True = refl
 answer_back Open = refl
@@ -64,72 +61,15 @@ verdict_in_lem {m} kept i h {row} is ev ede ee eds es =
     (ap (early (rows_of m) (state_of m)) p ∙ sym (ee ∙ ap answer_of (ede ∙ kept.tables.answered.early i h) ∙ answer_back _))
     (ap (settled (rows_of m) (state_of m)) p ∙ sym (es ∙ ap answer_of (eds ∙ kept.tables.answered.settled i h) ∙ answer_back _))
 
--- ---- all answers into a lent list
-pub few_properties : (m : List ℕ) → Kept m → properties_in m ≤ 32
-few_properties m kept = let e = properties_length m kept.sound.book in let a = kept.sound.book.assumes_few in let g = kept.sound.book.guarantees_few in omega arith
-
-module _ (m : List ℕ) {room count : ℕ} {list : List Verdict} (count_is : count ≡ properties_in m) (list_is : list ≡ listed (verdict_of m) 32) where
-  -- the list is too short, or not
-  pub answered_short : room < count → Answered m room 12 0 list
+-- ---- a record for each property into a lent list: it is too short, or not
+module _ {A : Type 0} (m : List ℕ) (f : ℕ → A) (out : List A) where
+  pub list_short : length out < properties_in m → (12 ≡ answers_number m (length out)) × (out ≡ records_list m f out)
   unfolding answers_number
-  answered_short h =
-      let short : room < properties_in m = omega arith in
-      record { number_is = ap (λ b. cond b 12 0) (sym (lt-ltb room (properties_in m) short)); short = λ _. refl; enough = λ e. omega arith; list_is = list_is }
+  list_short h = rw (lt-ltb (length out) (properties_in m) h) (refl, refl)
 
-  pub answered_enough : count ≤ room → Answered m room 0 count list
+  pub list_filled : properties_in m ≤ length out → (0 ≡ answers_number m (length out)) × (filled_to f out (properties_in m) ≡ records_list m f out)
   unfolding answers_number
-  answered_enough h =
-      let enough : properties_in m ≤ room = omega arith in
-      record { number_is = ap (λ b. cond b 12 0) (sym (le-ltb room (properties_in m) enough)); short = λ e. omega arith; enough = λ _. count_is; list_is = list_is }
-
-module _ (m : List ℕ) (kept : Kept m) (out : List Verdict) {number count : ℕ} {list : List Verdict} (due : Answered m (length out) number count list) where
-  -- which records are stored
-  pub answered_room : count ≤ length out
-  answered_room = go (dec_lt (length out) (properties_in m))
-    where
-      go : Dec (length out < properties_in m) → count ≤ length out
-      go (yes h) = let e = due.short h in omega arith
-      go (no h) = let e = due.enough (omega arith) in omega arith
-
-  pub answered_few : count ≤ 32
-  answered_few = go (dec_lt (length out) (properties_in m))
-    where
-      go : Dec (length out < properties_in m) → count ≤ 32
-      go (yes h) = let e = due.short h in omega arith
-      go (no h) = let e = due.enough (omega arith) in let few = few_properties m kept in omega arith
-
-  pub answered_at : (i : ℕ) → i < count → get_or list i blank ≡ verdict_of m i
-  answered_at i h = let few = answered_few in ap (λ l. get_or l i blank) due.list_is ∙ listed_at (verdict_of m) blank 32 i (omega arith)
-
-  -- and what the list is then
-  pub answered_all : (i : ℕ) → i ≡ count → filled_to (verdict_of m) out i ≡ answers_list m out
-  unfolding answers_list
-  answered_all i all = ap (filled_to (verdict_of m) out) all ∙ go (dec_lt (length out) (properties_in m))
-    where
-      go : Dec (length out < properties_in m) → filled_to (verdict_of m) out count ≡ answers_list m out
-      go (yes h) =
-          ap (filled_to (verdict_of m) out) (due.short h)
-          ∙ ap (λ b. cond b out (listed (verdict_of m) (properties_in m) ++ drop (properties_in m) out)) (sym (lt-ltb (length out) (properties_in m) h))
-      go (no h) =
-          let enough : properties_in m ≤ length out = omega arith in
-          ap (filled_to (verdict_of m) out) (due.enough enough)
-          ∙ filled_to_is (verdict_of m) out (properties_in m) enough
-          ∙ ap (λ b. cond b out (listed (verdict_of m) (properties_in m) ++ drop (properties_in m) out)) (sym (le-ltb (length out) (properties_in m) enough))
-
--- ---- how the code reads a digit
-pub digit_0 : (d : ℕ) → d ≡ 0 → False ≡ answer_of d
-unfolding answer_of
-digit_0 d e = sym (rw e)
-
-pub digit_1 : (d : ℕ) → d ≡ 1 → True ≡ answer_of d
-unfolding answer_of
-digit_1 d e = sym (rw e)
-
-pub digit_2 : (d : ℕ) → (d ≡ 0 → ⊥) → (d ≡ 1 → ⊥) → Open ≡ answer_of d
-unfolding answer_of
-digit_2 zero p q = absurd (p refl)
-digit_2 (suc zero) p q = absurd (q refl)
-digit_2 (suc (suc d)) p q = refl
+  list_filled h = rw (le-ltb (length out) (properties_in m) h) (refl, filled_to_is f out (properties_in m) h)
 
 -- a property's place is inside its part
 pub few_count : {m : List ℕ} {i : ℕ} → Kept m → i < property_count m → i < 32

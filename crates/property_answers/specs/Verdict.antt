@@ -1,5 +1,7 @@
 -- REFERENCE 4.6: what a loaded monitor answers of its properties. Definitions only.
 use Rattle.std.specs.Prelude.{ℕ, cond, List, ◌++◌, length, drop, ltb}
+use Rattle.std.specs.Fmt.{decimal}
+use Rattle.pmtl.specs.Answer.{bit_of, digit_of}
 use Rattle.pmtl.specs.Book.{Book, properties, property_at}
 use Rattle.pmtl.specs.Monitor.{State, value}
 use Rattle.pmtl.specs.Early.{early}
@@ -17,6 +19,10 @@ verdict_in b st i = record {
   settled = settled b.rows st (property_at b i);
 }
 
+-- their digits
+abbrev pub digits_of : Verdict → List ℕ
+digits_of v = decimal (bit_of v.value) ++ decimal (digit_of v.early) ++ decimal (digit_of v.settled)
+
 -- and of the monitor that a memory holds
 abbrev pub verdict_of : List ℕ → ℕ → Verdict
 verdict_of m i = verdict_in (book_of m) (state_of m) i
@@ -29,6 +35,10 @@ properties_in m = length (properties (book_of m))
 unfoldable pub answers_number : List ℕ → (room : ℕ) → ℕ
 answers_number m room = cond (ltb room (properties_in m)) LIST_TOO_SHORT ACCEPTED
 
--- and the list that it leaves: a record for each property, assumes first, and the records beyond as they were; or all of it as it was
+-- a record for each property as f says, assumes first, and the records beyond as they were; or all of the list as it was, where it is too short
+abbrev pub records_list : {A : Type 0} → List ℕ → (ℕ → A) → List A → List A
+records_list m f out = cond (ltb (length out) (properties_in m)) out (listed f (properties_in m) ++ drop (properties_in m) out)
+
+-- and the list of verdicts that it leaves
 unfoldable pub answers_list : List ℕ → List Verdict → List Verdict
-answers_list m out = cond (ltb (length out) (properties_in m)) out (listed (verdict_of m) (properties_in m) ++ drop (properties_in m) out)
+answers_list m out = records_list m (verdict_of m) out

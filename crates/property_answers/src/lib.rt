@@ -1,17 +1,22 @@
 // What a loaded monitor answers of its properties: looks into the tables of its memory.
 #![tactic(auto)]
 
-ghost use Rattle.std.specs.Prelude.{◌≡◌, ◌<◌, length, get_or};
+mod record;
+
+ghost use Rattle.std.specs.Prelude.{◌≡◌, ◌<◌, Some, length};
 ghost use Rattle.lists.specs.Lists.{listed};
 ghost use Rattle.memory.specs.Tables.{property_count};
 ghost use Rattle.memory.specs.Kept.{Kept};
-ghost use Rattle.property_answers.specs.Verdict.{verdict_of, properties_in, answers_number, answers_list};
-ghost use Rattle.property_answers.specs.Private.{answer_of, absent, blank, Answered};
+ghost use Rattle.property_answers.specs.Verdict.{verdict_of, digits_of, properties_in, answers_number, answers_list};
+ghost use Rattle.property_answers.specs.Private.{answer_of};
 ghost use Rattle.numbers.specs.Limits.{MOST_PROPERTIES};
+ghost use Rattle.numbers.specs.Refusals.{refused_with};
 
 use memory::SIZE;
-use numbers::{ACCEPTED, LIST_TOO_SHORT, MOST_PROPERTIES};
+use numbers::{MOST_PROPERTIES, Refusal};
 use pmtl::Answer;
+pub use record::{Told, list_into};
+use std::{array, fmt};
 
 // The answers of a property.
 #[derive(Clone, Copy)]
@@ -21,7 +26,25 @@ pub struct Verdict {
     pub settled: Answer,
 }
 
-// The answers of all properties, assumes first, and how many properties there are.
+// The digits of the answers, as a report has them: value, early and settled.
+impl fmt::Display for Verdict {
+    ghost output = { λ verdict. Some (digits_of verdict) };
+
+    fn fmt<W: fmt::Write>(&self, f: &mut fmt::Formatter<W>) -> fmt::Result {
+        let value = u8::from(self.value);
+        write!(f, "{value}{}{}", self.early.digit(), self.settled.digit())
+    }
+}
+
+// The answers of a property that is not there.
+const ABSENT: Verdict = Verdict {
+    value: false,
+    early: Answer::Open,
+    settled: Answer::Open,
+};
+
+// The answers of all properties, assumes first, and how many properties there are. The list stays an array beside a count, since
+// it is handed out by value and there is no heap.
 #[derive(Clone, Copy)]
 pub struct Verdicts {
     pub count: usize,
@@ -36,17 +59,6 @@ fn answer_of(digit: u64) -> Answer
         0 => Answer::False,
         1 => Answer::True,
         _ => Answer::Open,
-    }
-}
-
-// The answers of a property that is not there.
-fn absent() -> Verdict
-    ensures { result ≡ absent }
-{
-    Verdict {
-        value: false,
-        early: Answer::Open,
-        settled: Answer::Open,
     }
 }
 
@@ -72,9 +84,22 @@ pub fn of_property(monitor: &[u64; SIZE], i: usize) -> Verdict
     ensures { result ≡ verdict_of monitor.now i }
 {
     if memory::property_count(monitor) <= i {
-        return absent();
+        return ABSENT;
     }
     verdict_at(monitor, i)
+}
+
+// A monitor told as verdicts.
+struct AsVerdicts;
+
+impl Told for AsVerdicts {
+    type Record = Verdict;
+
+    ghost told = { verdict_of };
+
+    fn of_property(monitor: &[u64; SIZE], i: usize) -> Verdict {
+        of_property(monitor, i)
+    }
 }
 
 // The answers of all properties, assumes first.
@@ -82,66 +107,18 @@ pub fn all(monitor: &[u64; SIZE]) -> Verdicts
     requires { Kept monitor.now }
     ensures { (result.count ≡ properties_in monitor.now) × (result.list ≡ listed (verdict_of monitor.now) MOST_PROPERTIES) }
 {
-    let count = memory::property_count(monitor);
-    let none = absent();
-    let mut list = [none; MOST_PROPERTIES];
-    let mut i = 0;
-    while i < count {
-        list[i] = verdict_at(monitor, i);
-        i += 1;
+    Verdicts {
+        count: memory::property_count(monitor),
+        list: array::from_fn(|i| of_property(monitor, i)),
     }
-    Verdicts { count, list }
-}
-
-// What is to be stored into a lent list: how many records, and the number to hand back.
-#[derive(Clone, Copy)]
-struct Filling {
-    number: u64,
-    count: usize,
-    list: [Verdict; MOST_PROPERTIES],
-}
-
-// What is to be stored into a list of `room` records: nothing where that is shorter than the properties.
-fn filling_for(monitor: &[u64; SIZE], room: usize) -> Filling
-    requires { Kept monitor.now }
-    ensures { Answered monitor.now room result.number result.count result.list }
-{
-    let verdicts = all(monitor);
-    let list = verdicts.list;
-    let count = verdicts.count;
-    if room < count {
-        return Filling {
-            number: LIST_TOO_SHORT,
-            count: 0,
-            list,
-        };
-    }
-    Filling {
-        number: ACCEPTED,
-        count,
-        list,
-    }
-}
-
-// The record of one property among them.
-fn nth(filling: Filling, i: usize) -> Verdict
-    requires { i < MOST_PROPERTIES }
-    ensures { result ≡ get_or filling.list i blank }
-{
-    filling.list[i]
 }
 
 // The answers of all properties, assumes first, into the first records of `out`. Where that is shorter than the properties, the
-// answer is 12 and nothing is changed.
-pub fn answers(monitor: &[u64; SIZE], out: &mut [Verdict]) -> u64
+// refusal is 12 and nothing is changed.
+#[tactic(auto, unfolding(crate::specs::Verdict::answers_list))]
+pub fn answers(monitor: &[u64; SIZE], out: &mut [Verdict]) -> Result<(), Refusal>
     requires { Kept monitor.now }
-    ensures { (result ≡ answers_number monitor.now (length out.old)) × (out.new ≡ answers_list monitor.now out.old) }
+    ensures { (refused_with result ≡ answers_number monitor.now (length out.old)) × (out.new ≡ answers_list monitor.now out.old) }
 {
-    let filling = filling_for(monitor, out.len());
-    let mut i = 0;
-    while i < filling.count {
-        out[i] = nth(filling, i);
-        i += 1;
-    }
-    filling.number
+    list_into::<AsVerdicts>(monitor, out)
 }

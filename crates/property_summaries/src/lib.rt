@@ -1,18 +1,18 @@
 // What was counted of each property of a loaded monitor: looks into the ledger of its memory.
 #![tactic(auto)]
 
-ghost use Rattle.std.specs.Prelude.{◌≡◌, ◌<◌, length, get_or};
-ghost use Rattle.lists.specs.Lists.{listed};
+ghost use Rattle.std.specs.Prelude.{◌≡◌, ◌<◌, length};
 ghost use Rattle.memory.specs.Tables.{property_count};
 ghost use Rattle.memory.specs.Kept.{Kept};
-ghost use Rattle.property_answers.specs.Verdict.{properties_in, answers_number};
+ghost use Rattle.property_answers.specs.Verdict.{answers_number};
 ghost use Rattle.property_summaries.specs.Summaries.{summary_of, summaries_list};
-ghost use Rattle.property_summaries.specs.Private.{absent_in, blank, Summarized};
-ghost use Rattle.numbers.specs.Limits.{MOST_PROPERTIES};
+ghost use Rattle.property_summaries.specs.Private.{absent_in};
+ghost use Rattle.numbers.specs.Refusals.{refused_with};
 
 use ledger::Summary;
 use memory::{FAILED, FIRST, LAST, LONGEST, SETTLED_CALL, SIZE, entry_word};
-use numbers::{ACCEPTED, LIST_TOO_SHORT, MOST_PROPERTIES};
+use numbers::Refusal;
+use property_answers::{Told, list_into};
 
 // The summary of a property that is not there: calls were accepted, and nothing is counted of it.
 fn absent(monitor: &[u64; SIZE]) -> Summary
@@ -55,78 +55,25 @@ pub fn summary_of(monitor: &[u64; SIZE], i: usize) -> Summary
     summary_at(monitor, i)
 }
 
-// The summaries of all properties, assumes first, and how many properties there are.
-#[derive(Clone, Copy)]
-struct Listing {
-    count: usize,
-    list: [Summary; MOST_PROPERTIES],
-}
+// A monitor told as summaries.
+struct AsSummaries;
 
-// All summaries.
-fn all(monitor: &[u64; SIZE]) -> Listing
-    requires { Kept monitor.now }
-    ensures { (result.count ≡ properties_in monitor.now) × (result.list ≡ listed (summary_of monitor.now) MOST_PROPERTIES) }
-{
-    let count = memory::property_count(monitor);
-    let none = absent(monitor);
-    let mut list = [none; MOST_PROPERTIES];
-    let mut i = 0;
-    while i < count {
-        list[i] = summary_at(monitor, i);
-        i += 1;
+impl Told for AsSummaries {
+    type Record = Summary;
+
+    ghost told = { summary_of };
+
+    fn of_property(monitor: &[u64; SIZE], i: usize) -> Summary {
+        summary_of(monitor, i)
     }
-    Listing { count, list }
-}
-
-// What is to be stored into a lent list: how many records, and the number to hand back.
-#[derive(Clone, Copy)]
-struct Filling {
-    number: u64,
-    count: usize,
-    list: [Summary; MOST_PROPERTIES],
-}
-
-// What is to be stored into a list of `room` records: nothing where that is shorter than the properties.
-fn filling_for(monitor: &[u64; SIZE], room: usize) -> Filling
-    requires { Kept monitor.now }
-    ensures { Summarized monitor.now room result.number result.count result.list }
-{
-    let listing = all(monitor);
-    let list = listing.list;
-    let count = listing.count;
-    if room < count {
-        return Filling {
-            number: LIST_TOO_SHORT,
-            count: 0,
-            list,
-        };
-    }
-    Filling {
-        number: ACCEPTED,
-        count,
-        list,
-    }
-}
-
-// The record of one property among them.
-fn nth(filling: Filling, i: usize) -> Summary
-    requires { i < MOST_PROPERTIES }
-    ensures { result ≡ get_or filling.list i blank }
-{
-    filling.list[i]
 }
 
 // The summaries of all properties, assumes first, into the first records of `out`. Where that is shorter than the properties, the
-// answer is 12 and nothing is changed.
-pub fn summaries(monitor: &[u64; SIZE], out: &mut [Summary]) -> u64
+// refusal is 12 and nothing is changed.
+#[tactic(auto, unfolding(crate::specs::Summaries::summaries_list))]
+pub fn summaries(monitor: &[u64; SIZE], out: &mut [Summary]) -> Result<(), Refusal>
     requires { Kept monitor.now }
-    ensures { (result ≡ answers_number monitor.now (length out.old)) × (out.new ≡ summaries_list monitor.now out.old) }
+    ensures { (refused_with result ≡ answers_number monitor.now (length out.old)) × (out.new ≡ summaries_list monitor.now out.old) }
 {
-    let filling = filling_for(monitor, out.len());
-    let mut i = 0;
-    while i < filling.count {
-        out[i] = nth(filling, i);
-        i += 1;
-    }
-    filling.number
+    list_into::<AsSummaries>(monitor, out)
 }

@@ -8,9 +8,8 @@ ghost use Rattle.buffer_writer.specs.Finish.{Wrote};
 ghost use Rattle.read_rules.specs.Answers.{refused_line, answer_within, answer_to};
 
 use buffer_writer::{finished, put_bytes, put_number};
-use console::Came;
-use numbers::{ACCEPTED, BAD_WORD, LONGEST_INPUT, PAST_LIMIT};
-use rule_reader::read::{BookRead, read_book};
+use numbers::{LONGEST_INPUT, Refusal};
+use rule_reader::read::read_book;
 use trees::book_words::MOST_WORDS;
 
 // A byte more than the longest text that is read, so that a longer one is seen to be longer.
@@ -19,12 +18,12 @@ const ROOM: usize = LONGEST_INPUT + 1;
 // No answer is longer: a book has at most 644 words, none of more than 20 digits, each before one byte.
 const LONGEST_ANSWER: usize = 16384;
 
-// The line of a refusal; 13 has its place.
-fn put_refusal(out: &mut [u8], number: u64, place: usize) -> usize
+// The line of a number, 0 where nothing is wrong; 13 has its place.
+fn put_line(out: &mut [u8], number: u64, place: usize) -> usize
     ensures { Wrote out.old 0 (refused_line number place) out.new result }
 {
     let end = book_writer::put_book_number(out, number);
-    if number == BAD_WORD {
+    if number == Refusal::BadWord.number() {
         let next = put_bytes(out, end, b" ");
         let last = put_number(out, next, place as u64);
         return put_bytes(out, last, b"\n");
@@ -38,12 +37,13 @@ fn put_answer(input: &[u8], out: &mut [u8]) -> usize
     ensures { Wrote out.old 0 (answer_within input.now) out.new result }
 {
     let mut words = [0; MOST_WORDS];
-    let book = read_book(input, &mut words);
-    if book.number != ACCEPTED {
-        return put_refusal(out, book.number, book.place);
+    match read_book(input, &mut words) {
+        Ok(length) => {
+            let head = put_line(out, 0, 0);
+            book_writer::put_book(out, head, lists::part_of(&words, 0, length))
+        }
+        Err(wrong) => put_line(out, wrong.refusal.number(), wrong.place),
     }
-    let head = put_refusal(out, ACCEPTED, 0);
-    book_writer::put_book(out, head, lists::part_of(&words, 0, book.length))
 }
 
 // The answer to a text: its length, or zeros and MAX where it does not fit.
@@ -51,7 +51,7 @@ fn answer(input: &[u8], out: &mut [u8]) -> u64
     ensures { handed result out.new ≡ in_buffer out.old (answer_to input.now) }
 {
     if LONGEST_INPUT < input.len() {
-        let end = put_refusal(out, PAST_LIMIT, 0);
+        let end = put_line(out, Refusal::PastLimit.number(), 0);
         return finished(out, end);
     }
     let end = put_answer(input, out);
@@ -69,8 +69,7 @@ fn show(rt: &(impl Print + Eprint), input: &[u8], out: &mut [u8]) {
 
 fn main(rt: HostRuntime) {
     let mut input = [0u8; ROOM];
-    let came = console::read_all(&rt, &mut input);
-    let Came::Bytes(n) = came else {
+    let Some(n) = console::read_all(&rt, &mut input) else {
         return;
     };
     let mut out = [0u8; LONGEST_ANSWER];

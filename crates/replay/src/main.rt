@@ -1,9 +1,6 @@
 // Prints the reports of recorded inputs. Each stands on standard input after its length, in decimal, and a line feed.
 #![tactic(auto)]
 
-use console::Came;
-use text::Read;
-
 // More than all inputs together, and more than any report of them.
 const ROOM: usize = 65536;
 
@@ -17,19 +14,19 @@ fn show(rt: &(impl Print + Eprint), input: &[u8]) {
     console::print(rt, &out[..length]);
 }
 
-// One input after the other, up to the end or to one that is cut short.
+// One input after the other, up to the end or to one that is cut short. The place moves on by as much as an input takes, which no `for`
+// counts.
 fn show_all(rt: &(impl Print + Eprint), inputs: &[u8]) {
     let mut at = 0;
     while at < inputs.len() {
-        let r = text::next_word(inputs, at);
-        let Read::Word(length, next) = r else {
+        let Ok(length) = text::next_word(inputs, at) else {
             return;
         };
-        if inputs.len() <= next {
+        if inputs.len() <= length.next {
             return;
         }
-        let from = next + 1;
-        let size = length as usize;
+        let from = length.next + 1;
+        let size = length.number as usize;
         if inputs.len() - from < size {
             return;
         }
@@ -41,8 +38,7 @@ fn show_all(rt: &(impl Print + Eprint), inputs: &[u8]) {
 
 fn main(rt: HostRuntime) {
     let mut inputs = [0u8; ROOM];
-    let came = console::read_all(&rt, &mut inputs);
-    let Came::Bytes(count) = came else {
+    let Some(count) = console::read_all(&rt, &mut inputs) else {
         return;
     };
     show_all(&rt, &inputs[..count]);

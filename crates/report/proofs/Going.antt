@@ -7,7 +7,10 @@ use native.Mathlib.Numerals.{add-one}
 use lib.ListN.{length, take}
 use borrow.Author.Tests.{eq-eqb, ne_eqb, lt-ltb, le-ltb}
 use Rattle.text.specs.Words.{next_word, supply_from}
-use Rattle.text.specs.declared.words.Read.TheVariants.{Word, Refused}
+use Rattle.std.proofs.Common.{Option, None, Result, Ok, Err}
+use Rattle.numbers.specs.declared.Refusal.{Refusal}
+use Rattle.numbers.specs.Refusals.{number_of, refused_with}
+use Rattle.text.specs.declared.words.Word.{Word}
 use Rattle.text.proofs.Supplies.{word, refused as ended}
 use Rattle.pmtl.specs.Book.{Rows, Book}
 use Rattle.pmtl.specs.Sets.{Way}
@@ -18,18 +21,16 @@ use Rattle.memory.specs.Memory.{book_of, state_of, ledger_of}
 use Rattle.book.specs.Reading.{got, refused}
 use Rattle.book.specs.declared.loading.Loading.{Loading}
 use Rattle.book.specs.declared.strict.Excess.{Excess}
-use Rattle.book.specs.declared.strict.Excess.TheVariants.{Within}
 use Rattle.book.specs.Strict.{excess_by}
 use Rattle.book.specs.Loading.{way_in, admitted}
 use Rattle.book.proofs.Admitted.{accepted_within}
 use Rattle.book.specs.Judging.{Loaded, whole as wholeBook, loaded}
 use Rattle.memory.specs.Kept.{Kept}
-use Rattle.text_reader.specs.declared.Part as reader
+use Rattle.text_reader.specs.declared.Part.{Part}
 use Rattle.text_reader.specs.Reads.{BookTook, BookRead}
 use Rattle.buffer_writer.specs.Buffer.{Handed}
 use Rattle.buffer_writer.specs.Finish.{finish, Wrote}
 use Rattle.report.specs.declared.text_calls.Turn.{Turn}
-use Rattle.report.specs.declared.text_calls.Turn.TheVariants.{Made, Stopped}
 use Rattle.numbers.specs.Limits.{LONGEST_INPUT}
 use Rattle.report.specs.Lines.{CallsRead, call_then, call_from, or_stop, ending_of, calls_from, calls_after, line_of, lines_of, end_lines, lines_from, call_lines, book_then, book_lines, lines}
 use Rattle.report.specs.Report.{book_line, stop_line, call_line, last_line, line, written, report}
@@ -59,12 +60,12 @@ go_start input from count m out start k =
     record { low = omega arith; size = refl; kept = k; book = refl; on = refl; owed = rw e }
 
 module _ {input : List ℕ} {from count : ℕ} {m₀ out₀ : List ℕ} {start : ℕ} {m out : List ℕ} {at cursor done : ℕ} (g : Going input from count m₀ out₀ start m out at cursor done) where
-  abbrev Next : List ℕ → Turn → Type 0
+  abbrev Next : List ℕ → Result Turn Refusal → Type 0
   Next m' t = Turned input (supply_from input cursor).ending (call_from (supply_from input cursor).ending (supply_from input cursor).words) m m' t
 
-  pub go_called : (m' : List ℕ) {t : Turn} {r next : ℕ} → Next m' t → t ≡ Made r next → CallMade input (supply_from input cursor).ending (call_from (supply_from input cursor).ending (supply_from input cursor).words) m m' r next
+  pub go_called : (m' : List ℕ) (t : Turn) → Next m' (Ok t) → CallMade input (supply_from input cursor).ending (call_from (supply_from input cursor).ending (supply_from input cursor).words) m m' (refused_with t.outcome) t.next
   unfolding Turned
-  go_called m' k e = rw e at k
+  go_called m' t k = k
 
   module _ {m' : List ℕ} {r next : ℕ} (c : CallMade input (supply_from input cursor).ending (call_from (supply_from input cursor).ending (supply_from input cursor).words) m m' r next) where
     made : call (book_of m₀).rows (state_of m) c.what ≡ record { number = r; state = state_of m' }
@@ -103,14 +104,12 @@ module _ {input : List ℕ} {from count : ℕ} {m₀ out₀ : List ℕ} {start :
   unfolding written line last_line lines_from lines_of end_lines calls_from or_stop
   halt {n} k e f = let a = rw g.on at e in rw (f, a) (append-nil (stop_line n))
 
-  go_refused : (m' : List ℕ) {t : Turn} {n : ℕ} → Next m' t → t ≡ Stopped n → call_from (supply_from input cursor).ending (supply_from input cursor).words ≡ refused n
+  go_refused : (m' : List ℕ) (r : Refusal) → Next m' (Err r) → call_from (supply_from input cursor).ending (supply_from input cursor).words ≡ refused (number_of r)
   unfolding Turned
-  go_refused m' k e = rw e at k
+  go_refused m' r k = k
 
-  pub go_stop : (m' : List ℕ) {t : Turn} {h : Handed} {n k : ℕ} → Next m' t → t ≡ Stopped n → done < count → h ≡ finish out at (stop_line k) → k ≡ n → h ≡ finish out₀ start (written (lines_from (book_of m₀) 0 (state_of m₀) (ledger_of m₀) (calls_from (supply_from input from).ending count (supply_from input from).words)))
-  go_stop m' {n = n} c e l p f =
-      p ∙ ap (λ (x : ℕ). finish out at (stop_line x)) f
-      ∙ sym (ap (finish out at) (halt (count - (done + 1)) (go_refused m' c e) (omega arith))) ∙ g.owed
+  pub go_stop : (m' : List ℕ) (r : Refusal) {h : Handed} → Next m' (Err r) → done < count → h ≡ finish out at (stop_line (number_of r)) → h ≡ finish out₀ start (written (lines_from (book_of m₀) 0 (state_of m₀) (ledger_of m₀) (calls_from (supply_from input from).ending count (supply_from input from).words)))
+  go_stop m' r c l p = p ∙ sym (ap (finish out at) (halt (count - (done + 1)) (go_refused m' r c) (omega arith))) ∙ g.owed
 
   none : count - done ≡ zero → written (lines_from (book_of m₀) done (state_of m) (ledger_of m) (calls_from (supply_from input from).ending (count - done) (supply_from input cursor).words)) ≡ written (end_lines (ledger_of m) (ending_of (supply_from input from).ending (supply_from input cursor).words))
   unfolding lines_from lines_of ledger_from calls_from
@@ -121,11 +120,11 @@ module _ {input : List ℕ} {from count : ℕ} {m₀ out₀ : List ℕ} {start :
 
 -- ---- the calls after their count
 module _ (input : List ℕ) (cursor : ℕ) (out : List ℕ) (at : ℕ) (way : Way) (b : Book) where
-  pub no_count : {h : Handed} {r n : ℕ} → next_word input cursor ≡ Refused r → n ≡ r → h ≡ finish out at (stop_line n) → h ≡ finish out at (written (call_lines way b (supply_from input cursor).ending (supply_from input cursor).words))
+  pub no_count : {h : Handed} {r : Refusal} → next_word input cursor ≡ Err r → h ≡ finish out at (stop_line (number_of r)) → h ≡ finish out at (written (call_lines way b (supply_from input cursor).ending (supply_from input cursor).words))
   unfolding written line last_line lines_from lines_of end_lines call_lines calls_after
-  no_count {h} e f p = let s = ended input cursor e in p ∙ rw (s, f, append-nil)
+  no_count {h} e p = let s = ended input cursor e in p ∙ rw (s, append-nil)
 
-  pub after_count : {h : Handed} {count from : ℕ} {st : State} {l : Ledger} → next_word input cursor ≡ Word count from → st ≡ initial_in way b.rows → l ≡ blank_ledger b → h ≡ finish out at (written (lines_from b 0 st l (calls_from (supply_from input from).ending count (supply_from input from).words))) → h ≡ finish out at (written (call_lines way b (supply_from input cursor).ending (supply_from input cursor).words))
+  pub after_count : {h : Handed} {count : Word} {st : State} {l : Ledger} → next_word input cursor ≡ Ok count → st ≡ initial_in way b.rows → l ≡ blank_ledger b → h ≡ finish out at (written (lines_from b 0 st l (calls_from (supply_from input count.next).ending count.number (supply_from input count.next).words))) → h ≡ finish out at (written (call_lines way b (supply_from input cursor).ending (supply_from input cursor).words))
   unfolding call_lines calls_after
   after_count {h} e f k p = let s = (word input cursor e).gave in p ∙ rw (s, f, k)
 
@@ -142,16 +141,16 @@ pub blank_in : {l : Ledger} {b b' : Book} → b' ≡ b → l ≡ blank_ledger b 
 blank_in f e = e ∙ ap blank_ledger (sym f)
 
 module _ (way : Loading) (l : Loaded) (ending : ℕ) (ws : List ℕ) where
-  pub book_accepted : {out out₁ : List ℕ} {at n : ℕ} {h : Handed} {w : Way} {b : Book} → Wrote out 0 (book_line n Within) out₁ at → n ≡ 0 → n ≡ (admitted way l).number → b ≡ (admitted way l).book → w ≡ way_in way
+  pub book_accepted : {out out₁ : List ℕ} {at n : ℕ} {h : Handed} {w : Way} {b : Book} → Wrote out 0 (book_line n None) out₁ at → n ≡ 0 → n ≡ (admitted way l).number → b ≡ (admitted way l).book → w ≡ way_in way
       → h ≡ finish out₁ at (written (call_lines w b ending ws)) → h ≡ finish out 0 (written (book_then way l ending ws))
   unfolding written line book_then
   book_accepted {out} w z e f g p =
       let y : (admitted way l).number ≡ 0 = sym e ∙ z in
       p ∙ sym (w.same (written (call_lines _ _ ending ws)))
       ∙ rw (eq-eqb (admitted way l).number 0 y, e, f, g)
-      (ap (λ (x : Excess). finish out 0 (book_line (admitted way l).number x ++ written (call_lines (way_in way) (admitted way l).book ending ws))) (sym (accepted_within way l y)))
+      (ap (λ (x : Option Excess). finish out 0 (book_line (admitted way l).number x ++ written (call_lines (way_in way) (admitted way l).book ending ws))) (sym (accepted_within way l y)))
 
-  pub book_refused : (out : List ℕ) {n : ℕ} {x : Excess} {h : Handed} → (n ≡ 0 → ⊥) → n ≡ (admitted way l).number → x ≡ excess_by way l.book.rows
+  pub book_refused : (out : List ℕ) {n : ℕ} {x : Option Excess} {h : Handed} → (n ≡ 0 → ⊥) → n ≡ (admitted way l).number → x ≡ excess_by way l.book.rows
       → h ≡ finish out 0 (book_line n x) → h ≡ finish out 0 (written (book_then way l ending ws))
   unfolding written line book_then
   book_refused out {n} z e f p =
@@ -159,9 +158,9 @@ module _ (way : Loading) (l : Loaded) (ending : ℕ) (ws : List ℕ) where
       p ∙ rw (ne_eqb (admitted way l).number 0 y, e, f, append-nil)
 
 -- ---- the whole report
-pub book_there : (input m : List ℕ) {p : reader.Part} {end next : ℕ} → BookRead input m p → p ≡ reader.TheVariants.Words end next → BookTook input m end next
+pub book_there : (input m : List ℕ) {p : Part} → BookRead input m (Ok p) → BookTook input m p.end p.next
 unfolding BookRead
-book_there input m q e = rw e at q
+book_there input m q = q
 
 module _ (way : Loading) (input : List ℕ) where
   pub too_long : LONGEST_INPUT < length input → stop_line 2 ≡ report way input
@@ -169,9 +168,9 @@ module _ (way : Loading) (input : List ℕ) where
   too_long h = rw (lt-ltb LONGEST_INPUT (length input) h, append-nil)
 
   module _ (fits : length input ≤ LONGEST_INPUT) where
-    pub no_book : (m : List ℕ) {p : reader.Part} {n k : ℕ} → BookRead input m p → p ≡ reader.TheVariants.Refused n → k ≡ n → book_line k Within ≡ report way input
+    pub no_book : (m : List ℕ) (r : Refusal) → BookRead input m (Err r) → book_line (number_of r) None ≡ report way input
     unfolding report lines book_lines written line BookRead
-    no_book m q e f = let s = rw e at q in rw (le-ltb LONGEST_INPUT (length input) fits, s, f, append-nil)
+    no_book m r q = rw (le-ltb LONGEST_INPUT (length input) fits, q, append-nil)
 
     pub of_book : {m : List ℕ} {end next : ℕ} → BookTook input m end next → written (book_then way (loaded (take end m)) (supply_from input next).ending (supply_from input next).words) ≡ report way input
     unfolding report lines book_lines loaded wholeBook

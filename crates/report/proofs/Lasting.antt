@@ -7,7 +7,7 @@ use native.Mathlib.Omega.{arith}
 use native.Mathlib.Numerals.{add-one}
 use native.Mathlib.Decide.{ℕ_discrete}
 use lib.Dec.{lit≤}
-use lib.ListN.{length, get_or, take, drop, length-drop, length-append, drop_of_length-le}
+use lib.ListN.{length, take, drop, length-drop, length-append}
 use lib.Seq.{sets, take_all}
 use borrow.Author.Tests.{eq-eqb, ne_eqb}
 use Rattle.text.specs.Words.{space, line_feed, digit0}
@@ -19,7 +19,7 @@ use Rattle.pmtl.specs.declared.Answer.TheVariants.{False, True, Open}
 use Rattle.pmtl.specs.Answer.{bit_of, digit_of}
 use Rattle.lists.specs.Lists.{listed}
 use Rattle.book.specs.declared.strict.Excess.{Excess}
-use Rattle.book.specs.declared.strict.Excess.TheVariants.{Within, Over}
+use Rattle.std.proofs.Common.{Some, None}
 use Rattle.memory.specs.Memory.{row_count, property_row, value_at, early_at, settled_at, fullest_word, book_of, state_of}
 use Rattle.memory.specs.Tables.{property_count, value_of, early_of, settled_of}
 use Rattle.memory.specs.Kept.{Kept}
@@ -27,7 +27,7 @@ use Rattle.property_answers.specs.Verdict.{verdict_in, verdict_of}
 use Rattle.memory.proofs.Properties.{properties_length, property_is}
 use Rattle.buffer_writer.specs.Buffer.{Handed}
 use Rattle.buffer_writer.specs.Finish.{finish, Wrote, Laid}
-use Rattle.buffer_writer.proofs.Writes.{sets_append, it_fits, too_much, and_then, same_bytes, drop_more}
+use Rattle.buffer_writer.proofs.Writes.{sets_append, it_fits, too_much, and_then, same_bytes}
 use Rattle.report.specs.Lines.{PropertyWord, word_of, rest_of, line_of}
 use Rattle.report.specs.Report.{excess_words, property_word, property_words, rest_words, call_line}
 use Rattle.report.specs.Private.{digit_word, word_at, digit_words, LaidOn, digit_rest, digit_line}
@@ -36,14 +36,14 @@ pub ending : {h : Handed} (out : List ℕ) (at : ℕ) {x y : List ℕ} → h ≡
 ending out at p e = p ∙ ap (finish out at) e
 
 -- ---- what strict loading refuses
-pub excess_none : (e : Excess) (out : List ℕ) (at : ℕ) → e ≡ Within → Wrote out at (excess_words e) out at
+pub excess_none : (out : List ℕ) (at : ℕ) → Wrote out at (excess_words None) out at
 unfolding excess_words
-excess_none e out at h = rw h (record { same = λ rest. refl })
+excess_none out at = record { same = λ rest. refl }
 
-pub excess_written : (e : Excess) {row count : ℕ} {out out₁ out₂ : List ℕ} {at at₁ at₂ : ℕ} → e ≡ Over row count → Wrote out at (space ∷ decimal row) out₁ at₁ → Wrote out₁ at₁ (space ∷ decimal count) out₂ at₂
-    → Wrote out at (excess_words e) out₂ at₂
+pub excess_written : (over : Excess) {out out₁ out₂ : List ℕ} {at at₁ at₂ : ℕ} → Wrote out at (space ∷ decimal over.row) out₁ at₁ → Wrote out₁ at₁ (space ∷ decimal over.count) out₂ at₂
+    → Wrote out at (excess_words (Some over)) out₂ at₂
 unfolding excess_words
-excess_written e h p q = rw h (and_then p q)
+excess_written over p q = and_then p q
 
 -- ---- the words of the properties
 pub words_length : (m : List ℕ) (n : ℕ) → length (digit_words m n) ≡ 4 * n
@@ -118,19 +118,6 @@ unfolding digit_rest
 rest_written m words part e number = and_then words (and_then part (rw e at number))
 
 -- ---- a line that is laid
--- the last digits of a number, each at its place
-last_more : (m : List ℕ) (i : ℕ) {l : List ℕ} → i < length m → drop (i + 1) m ≡ l → drop i m ≡ get_or m i 0 ∷ l
-last_more m i h e = drop_more m i h ∙ ap (λ (l : List ℕ). get_or m i 0 ∷ l) e
-
-last_one : (m : List ℕ) (i : ℕ) → i + 1 ≡ length m → drop i m ≡ get_or m i 0 ∷ []
-last_one m i e = last_more m i (omega arith) (drop_of_length-le m {i = i + 1} (omega arith))
-
-pub last_three : (m : List ℕ) → length m ≡ 20 → get_or m 17 0 ∷ get_or m 18 0 ∷ get_or m 19 0 ∷ [] ≡ drop 17 m
-last_three m e = sym (last_more m 17 (omega arith) (last_more m 18 (omega arith) (last_one m 19 (omega arith))))
-
-pub last_four : (m : List ℕ) → length m ≡ 20 → get_or m 16 0 ∷ get_or m 17 0 ∷ get_or m 18 0 ∷ get_or m 19 0 ∷ [] ≡ drop 16 m
-last_four m e = sym (last_more m 16 (omega arith) (sym (last_three m e)))
-
 pub laid_from : (digits : List ℕ) {first k : ℕ} {m m₁ : List ℕ} {at at₁ : ℕ} → first ≡ k → Laid m at (drop k digits) m₁ at₁ → Laid m at (drop first digits) m₁ at₁
 laid_from digits e l = rw e l
 

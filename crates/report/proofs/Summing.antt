@@ -5,12 +5,14 @@ use mathlib.Core.List.{List, [], ◌∷◌, ◌++◌, append-nil, append_assoc, 
 use native.Mathlib.Omega.{arith}
 use native.Mathlib.Numerals.{add-one}
 use lib.ListN.{length}
-use borrow.Author.Tests.{eq-eqb, ne_eqb}
 use Rattle.lists.specs.Lists.{listed}
 use Rattle.lists.proofs.Listed.{listed_length, listed_at}
 use Rattle.text.specs.Words.{line_feed, next_word, supply_from}
 use Rattle.text.specs.Decimals.{decimal}
-use Rattle.text.specs.declared.words.Read.TheVariants.{Word, Refused}
+use Rattle.std.proofs.Common.{true, false, eqb, eqb-true, Ok, Err}
+use Rattle.numbers.specs.declared.Refusal.{Refusal}
+use Rattle.numbers.specs.Refusals.{number_of}
+use Rattle.text.specs.declared.words.Word.{Word}
 use Rattle.text.proofs.Supplies.{word, refused as ended}
 use Rattle.numbers.specs.Refusals.{BAD_WORD, WRONG_LENGTH}
 use Rattle.ledger.specs.Ledger.{Ledger, no_entry, summary_from, summary_at}
@@ -105,14 +107,14 @@ pub ended_written : (m : List ℕ) {out out₁ out₂ : List ℕ} {at at₁ at�
 ended_written m {out} {at = at} p q e = e ∙ at_end (and_then p q) ∙ ap (finish out at) (all_said m)
 
 module _ (input : List ℕ) (cursor : ℕ) (l : Ledger) where
-  pub last_word : {w next : ℕ} → next_word input cursor ≡ Word w next → stop_line WRONG_LENGTH ≡ written (end_lines l (ending_of (supply_from input cursor).ending (supply_from input cursor).words))
+  pub last_word : {w : Word} → next_word input cursor ≡ Ok w → stop_line WRONG_LENGTH ≡ written (end_lines l (ending_of (supply_from input cursor).ending (supply_from input cursor).words))
   unfolding written line last_line end_lines ending_of
   last_word e = rw ((word input cursor e).gave, append-nil)
 
-  pub last_bad : {n : ℕ} → next_word input cursor ≡ Refused n → n ≡ BAD_WORD → stop_line BAD_WORD ≡ written (end_lines l (ending_of (supply_from input cursor).ending (supply_from input cursor).words))
+  pub last_bad : {r : Refusal} → next_word input cursor ≡ Err r → eqb (number_of r) BAD_WORD ≡ true → stop_line (number_of r) ≡ written (end_lines l (ending_of (supply_from input cursor).ending (supply_from input cursor).words))
   unfolding written line last_line end_lines ending_of
-  last_bad {n} e f = rw (ended input cursor e, eq-eqb n BAD_WORD f, append-nil)
+  last_bad {r} e f = rw (ended input cursor e, f, eqb-true (number_of r) BAD_WORD f, append-nil)
 
-  pub last_end : {n : ℕ} → next_word input cursor ≡ Refused n → (n ≡ BAD_WORD → ⊥) → written (end_lines l end) ≡ written (end_lines l (ending_of (supply_from input cursor).ending (supply_from input cursor).words))
+  pub last_end : {r : Refusal} → next_word input cursor ≡ Err r → eqb (number_of r) BAD_WORD ≡ false → written (end_lines l end) ≡ written (end_lines l (ending_of (supply_from input cursor).ending (supply_from input cursor).words))
   unfolding ending_of
-  last_end {n} e f = rw (ended input cursor e, ne_eqb n BAD_WORD f)
+  last_end {r} e f = rw (ended input cursor e, f)

@@ -1,52 +1,44 @@
 -- Laws of a call that is read and made. Assumes nothing.
-use Prim.Native.Nat.{ℕ, zero, suc, ◌≤◌, ◌<◌}
-use mathlib.Core.Path.{◌≡◌, refl}
-use mathlib.Core.Bool.{Bool, true, false}
+use Prim.Native.Nat.{ℕ, ◌<◌}
+use mathlib.Core.Path.{◌≡◌}
 use mathlib.Core.List.{List, ◌∷◌}
 use native.Mathlib.Omega.{arith}
-use lib.Dec.{eqb}
 use lib.ListN.{take}
 use borrow.Author.Tests.{ne_eqb}
-use Rattle.numbers.specs.Refusals.{BAD_WORD}
-use Rattle.text.specs.Words.{next_word, supply_from}
-use Rattle.text.specs.declared.words.Read as text
-use Rattle.text.specs.declared.words.Read.TheVariants.{Word, Refused}
-use Rattle.text.proofs.Supplies.{word, refused as ended}
+use Rattle.std.proofs.Common.{Option, Some, None, Result, Ok, Err}
+use Rattle.numbers.specs.declared.Refusal.{Refusal}
+use Rattle.numbers.specs.Refusals.{number_of, BAD_WORD}
+use Rattle.text.specs.Words.{read, next_word, supply_from}
+use Rattle.text.specs.declared.words.Word.{Word}
+use Rattle.text.proofs.Supplies.{same, word, refused as ended}
 use Rattle.pmtl.specs.Calls.{Call}
 use Rattle.pmtl.specs.Calls.Call.{time}
 use Rattle.book.specs.Reading.{Read, refused, next as andNext}
 use Rattle.calls.specs.Called.{Called}
-use Rattle.text_reader.specs.declared.Part as reader
+use Rattle.text_reader.specs.declared.Part.{Part}
 use Rattle.text_reader.specs.Reads.{StateTook, StateRead}
 use Rattle.report.specs.declared.text_calls.Turn.{Turn}
-use Rattle.report.specs.declared.text_calls.Turn.TheVariants.{Made, Stopped}
+use Rattle.report.specs.declared.text_calls.Kind.{Kind}
+use Rattle.report.specs.declared.text_calls.Kind.TheVariants.{Time, State, Stamped}
 use Rattle.report.specs.Lines.{time_from, state_from, stamped_from, call_from}
-use Rattle.report.specs.Private.{turn_number, CallMade, Turned, with_state, time_word}
+use Rattle.report.specs.Private.{word_of_kind, CallMade, Turned, with_stamp, time_word}
 use Rattle.report.proofs.Alike.{Bytewise, as_words, state_bytewise, stamped_bytewise}
 
-pub turn_stopped : {t : Turn} {n : ℕ} → t ≡ Stopped n → n ≡ turn_number t
-unfolding turn_number
-turn_stopped e = rw e
-
-pub turn_made : {t : Turn} {r next : ℕ} → t ≡ Made r next → 0 ≡ turn_number t
-unfolding turn_number
-turn_made e = rw e
-
 -- ---- the bytes of a state, whichever call has them
-pub with_bytewise : (s : Bool) (t : ℕ) → Bytewise (with_state s t)
-unfolding with_state
-with_bytewise true t = stamped_bytewise t
-with_bytewise false t = state_bytewise
+pub with_bytewise : (stamp : Option ℕ) → Bytewise (with_stamp stamp)
+unfolding with_stamp
+with_bytewise (Some t) = stamped_bytewise t
+with_bytewise None = state_bytewise
 
 module _ (input : List ℕ) (at : ℕ) where
   -- ---- a state, and the call that has it
-  pub no_state : (asCall : List ℕ → Call) (m' : List ℕ) {p : reader.Part} {r n : ℕ} → StateRead input at m' p → p ≡ reader.TheVariants.Refused r → n ≡ r → state_from asCall (supply_from input at).ending (supply_from input at).words ≡ refused n
+  pub no_state : (asCall : List ℕ → Call) (m' : List ℕ) (r : Refusal) → StateRead input at m' (Err r) → state_from asCall (supply_from input at).ending (supply_from input at).words ≡ refused (number_of r)
   unfolding state_from andNext StateRead
-  no_state asCall m' k e f = rw (rw e at k, f)
+  no_state asCall m' r k = rw k
 
-  pub state_there : (m' : List ℕ) {p : reader.Part} {end next : ℕ} → StateRead input at m' p → p ≡ reader.TheVariants.Words end next → StateTook input at m' end next
+  pub state_there : (m' : List ℕ) {p : Part} → StateRead input at m' (Ok p) → StateTook input at m' p.end p.next
   unfolding StateRead
-  state_there m' k e = rw e at k
+  state_there m' k = k
 
   pub stated : (asCall : List ℕ → Call) → Bytewise asCall → {bytes : List ℕ} {width next : ℕ} {m m' : List ℕ} {r : ℕ} → StateTook input at bytes width next → Called (asCall (take width bytes)) m m' r → CallMade input (supply_from input at).ending (state_from asCall (supply_from input at).ending (supply_from input at).words) m m' r next
   unfolding state_from andNext
@@ -59,58 +51,49 @@ module _ (input : List ℕ) (at : ℕ) where
       }
 
   -- ---- a word, and what is read after it
-  module _ {kind from : ℕ} (e : next_word input at ≡ Word kind from) where
-    ending_kept : (supply_from input from).ending ≡ (supply_from input at).ending
+  module _ {word_read : Word} (e : next_word input at ≡ Ok word_read) where
+    ending_kept : (supply_from input word_read.next).ending ≡ (supply_from input at).ending
     ending_kept = rw (word input at e).gave
 
-    turned : {asked asked' : Read Call} (m m' : List ℕ) (t : Turn) → asked ≡ asked' → Turned input (supply_from input from).ending asked m m' t → Turned input (supply_from input at).ending asked' m m' t
+    turned : {asked asked' : Read Call} (m m' : List ℕ) (t : Result Turn Refusal) → asked ≡ asked' → Turned input (supply_from input word_read.next).ending asked m m' t → Turned input (supply_from input at).ending asked' m m' t
     unfolding Turned
     turned m m' t f k = rw (← f, ← ending_kept) k
 
   -- ---- the rest of a call by its kind: its time, if it has one
-  pub time_none : (kind : ℕ) → kind ≡ 1 → Word 0 at ≡ time_word (eqb kind 1) input at
-  unfolding time_word
-  time_none kind e = rw e
-
-  pub time_there : (kind : ℕ) {r : text.Read} → (kind ≡ 1 → ⊥) → r ≡ next_word input at → r ≡ time_word (eqb kind 1) input at
-  unfolding time_word
-  time_there kind h e = rw (ne_eqb kind 1 h) e
-
-  pub no_time : (kind : ℕ) {r n : ℕ} → kind ≤ 2 → time_word (eqb kind 1) input at ≡ Refused r → n ≡ r → call_from (supply_from input at).ending (kind ∷ (supply_from input at).words) ≡ refused n
+  pub no_time : (kind : Kind) {r : Refusal} → time_word kind input at ≡ Err r → call_from (supply_from input at).ending (word_of_kind kind ∷ (supply_from input at).words) ≡ refused (number_of r)
   unfolding time_word call_from time_from stamped_from
-  no_time zero h e f = rw (ended input at e, f)
-  no_time (suc zero) h e f = let z : ◌≡◌ {A = ℕ} 0 1 = cc in absurd (omega arith)
-  no_time (suc (suc zero)) h e f = rw (ended input at e, f)
-  no_time (suc (suc (suc k))) h e f = absurd (omega arith)
+  no_time Time e = rw (ended input at e)
+  no_time State e = let z : ◌≡◌ {A = ℕ} 0 1 = cc in absurd (omega arith)
+  no_time Stamped e = rw (ended input at e)
 
-  pub timed : (kind : ℕ) {t next : ℕ} {m m' : List ℕ} {r : ℕ} → kind ≡ 0 → time_word (eqb kind 1) input at ≡ Word t next → Called (time t) m m' r → CallMade input (supply_from input at).ending (call_from (supply_from input at).ending (kind ∷ (supply_from input at).words)) m m' r next
-  unfolding time_word call_from time_from
-  timed zero {t} h e c =
+  pub timed : {t : Word} {m m' : List ℕ} {r : ℕ} → next_word input at ≡ Ok t → Called (time t.number) m m' r → CallMade input (supply_from input at).ending (call_from (supply_from input at).ending (0 ∷ (supply_from input at).words)) m m' r t.next
+  unfolding call_from time_from
+  timed {t} e c =
       record {
-        what = time t;
+        what = time t.number;
         read = rw (word input at e).gave;
         ending_on = rw (word input at e).gave;
         called = c;
       }
-  timed (suc k) h e c = absurd (omega arith)
 
   -- and its state
-  pub with_state_lem : (kind : ℕ) {t from : ℕ} → (kind ≡ 0 → ⊥) → kind ≤ 2 → time_word (eqb kind 1) input at ≡ Word t from → (m m' : List ℕ) (turn : Turn) → Turned input (supply_from input from).ending (state_from (with_state (eqb kind 2) t) (supply_from input from).ending (supply_from input from).words) m m' turn → Turned input (supply_from input at).ending (call_from (supply_from input at).ending (kind ∷ (supply_from input at).words)) m m' turn
-  unfolding time_word call_from stamped_from with_state
-  with_state_lem zero h l e m m' turn k = absurd (h refl)
-  with_state_lem (suc zero) {from = from} h l e m m' turn k = let z : at ≡ from = cc in rw z k
-  with_state_lem (suc (suc zero)) h l e m m' turn k = turned e m m' turn (rw (word input at e).gave) k
-  with_state_lem (suc (suc (suc n))) h l e m m' turn k = absurd (omega arith)
+  pub with_none : {t : Word} → read 0 at ≡ Ok t → (m m' : List ℕ) (turn : Result Turn Refusal) → Turned input (supply_from input t.next).ending (state_from (with_stamp None) (supply_from input t.next).ending (supply_from input t.next).words) m m' turn → Turned input (supply_from input at).ending (call_from (supply_from input at).ending (1 ∷ (supply_from input at).words)) m m' turn
+  unfolding call_from with_stamp
+  with_none {t} e m m' turn k = let z : at ≡ t.next = (same e).1 in rw z k
+
+  pub with_some : {t : Word} → next_word input at ≡ Ok t → (m m' : List ℕ) (turn : Result Turn Refusal) → Turned input (supply_from input t.next).ending (state_from (with_stamp (Some t.number)) (supply_from input t.next).ending (supply_from input t.next).words) m m' turn → Turned input (supply_from input at).ending (call_from (supply_from input at).ending (2 ∷ (supply_from input at).words)) m m' turn
+  unfolding call_from stamped_from with_stamp
+  with_some e m m' turn k = turned e m m' turn (rw (word input at e).gave) k
 
   -- ---- calls
-  pub no_kind : {r n : ℕ} → next_word input at ≡ Refused r → n ≡ r → call_from (supply_from input at).ending (supply_from input at).words ≡ refused n
+  pub no_kind : {r : Refusal} → next_word input at ≡ Err r → call_from (supply_from input at).ending (supply_from input at).words ≡ refused (number_of r)
   unfolding call_from
-  no_kind e f = rw (ended input at e, f)
+  no_kind e = rw (ended input at e)
 
-  module _ {kind from : ℕ} (e : next_word input at ≡ Word kind from) where
-    pub other_kind : 2 < kind → call_from (supply_from input at).ending (supply_from input at).words ≡ refused BAD_WORD
+  module _ {kind : Word} (e : next_word input at ≡ Ok kind) where
+    pub other_kind : 2 < kind.number → call_from (supply_from input at).ending (supply_from input at).words ≡ refused BAD_WORD
     unfolding call_from
-    other_kind h = rw ((word input at e).gave, ne_eqb kind 0 (λ x. omega arith), ne_eqb kind 1 (λ x. omega arith), ne_eqb kind 2 (λ x. omega arith))
+    other_kind h = rw ((word input at e).gave, ne_eqb kind.number 0 (λ x. omega arith), ne_eqb kind.number 1 (λ x. omega arith), ne_eqb kind.number 2 (λ x. omega arith))
 
-    pub turned_kind : (m m' : List ℕ) (t : Turn) → Turned input (supply_from input from).ending (call_from (supply_from input from).ending (kind ∷ (supply_from input from).words)) m m' t → Turned input (supply_from input at).ending (call_from (supply_from input at).ending (supply_from input at).words) m m' t
-    turned_kind m m' t k = turned e m m' t (rw (word input at e).gave) k
+    pub turned_kind : {n : ℕ} → n ≡ kind.number → (m m' : List ℕ) (t : Result Turn Refusal) → Turned input (supply_from input kind.next).ending (call_from (supply_from input kind.next).ending (n ∷ (supply_from input kind.next).words)) m m' t → Turned input (supply_from input at).ending (call_from (supply_from input at).ending (supply_from input at).words) m m' t
+    turned_kind f m m' t k = turned e m m' t (rw (f, (word input at e).gave)) k

@@ -1,5 +1,5 @@
 -- REFERENCE 8: the report of any input as records, line by line. `Report` says how a line is written. Definitions only.
-use Rattle.std.specs.Prelude.{ℕ, zero, suc, cond, List, [], ◌∷◌, ◌++◌, map, length, ltb, eqb}
+use Rattle.std.specs.Prelude.{ℕ, Option, None, zero, suc, cond, List, [], ◌∷◌, ◌++◌, map, length, ltb, eqb}
 use Rattle.lists.specs.Lists.{listed}
 use Rattle.text.specs.Words.{supply}
 use Rattle.numbers.specs.Refusals.{BAD_WORD, ACCEPTED, PAST_LIMIT, WRONG_LENGTH}
@@ -14,7 +14,6 @@ use Rattle.book.specs.Reading.{Read, section, next, Sections, sections}
 use Rattle.book.specs.Reading.Read.{got, refused}
 use Rattle.book.specs.declared.loading.Loading.{Loading}
 use Rattle.book.specs.declared.strict.Excess.{Excess}
-use Rattle.book.specs.declared.strict.Excess.TheVariants.{Within}
 use Rattle.book.specs.Strict.{excess_by}
 use Rattle.book.specs.Loading.{way_in, admitted}
 use Rattle.book.specs.Judging.{Loaded, loaded_from}
@@ -57,7 +56,7 @@ pub data Ending : Type 0 where
 
 -- a line: the book's number, and what strict loading refuses in it; a call; the summary of a property; how it ended
 pub data Line : Type 0 where
-  book : ℕ → Excess → Line
+  book : ℕ → Option Excess → Line
   called : CallLine → Line
   summed : Summary → Line
   last : Ending → Line
@@ -156,7 +155,7 @@ book_then way l ending ws =
 
 unfoldable pub book_lines : Loading → Read Sections → ℕ → List Line
 book_lines way (got s ws) ending = book_then way (loaded_from s) ending ws
-book_lines way (refused n) ending = book n Within ∷ []
+book_lines way (refused n) ending = book n None ∷ []
 
 -- the lines of a report; an input that is too long gives only `stop 2`
 unfoldable pub lines : Loading → List ℕ → List Line

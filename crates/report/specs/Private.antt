@@ -1,9 +1,11 @@
 -- Steps of a report: a call that is read and made, and its line from digits. No public contract cites these. Definitions only.
-use Rattle.std.specs.Prelude.{ℕ, zero, suc, ◌+◌, ◌≡◌, Bool, true, false, cond, List, [], ◌∷◌, ◌++◌, eqb}
+use Rattle.std.specs.Prelude.{ℕ, Result, Ok, Err, MatchResult, zero, suc, ◌+◌, ◌≡◌, ◌<◌, cond, Option, Some, None, List, [], ◌∷◌, ◌++◌, eqb}
 use Rattle.std.proofs.lemmas.List.Edits.{sets}
-use Rattle.text.specs.Words.{space, digit0, next_word, supply_from}
-use Rattle.text.specs.declared.words.Read as text
-use Rattle.text.specs.declared.words.Read.TheVariants.{Word}
+use Rattle.numbers.specs.Refusals.{number_of, refused_with}
+use Rattle.numbers.specs.declared.Refusal.{Refusal}
+use Rattle.numbers.specs.declared.Refusal.TheVariants.{BadWord}
+use Rattle.text.specs.Words.{space, digit0, read, next_word, supply_from}
+use Rattle.text.specs.declared.words.Word.{Word}
 use Rattle.text.specs.Decimals.{decimal}
 use Rattle.pmtl.specs.Calls.{Call}
 use Rattle.pmtl.specs.Calls.Call.{state, stamped}
@@ -13,23 +15,30 @@ use Rattle.memory.specs.Memory.{property_row, value_at, early_at, settled_at, fu
 use Rattle.memory.specs.Tables.{property_count}
 use Rattle.calls.specs.Called.{Called}
 use Rattle.report.specs.Report.{ended}
+use Rattle.report.specs.declared.text_calls.Kind.{Kind}
+use Rattle.report.specs.declared.text_calls.Kind.TheVariants.{Time, State, Stamped}
 use Rattle.report.specs.declared.text_calls.Turn.{Turn}
-use Rattle.report.specs.declared.text_calls.Turn.TheVariants.{Made, Stopped}
 
--- the number that ended the reading of a call; 0 where there is one
-unfoldable pub turn_number : Turn → ℕ
-turn_number (Made r next) = 0
-turn_number (Stopped n) = n
+-- the word of a kind of call
+abbrev pub word_of_kind : Kind → ℕ
+word_of_kind Time = 0
+word_of_kind State = 1
+word_of_kind Stamped = 2
+
+-- the kind that a word says; a word past the last kind says none
+abbrev pub SaysKind : ℕ → Result Kind Refusal → Type 0
+SaysKind word said = MatchResult said (λ kind. word_of_kind kind ≡ word) (λ r. (r ≡ BadWord) × (2 < word))
 
 -- a call that has a state, stamped with a time or not
-unfoldable pub with_state : Bool → ℕ → List ℕ → Call
-with_state true t = stamped t
-with_state false t = state
+unfoldable pub with_stamp : Option ℕ → List ℕ → Call
+with_stamp (Some t) = stamped t
+with_stamp None = state
 
 -- the time of a call and the place after it; 0, and the place itself, of one that has none
-unfoldable pub time_word : Bool → List ℕ → ℕ → text.Read
-time_word true input at = Word 0 at
-time_word false input at = next_word input at
+unfoldable pub time_word : Kind → List ℕ → ℕ → Result Word Refusal
+time_word Time input at = next_word input at
+time_word State input at = read 0 at
+time_word Stamped input at = next_word input at
 
 -- a call was read, from words that leave off with `ending`, and made on the memory m, which it left as m' with the number r
 pub record CallMade (input : List ℕ) (ending : ℕ) (asked : Read Call) (m m' : List ℕ) (r next : ℕ) : Type 0 where
@@ -38,9 +47,9 @@ pub record CallMade (input : List ℕ) (ending : ℕ) (asked : Read Call) (m m' 
   pub ending_on : (supply_from input next).ending ≡ ending
   pub called : Called what m m' r
 
-unfoldable pub Turned : List ℕ → ℕ → Read Call → List ℕ → List ℕ → Turn → Type 0
-Turned input ending asked m m' (Made r next) = CallMade input ending asked m m' r next
-Turned input ending asked m m' (Stopped n) = asked ≡ refused n
+unfoldable pub Turned : List ℕ → ℕ → Read Call → List ℕ → List ℕ → Result Turn Refusal → Type 0
+Turned input ending asked m m' (Ok turn) = CallMade input ending asked m m' (refused_with turn.outcome) turn.next
+Turned input ending asked m m' (Err refusal) = asked ≡ refused (number_of refusal)
 
 -- ---- a call's line from the digits that the tables of a memory hold
 -- a property's word

@@ -1,10 +1,9 @@
 -- REFERENCE 8: the report of any input, byte by byte: its lines, and how a line is written. Definitions only.
-use Rattle.std.specs.Prelude.{ℕ, ◌+◌, List, [], ◌∷◌, ◌++◌}
+use Rattle.std.specs.Prelude.{ℕ, Option, Some, None, ◌+◌, List, [], ◌∷◌, ◌++◌}
 use Rattle.text.specs.Words.{space, line_feed, digit0}
 use Rattle.text.specs.Decimals.{decimal}
 use Rattle.book.specs.declared.loading.Loading.{Loading}
 use Rattle.book.specs.declared.strict.Excess.{Excess}
-use Rattle.book.specs.declared.strict.Excess.TheVariants.{Within, Over}
 use Rattle.ledger.specs.declared.Summary.{Summary}
 use Rattle.report.specs.Lines.{PropertyWord, Rest, nothing, told, CallLine, Ending, end, stop, Line, book, called, summed, last, lines}
 
@@ -23,12 +22,12 @@ abbrev pub ended : List ℕ
 ended = line_feed ∷ []
 
 -- the row that strict loading refuses, and how many runs it can need, each after a space
-unfoldable pub excess_words : Excess → List ℕ
-excess_words Within = []
-excess_words (Over row count) = space ∷ decimal row ++ space ∷ decimal count
+unfoldable pub excess_words : Option Excess → List ℕ
+excess_words None = []
+excess_words (Some over) = space ∷ decimal over.row ++ space ∷ decimal over.count
 
 -- `book ` and the number, and where a row is refused these; `stop ` and the number; `end`
-unfoldable pub book_line : ℕ → Excess → List ℕ
+unfoldable pub book_line : ℕ → Option Excess → List ℕ
 book_line n e = book_word ++ decimal n ++ excess_words e ++ ended
 
 unfoldable pub stop_line : ℕ → List ℕ

@@ -6,6 +6,7 @@ mod sums;
 mod text_calls;
 
 ghost use Rattle.std.specs.Prelude.{◌≡◌};
+ghost use Rattle.numbers.specs.Refusals.{number_of};
 ghost use Rattle.text.specs.Words.{supply_from};
 ghost use Rattle.memory.specs.Memory.{book_of, state_of, ledger_of};
 ghost use Rattle.ledger.specs.Ledger.{blank_ledger};
@@ -20,10 +21,8 @@ ghost use Rattle.report.specs.Report.{book_line, written, report};
 use book::loading::Loading;
 use book::strict::{Excess, first_excess};
 use memory::SIZE;
-use numbers::{ACCEPTED, LONGEST_INPUT, MOST_ATOMS, PAST_LIMIT};
-use text::{MOST_DIGITS, Read};
-use text_calls::Turn;
-use text_reader::Part;
+use numbers::{LONGEST_INPUT, MOST_ATOMS, Refusal};
+use text::MOST_DIGITS;
 
 // A line for each call, and what stands after them.
 fn call_lines(
@@ -42,16 +41,14 @@ fn call_lines(
     let mut first = MOST_DIGITS - 1;
     let mut at = start;
     let mut cursor = from;
-    let mut done: u64 = 0;
-    while done < count {
-        let t = text_calls::call(input, cursor, &mut bytes, monitor);
-        let Turn::Made(refusal, next) = t else {
-            return lines::stopped(out, at, text_calls::turn_number(t));
+    for done in 0..count {
+        let turn = match text_calls::call(input, cursor, &mut bytes, monitor) {
+            Ok(turn) => turn,
+            Err(refusal) => return lines::stopped(out, at, refusal),
         };
         first = text::count_up(done, &mut digits, first);
-        at = lines::put_call(out, at, &digits, first, refusal, monitor);
-        cursor = next;
-        done += 1;
+        at = lines::put_call(out, at, &digits, first, turn.outcome, monitor);
+        cursor = turn.next;
     }
     lines::last(input, cursor, monitor, out, at)
 }
@@ -67,18 +64,17 @@ fn counted_calls(
     requires { Kept monitor.old × (state_of monitor.old ≡ initial_in (state_of monitor.old).way (book_of monitor.old).rows) × (ledger_of monitor.old ≡ blank_ledger (book_of monitor.old)) }
     ensures { handed result out.new ≡ finish out.old at (written (call_lines (state_of monitor.old).way (book_of monitor.old) (supply_from input.now cursor).ending (supply_from input.now cursor).words)) }
 {
-    let r = text::next_word(input, cursor);
-    let Read::Word(count, from) = r else {
-        return lines::stopped(out, at, text_reader::number_of(r));
-    };
-    call_lines(input, from, count, monitor, out, at)
+    match text::next_word(input, cursor) {
+        Ok(count) => call_lines(input, count.next, count.number, monitor, out, at),
+        Err(refusal) => lines::stopped(out, at, refusal),
+    }
 }
 
 // A refused book's line, which nothing follows.
-fn refused_book(out: &mut [u8], number: u64, excess: Excess) -> u64
-    ensures { handed result out.new ≡ finish out.old 0 (book_line number excess) }
+fn refused_book(out: &mut [u8], refusal: Refusal, excess: Option<Excess>) -> u64
+    ensures { handed result out.new ≡ finish out.old 0 (book_line (number_of refusal) excess) }
 {
-    let at = lines::put_book(out, 0, number, excess);
+    let at = lines::put_book(out, 0, Err(refusal), excess);
     buffer_writer::finished(out, at)
 }
 
@@ -87,12 +83,13 @@ fn loaded_book(way: Loading, input: &[u8], cursor: usize, words: &[u64], out: &m
     ensures { handed result out.new ≡ finish out.old 0 (written (book_then way (loaded words.now) (supply_from input.now cursor).ending (supply_from input.now cursor).words)) }
 {
     let mut monitor = [0u64; SIZE];
-    let number = loader::load_in_zeros(way, words, &mut monitor);
-    if number == ACCEPTED {
-        let at = lines::put_book(out, 0, number, Excess::Within);
-        return counted_calls(input, cursor, &mut monitor, out, at);
+    match loader::load_in_zeros(way, words, &mut monitor) {
+        Ok(()) => {
+            let at = lines::put_book(out, 0, Ok(()), None);
+            counted_calls(input, cursor, &mut monitor, out, at)
+        }
+        Err(refusal) => refused_book(out, refusal, first_excess(way, words)),
     }
-    refused_book(out, number, first_excess(way, words))
 }
 
 // The report of `input`, its book loaded in this way, in `out`: its length, with what stands after it unchanged; or MAX, with
@@ -101,14 +98,13 @@ pub fn report_by(way: Loading, input: &[u8], out: &mut [u8]) -> u64
     ensures { handed result out.new ≡ in_buffer out.old (report way input.now) }
 {
     if LONGEST_INPUT < input.len() {
-        return lines::stopped(out, 0, PAST_LIMIT);
+        return lines::stopped(out, 0, Refusal::PastLimit);
     }
     let mut words = [0u64; text_reader::BOOK_WORDS];
-    let read = text_reader::book(input, &mut words);
-    let Part::Words(end, next) = read else {
-        return refused_book(out, text_reader::part_number(read), Excess::Within);
-    };
-    loaded_book(way, input, next, &words[..end], out)
+    match text_reader::book(input, &mut words) {
+        Ok(book) => loaded_book(way, input, book.next, &words[..book.end], out),
+        Err(refusal) => refused_book(out, refusal, None),
+    }
 }
 
 // The report, its book loaded as any that is in order. The crate report_c hands these four to C, under the same names.

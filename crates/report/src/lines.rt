@@ -1,6 +1,7 @@
 // The lines of a report.
-ghost use Rattle.std.specs.Prelude.{◌≡◌, ◌∷◌, ◌++◌, ◌+◌, ◌*◌, ◌≤◌, ◌<◌, length, drop};
+ghost use Rattle.std.specs.Prelude.{◌≡◌, ◌∷◌, ◌++◌, ◌+◌, ◌-◌, ◌*◌, ◌≤◌, ◌<◌, length, drop};
 ghost use Rattle.std.proofs.lemmas.List.Edits.{sets};
+ghost use Rattle.numbers.specs.Refusals.{number_of, refused_with};
 ghost use Rattle.text.specs.Words.{space, digit0, supply_from};
 ghost use Rattle.text.specs.Decimals.{decimal};
 ghost use Rattle.buffer_writer.specs.Buffer.{handed};
@@ -14,9 +15,10 @@ ghost use Rattle.memory.specs.Kept.{Kept};
 
 use crate::sums::put_summaries;
 use book::strict::Excess;
+use buffer_writer::put_numbered;
 use memory::SIZE;
-use numbers::{ACCEPTED, BAD_WORD, MOST_PROPERTIES, WRONG_LENGTH};
-use text::{MOST_DIGITS, Read};
+use numbers::{MOST_PROPERTIES, Refusal, refused_with};
+use text::MOST_DIGITS;
 
 // The first number of two digits, and the byte of the digit 0.
 const TEN: u64 = 10;
@@ -37,45 +39,42 @@ const FIXED_BYTES: usize = 4;
 // The longest such line.
 const LONGEST_LINE: usize = MOST_DIGITS + WORD_BYTES * MOST_PROPERTIES + MOST_DIGITS + FIXED_BYTES;
 
-// A word and a number.
-pub fn put_numbered(out: &mut [u8], at: usize, word: &[u8], number: u64) -> usize
-    ensures { Wrote out.old at (word.now ++ decimal number) out.new result }
-{
-    let a = buffer_writer::put_bytes(out, at, word);
-    buffer_writer::put_number(out, a, number)
-}
-
 // The row that strict loading refuses, and how many runs it can need.
-fn put_excess(out: &mut [u8], at: usize, excess: Excess) -> usize
+fn put_excess(out: &mut [u8], at: usize, excess: Option<Excess>) -> usize
     ensures { Wrote out.old at (excess_words excess) out.new result }
 {
-    let Excess::Over(row, count) = excess else {
+    let Some(over) = excess else {
         return at;
     };
-    let a = put_numbered(out, at, b" ", row);
-    put_numbered(out, a, b" ", count)
+    let a = put_numbered(out, at, b" ", over.row);
+    put_numbered(out, a, b" ", over.count)
 }
 
-pub fn put_book(out: &mut [u8], at: usize, number: u64, excess: Excess) -> usize
-    ensures { Wrote out.old at (book_line number excess) out.new result }
+pub fn put_book(
+    out: &mut [u8],
+    at: usize,
+    outcome: Result<(), Refusal>,
+    excess: Option<Excess>,
+) -> usize
+    ensures { Wrote out.old at (book_line (refused_with outcome) excess) out.new result }
 {
-    let a = put_numbered(out, at, b"book ", number);
+    let a = put_numbered(out, at, b"book ", refused_with(outcome));
     let b = put_excess(out, a, excess);
     buffer_writer::put_bytes(out, b, b"\n")
 }
 
-fn put_stop(out: &mut [u8], at: usize, number: u64) -> usize
-    ensures { Wrote out.old at (stop_line number) out.new result }
+fn put_stop(out: &mut [u8], at: usize, refusal: Refusal) -> usize
+    ensures { Wrote out.old at (stop_line (number_of refusal)) out.new result }
 {
-    let p = put_numbered(out, at, b"stop ", number);
+    let p = put_numbered(out, at, b"stop ", refusal.number());
     buffer_writer::put_bytes(out, p, b"\n")
 }
 
 // A report that ends with `stop `.
-pub fn stopped(out: &mut [u8], at: usize, number: u64) -> u64
-    ensures { handed result out.new ≡ finish out.old at (stop_line number) }
+pub fn stopped(out: &mut [u8], at: usize, refusal: Refusal) -> u64
+    ensures { handed result out.new ≡ finish out.old at (stop_line (number_of refusal)) }
 {
-    let p = put_stop(out, at, number);
+    let p = put_stop(out, at, refusal);
     buffer_writer::finished(out, p)
 }
 
@@ -94,14 +93,11 @@ pub fn last(input: &[u8], cursor: usize, monitor: &[u64; SIZE], out: &mut [u8], 
     requires { Kept monitor.now }
     ensures { handed result out.new ≡ finish out.old at (written (end_lines (ledger_of monitor.now) (ending_of (supply_from input.now cursor).ending (supply_from input.now cursor).words))) }
 {
-    let r = text::next_word(input, cursor);
-    let Read::Refused(n) = r else {
-        return stopped(out, at, WRONG_LENGTH);
-    };
-    if n == BAD_WORD {
-        return stopped(out, at, BAD_WORD);
+    match text::next_word(input, cursor) {
+        Ok(_) => stopped(out, at, Refusal::WrongLength),
+        Err(refusal) if refusal == Refusal::BadWord => stopped(out, at, refusal),
+        Err(_) => ended(out, at, monitor),
     }
-    ended(out, at, monitor)
 }
 
 // The byte of a digit.
@@ -131,10 +127,8 @@ fn lay_from(out: &mut [u8], at: usize, monitor: &[u64; SIZE], first: usize, coun
     requires first_le_count { (first ≤ count) × (count ≡ property_count monitor.now) × (at + 4 * count ≤ length out.old) }
     ensures { LaidOn monitor.now at first count out.old out.new }
 {
-    let mut i = first;
-    while i < count {
+    for i in first..count {
         lay_word(out, at + WORD_BYTES * i, monitor, i);
-        i += 1;
     }
 }
 
@@ -176,40 +170,30 @@ fn put_rest(out: &mut [u8], at: usize, monitor: &[u64; SIZE]) -> usize
     buffer_writer::put_number(out, b, memory::fullest(monitor))
 }
 
-// A call's number, of the digits from `first` on, and its refusal: most often 0, which is put at once.
-fn put_numbers(out: &mut [u8], at: usize, digits: &[u8], first: usize, refusal: u64) -> usize
+// A call's number, of the digits from `first` on, and what it was refused with: most often 0, which is put at once.
+fn put_numbers(
+    out: &mut [u8],
+    at: usize,
+    digits: &[u8],
+    first: usize,
+    outcome: Result<(), Refusal>,
+) -> usize
     requires { first ≤ length digits.now }
-    ensures { Wrote out.old at (drop first digits.now ++ space ∷ decimal refusal) out.new result }
+    ensures { Wrote out.old at (drop first digits.now ++ space ∷ decimal (refused_with outcome)) out.new result }
 {
     let a = buffer_writer::put_bytes(out, at, &digits[first..]);
-    if refusal == ACCEPTED {
-        return buffer_writer::put_bytes(out, a, b" 0");
+    match outcome {
+        Ok(()) => buffer_writer::put_bytes(out, a, b" 0"),
+        Err(refusal) => put_numbered(out, a, b" ", refusal.number()),
     }
-    let b = buffer_writer::put_bytes(out, a, b" ");
-    buffer_writer::put_number(out, b, refusal)
 }
 
-// The last four digits, each at its place, which takes less than a copy of some length.
-fn lay_four(out: &mut [u8], at: usize, digits: &[u8; MOST_DIGITS]) -> usize
-    requires { (length digits.now ≡ 20) × (at + 4 ≤ length out.old) }
-    ensures { Laid out.old at (drop 16 digits.now) out.new result }
+// The last digits, of a number of them that is known beforehand, which takes less than a copy of some length.
+fn lay_last<const COUNT: usize>(out: &mut [u8], at: usize, digits: &[u8; MOST_DIGITS]) -> usize
+    requires { (length digits.now ≡ 20) × (COUNT ≤ 20) × (at + COUNT ≤ length out.old) }
+    ensures { Laid out.old at (drop (20 - COUNT) digits.now) out.new result }
 {
-    let four = [
-        digits[FOUR],
-        digits[FOUR + 1],
-        digits[FOUR + 2],
-        digits[FOUR + 3],
-    ];
-    buffer_writer::lay_bytes(out, at, &four)
-}
-
-// And the last three.
-fn lay_three(out: &mut [u8], at: usize, digits: &[u8; MOST_DIGITS]) -> usize
-    requires { (length digits.now ≡ 20) × (at + 3 ≤ length out.old) }
-    ensures { Laid out.old at (drop 17 digits.now) out.new result }
-{
-    let three = [digits[THREE], digits[THREE + 1], digits[THREE + 2]];
-    buffer_writer::lay_bytes(out, at, &three)
+    buffer_writer::lay_bytes(out, at, &digits[MOST_DIGITS - COUNT..])
 }
 
 // Those from `first` on, however many.
@@ -226,10 +210,10 @@ fn lay_digits(out: &mut [u8], at: usize, digits: &[u8; MOST_DIGITS], first: usiz
     ensures { Laid out.old at (drop first digits.now) out.new result }
 {
     if first == FOUR {
-        return lay_four(out, at, digits);
+        return lay_last::<4>(out, at, digits);
     }
     if first == THREE {
-        return lay_three(out, at, digits);
+        return lay_last::<3>(out, at, digits);
     }
     lay_some(out, at, digits, first)
 }
@@ -281,18 +265,20 @@ fn put_parts(
     at: usize,
     digits: &[u8; MOST_DIGITS],
     first: usize,
-    refusal: u64,
+    outcome: Result<(), Refusal>,
     monitor: &[u64; SIZE],
 ) -> usize
     requires { Kept monitor.now × (first ≤ length digits.now) }
-    ensures { Wrote out.old at (digit_line (drop first digits.now) refusal (digit_rest monitor.now)) out.new result }
+    ensures { Wrote out.old at (digit_line (drop first digits.now) (refused_with outcome) (digit_rest monitor.now)) out.new result }
 {
-    let a = put_numbers(out, at, digits, first, refusal);
-    if refusal == ACCEPTED {
-        let b = put_rest(out, a, monitor);
-        return buffer_writer::put_bytes(out, b, b"\n");
+    let a = put_numbers(out, at, digits, first, outcome);
+    match outcome {
+        Ok(()) => {
+            let rest = put_rest(out, a, monitor);
+            buffer_writer::put_bytes(out, rest, b"\n")
+        }
+        Err(_) => buffer_writer::put_bytes(out, a, b"\n"),
     }
-    buffer_writer::put_bytes(out, a, b"\n")
 }
 
 // A call's line, its number's digits from `first` on. That of an accepted call is laid by one test of room, but at the very end of a
@@ -302,16 +288,16 @@ pub fn put_call(
     at: usize,
     digits: &[u8; MOST_DIGITS],
     first: usize,
-    refusal: u64,
+    outcome: Result<(), Refusal>,
     monitor: &[u64; SIZE],
 ) -> usize
     requires { Kept monitor.now × (first ≤ length digits.now) × (length digits.now ≡ 20) }
-    ensures { Wrote out.old at (digit_line (drop first digits.now) refusal (digit_rest monitor.now)) out.new result }
+    ensures { Wrote out.old at (digit_line (drop first digits.now) (refused_with outcome) (digit_rest monitor.now)) out.new result }
 {
-    if refusal == ACCEPTED {
-        if at < text::before_last(out, LONGEST_LINE) {
-            return lay_call(out, at, digits, first, monitor);
-        }
+    match outcome {
+        Ok(()) if at < text::before_last(out, LONGEST_LINE) => lay_call(
+            out, at, digits, first, monitor,
+        ),
+        _ => put_parts(out, at, digits, first, outcome, monitor),
     }
-    put_parts(out, at, digits, first, refusal, monitor)
 }

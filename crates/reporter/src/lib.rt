@@ -5,7 +5,6 @@ ghost use Rattle.std.specs.Prelude.{◌≡◌, true, length};
 ghost use Rattle.reporter.specs.Rooms.{SHORT_REPORT, holds, one_holds};
 
 use book::loading::Loading;
-use console::Came;
 use numbers::{LONGEST_INPUT, LONGEST_REPORT};
 
 // A byte more than the longest input that is read, so that a longer one is seen to be longer.
@@ -17,7 +16,7 @@ const SHORT_REPORT: usize = 65536;
 // An input so long has a short report.
 const SHORT_INPUT: usize = 1864;
 
-// The rooms for a report.
+// The rooms for a report, by number: `show` calls itself with the one below, and of an enum it would want the number beside it.
 const SHORT: u64 = 0;
 
 const LONG: u64 = 1;
@@ -81,8 +80,7 @@ fn show_report(rt: &(impl Print + Eprint), way: Loading, input: &[u8]) -> bool
 // What a program does: standard input to its end, and the report of it, its book loaded in this way.
 pub fn run(rt: &(impl Input + Print + Eprint), way: Loading) {
     let mut input = [0u8; ROOM];
-    let came = console::read_all(rt, &mut input);
-    let Came::Bytes(n) = came else {
+    let Some(n) = console::read_all(rt, &mut input) else {
         return;
     };
     show_report(rt, way, &input[..n]);

@@ -1,22 +1,22 @@
 -- What stores leave of a ring, and what the newest run tells of an interval that is added. Assumes nothing.
-use Prim.Native.Nat.{ℕ, suc, ◌+◌, ◌*◌, ◌-◌, ◌%◌, ◌^◌, ◌≤◌, ◌<◌, min, max}
+use Prim.Native.Nat.{ℕ, suc, ◌+◌, ◌*◌, ◌-◌, ◌%◌, ◌^◌, ◌≤◌, ◌<◌, max}
 use mathlib.Core.Path.{◌≡◌, refl, sym, ap, ◌∙◌}
 use mathlib.Core.Logic.{⊎_elim}
 use mathlib.Core.Bool.{Bool, true, false}
-use mathlib.Core.List.{List, [], ◌∷◌}
+use mathlib.Core.List.{List}
 use native.Mathlib.Omega.{arith}
 use lib.ListN.{length, get_or, set, length-set}
 use lib.Seq.{ext_get_or, get_or-set_same, get_or-set_other}
 use lib.Dec.{ltb}
-use borrow.Author.Tests.{lt-ltb, le-leb, ltb-true, ltb-false, eq-eqb, ne_eqb}
+use borrow.Author.Tests.{le-leb, ltb-true, ltb-false, eq-eqb, ne_eqb}
 use Rattle.lists.specs.Lists.{filled_from}
 use Rattle.lists.proofs.Filled.{filled_from_at, filled_from_more, filled_from_length}
 use Rattle.lists.proofs.Parts.{word_at}
 use Rattle.lists.proofs.Tests.{lt_or_ge, clash}
-use Rattle.numset.specs.Runs.{run, Runs, lo, hi, Good, insert, union, fits, pack, add_words}
+use Rattle.numset.specs.Runs.{lo, hi, Good, union, fits, pack, add_words}
 use Rattle.numset.specs.Private.{Spanned, takes_in, with_run}
 use Rattle.numset.proofs.Words.{newest}
-use Rattle.numset.proofs.Union.{insert_over, insert_past, insert_join, union_none, union_some}
+use Rattle.numset.proofs.Union.{union_none}
 use Rattle.numset.proofs.Moves.{moved_none}
 use Rattle.numset.proofs.Walk.{span_first, span_after}
 use Rattle.numset.proofs.Place.{place_up, added, room_lacks}
@@ -24,7 +24,7 @@ use Rattle.numset.proofs.Changes.{added_words}
 use Rattle.numset.proofs.Newest.{takes_is, takes_some, takes_room, lengthened}
 use Rattle.ring.specs.Ring.{turn_of, unrolled, ringed, Rolling, rolled}
 use Rattle.ring.specs.Private.{follows}
-use Rattle.ring.proofs.Rolls.{unrolled_length, unrolled_count, unrolled_at, unrolled_set, unrolled_recount, is_rolled, rolls_again, ringed_length, few, flat}
+use Rattle.ring.proofs.Rolls.{unrolled_length, unrolled_count, unrolled_at, unrolled_set, unrolled_recount, is_rolled, rolls_again, flat}
 
 -- ---- stores
 module _ (m : List ℕ) (l : length m ≡ 130) where
@@ -138,41 +138,11 @@ module _ (m : List ℕ) (l u : ℕ) (g : Rolling m) (o : l ≤ u) (e : takes_in 
       added_rolled m m' l u g k t (let f : 2 * length (union l u (ringed m)) < length M = ltb-true _ _ (sym r) in omega arith)
       (lengthened M l e g.good o (rw (unrolled_count m) q) (unrolled_length m' ∙ sym d) b).1
 
--- ---- an interval adds at most one run
-insert_most : (l u : ℕ) (rs : Runs) → length (insert l u rs) ≤ suc (length rs)
-unfolding insert
-insert_most l u [] = omega arith
-insert_most l u (run a b ∷ rs) =
-    let k = insert_most l u rs in
-    ⊎_elim
-    (λ p. rw (insert_over l u a b rs p) (omega arith))
-    (λ p. ⊎_elim
-    (λ q. rw (insert_past l u a b rs p q) (omega arith))
-    (λ q. let j = insert_most (min l a) (max u b) rs in rw (insert_join l u a b rs p q) (omega arith))
-    (lt_or_ge (b + 1) l))
-    (lt_or_ge (u + 1) a)
-
-pub most_one : (l u : ℕ) (rs : Runs) → length (union l u rs) ≤ suc (length rs)
-most_one l u rs = ⊎_elim (λ p. rw (union_none l u rs p) (omega arith)) (λ p. rw (union_some l u rs p) (insert_most l u rs)) (lt_or_ge u l)
-
--- ---- room: where a place is free, and where the newest run takes the interval in
-module _ (m : List ℕ) (l u : ℕ) (g : Rolling m) where
+-- ---- room
+module _ (m : List ℕ) (l u : ℕ) where
   -- the words of the set decide
   pub room_by_words : {b : Bool} → b ≡ fits (length (unrolled m)) (union l u (ringed m)) → b ≡ fits 129 (union l u (ringed m))
   room_by_words e = e ∙ ap (λ (k : ℕ). fits k (union l u (ringed m))) (unrolled_length m)
-
-  pub room_free : get_or m 0 0 < 64 → true ≡ fits 129 (union l u (ringed m))
-  room_free h =
-      let k = most_one l u (ringed m) in
-      let n = ringed_length m in
-      sym (lt-ltb (2 * length (union l u (ringed m))) 129 (omega arith))
-
-  pub room_taken : takes_in (unrolled m) l ≡ true → true ≡ fits 129 (union l u (ringed m))
-  room_taken e =
-      ⊎_elim
-      (λ h. sym (ap (λ (rs : Runs). fits 129 rs) (union_none l u (ringed m) h) ∙ lt-ltb (2 * length (ringed m)) 129 (let n = ringed_length m in let k = few m g in omega arith)))
-      (λ h. room_by_words (takes_room (unrolled m) l e g.good h))
-      (lt_or_ge u l)
 
 -- ---- words filled one by one after the first, and the first at last
 pub filled_words : (g : ℕ → ℕ) (old new : List ℕ) (x : ℕ) → length old ≡ 129 → length new ≡ 129 → get_or new 0 0 ≡ x → ((i : ℕ) → i < 128 → get_or new (1 + i) 0 ≡ g i)

@@ -11,12 +11,11 @@ use Rattle.lists.proofs.Tests.{lt_or_ge}
 use Rattle.numset.specs.Runs.{Runs, Canonical, within, has, lo, hi, runs_to, kept, union, fits}
 use Rattle.numset.specs.Private.{oldest_lapsed}
 use Rattle.numset.proofs.Laws.{good_canonical}
-use Rattle.numset.proofs.Union.{union_has}
+use Rattle.numset.proofs.Union.{union_has, most_one}
 use Rattle.numset.proofs.Kept.{kept_out, kept_in, kept_canonical, kept_has, kept_length, kept_all, none_lapses}
 use Rattle.ring.specs.Ring.{unrolled, ringed, Rolling}
 use Rattle.ring.proofs.Rolls.{unrolled_count, few}
 use Rattle.ring.proofs.Oldest.{lapsed_there, lapsed_ends}
-use Rattle.ring.proofs.Adds.{most_one}
 
 -- ---- the instant: it is in the interval, or in what is kept
 joined_has : (l u t : ℕ) (rs : Runs) → Canonical rs → has (union l u (kept t rs)) t ≡ within l u t || has rs t

@@ -12,9 +12,10 @@ ghost use Rattle.numset.specs.Until.{rests_until};
 ghost use Rattle.numset.specs.Private.{Cleared, Dropped, oldest_lapsed, takes_in, with_run};
 ghost use Rattle.ring.specs.Ring.{RING_WORDS, turn_of, unrolled, ringed, Rolling, rolled, turn_after};
 ghost use Rattle.ring.specs.Private.{follows};
+ghost use Rattle.ring.specs.Props.{Rolling-prop};
 
 use numbers::{MAX, MOST_RUNS};
-use numset::SET_WORDS;
+use numset::{ADJACENT, SET_WORDS, SortedRuns};
 
 // The place of the oldest run.
 const TURN: usize = 1;
@@ -26,9 +27,6 @@ const PLACE_WORDS: usize = 2 * MOST_RUNS;
 
 pub const RING_WORDS: usize = PLACES + PLACE_WORDS;
 
-// The gap between the ends of two neighbours: runs that are no further apart are one run.
-const ADJACENT: u64 = 1;
-
 // Where the words of run `j` begin, counted from the oldest.
 fn place(set: &[u64], j: usize) -> usize
     requires { Rolling set.now × (j < MOST_RUNS) }
@@ -37,35 +35,45 @@ fn place(set: &[u64], j: usize) -> usize
     PLACES + 2 * ((set[TURN] as usize + j) % MOST_RUNS)
 }
 
-// The lower end of run `j`.
-fn lower_at(set: &[u64], j: usize) -> u64
-    requires { Rolling set.now × (j < MOST_RUNS) }
-    ensures { result ≡ lo (unrolled set.now) j }
-{
-    set[place(set, j)]
+// A ring, whose runs are read one by one.
+#[derive(Clone, Copy)]
+struct Ring<'a> {
+    set: &'a [u64],
+    ghost is: { Rolling set.now } by { Rolling-prop set.now },
 }
 
-// The upper end of run `j`.
-fn upper_at(set: &[u64], j: usize) -> u64
-    requires { Rolling set.now × (j < MOST_RUNS) }
-    ensures { result ≡ hi (unrolled set.now) j }
-{
-    set[place(set, j) + 1]
+impl SortedRuns for Ring<'_> {
+    ghost words = { λ x. unrolled x.set.now };
+
+    fn count(&self) -> usize {
+        self.set[0] as usize
+    }
+
+    fn lower_at(&self, j: usize) -> u64 {
+        self.set[place(self.set, j)]
+    }
+
+    fn upper_at(&self, j: usize) -> u64 {
+        self.set[place(self.set, j) + 1]
+    }
+
+    fn oldest_upper(&self) -> u64 {
+        self.set[PLACES + 1 + 2 * self.set[TURN] as usize]
+    }
+
+    fn has_place(&self) -> bool {
+        self.set[0] < MOST_RUNS as u64
+    }
+
+    ghost good = { λ x. x.is.good };
 }
 
-// The ends of the oldest run.
+// The lower end of the oldest run, which stands at the turn: no place has to be worked out.
 fn oldest_lower(set: &[u64]) -> u64
     requires { Rolling set.now }
     ensures { result ≡ lo (unrolled set.now) 0 }
 {
     set[PLACES + 2 * set[TURN] as usize]
-}
-
-fn oldest_upper(set: &[u64]) -> u64
-    requires { Rolling set.now }
-    ensures { result ≡ hi (unrolled set.now) 0 }
-{
-    set[PLACES + 1 + 2 * set[TURN] as usize]
 }
 
 // How many runs there are.
@@ -81,14 +89,14 @@ pub fn newest_lower(set: &[u64]) -> u64
     requires { Rolling set.now × (0 < get_or set.now 0 0) }
     ensures { result ≡ lo (unrolled set.now) (get_or set.now 0 0 - 1) }
 {
-    lower_at(set, set[0] as usize - 1)
+    Ring { set }.lower_at(set[0] as usize - 1)
 }
 
 pub fn newest_upper(set: &[u64]) -> u64
     requires { Rolling set.now × (0 < get_or set.now 0 0) }
     ensures { result ≡ hi (unrolled set.now) (get_or set.now 0 0 - 1) }
 {
-    upper_at(set, set[0] as usize - 1)
+    Ring { set }.upper_at(set[0] as usize - 1)
 }
 
 // Whether every instant from `from` to MAX is in the set: only the newest run can hold MAX.
@@ -96,13 +104,7 @@ pub fn covers(set: &[u64], from: u64) -> bool
     requires { Rolling set.now }
     ensures { (result ≡ true) ↔ Covers from (ringed set.now) }
 {
-    if set[0] == 0 {
-        return false;
-    }
-    if from < newest_lower(set) {
-        return false;
-    }
-    newest_upper(set) == MAX
+    Ring { set }.covers(from)
 }
 
 // Up to when, from `t` on, no run begins or ends, where none ended before `t`: the oldest decides, since every newer one begins later.
@@ -117,7 +119,7 @@ pub fn rests_until(set: &[u64], t: u64) -> u64
     if t < lower {
         return lower - 1;
     }
-    oldest_upper(set)
+    Ring { set }.oldest_upper()
 }
 
 // Whether the oldest run ends before `t`. Where it does not, none does.
@@ -125,10 +127,7 @@ fn oldest_lapsed(set: &[u64], t: u64) -> bool
     requires { Rolling set.now }
     ensures { result ≡ oldest_lapsed (unrolled set.now) t }
 {
-    if set[0] == 0 {
-        return false;
-    }
-    oldest_upper(set) < t
+    Ring { set }.oldest_lapsed(t)
 }
 
 // Whether `t` is in the set, where the oldest run does not end before it: that run decides, since every newer one begins later still.
@@ -149,13 +148,10 @@ fn newer_has(set: &[u64], t: u64) -> bool
     requires t_value { oldest_lapsed (unrolled set.now) t ≡ true }
     ensures { result ≡ has (ringed set.now) t }
 {
-    let n = set[0] as usize;
-    let mut run = 1;
-    while run < n {
-        if upper_at(set, run) < t {
-            run += 1;
-        } else {
-            return lower_at(set, run) <= t;
+    let runs = Ring { set };
+    for run in 1..runs.count() {
+        if t <= runs.upper_at(run) {
+            return runs.lower_at(run) <= t;
         }
     }
     false
@@ -179,10 +175,8 @@ fn unroll(set: &[u64]) -> [u64; SET_WORDS]
     ensures { result ≡ unrolled set.now }
 {
     let mut flat = [0u64; SET_WORDS];
-    let mut i = 0;
-    while i < PLACE_WORDS {
+    for i in 0..PLACE_WORDS {
         flat[1 + i] = set[PLACES + (2 * set[TURN] as usize + i) % PLACE_WORDS];
-        i += 1;
     }
     flat[0] = set[0];
     flat
@@ -194,11 +188,9 @@ fn lay(set: &mut [u64], flat: &[u64; SET_WORDS])
     requires set_bound { (turn_of set.old < MOST_RUNS) × (length flat.now ≡ SET_WORDS) }
     ensures { (unrolled set.new ≡ flat.now) × (turn_of set.new ≡ turn_of set.old) }
 {
-    let mut i = 0;
-    while i < PLACE_WORDS {
+    for i in 0..PLACE_WORDS {
         let at = PLACES + (2 * set[TURN] as usize + i) % PLACE_WORDS;
         set[at] = flat[1 + i];
-        i += 1;
     }
     set[0] = flat[0];
 }
@@ -214,19 +206,6 @@ fn store(set: &mut [u64], j: usize, lower: u64, upper: u64, n: usize)
     set[0] = n as u64;
 }
 
-// How far `b` is past `a`, 0 where it is not. With it no sum is needed, which would wrap at MAX.
-fn gap(a: u64, b: u64) -> u64
-    ensures { result ≡ b - a }
-{
-    if a < b { b - a } else { 0 }
-}
-
-fn greater(a: u64, b: u64) -> u64
-    ensures { result ≡ max a b }
-{
-    if a < b { b } else { a }
-}
-
 // Whether the set has no run that reaches `lower` or what is next to it from before: there is none, or the newest ends earlier.
 fn follows(set: &[u64], lower: u64) -> bool
     requires { Rolling set.now }
@@ -235,7 +214,8 @@ fn follows(set: &[u64], lower: u64) -> bool
     if set[0] == 0 {
         return true;
     }
-    ADJACENT < gap(newest_upper(set), lower)
+    // How far it is past that end: no sum, which would wrap at MAX.
+    ADJACENT < lower.saturating_sub(newest_upper(set))
 }
 
 // Puts a run behind the newest, which there is room for.
@@ -256,7 +236,7 @@ fn lengthen(set: &mut [u64], lower: u64, upper: u64)
     let n = set[0] as usize;
     let low = newest_lower(set);
     let high = newest_upper(set);
-    store(set, n - 1, low, greater(upper, high), n);
+    store(set, n - 1, low, upper.max(high), n);
 }
 
 // Adds `lower ..= upper` wherever it belongs, in words that begin with the oldest run. No clock that only goes on comes here, since what it
@@ -291,43 +271,19 @@ pub fn add(set: &mut [u64], lower: u64, upper: u64)
     put(set, lower, upper);
 }
 
-// Whether the newest run takes in what begins at `lower`: it begins no later, and ends next to it or further on.
-fn takes_in(set: &[u64], lower: u64) -> bool
-    requires { Rolling set.now }
-    ensures { result ≡ takes_in (unrolled set.now) lower }
-{
-    if set[0] == 0 {
-        return false;
-    }
-    if lower < newest_lower(set) {
-        return false;
-    }
-    gap(newest_upper(set), lower) <= ADJACENT
-}
-
-// Whether there is room to add `lower ..= upper`: there is where a place is free, or where the newest run takes it in.
+// Whether there is room to add `lower ..= upper`.
 fn has_room(set: &[u64], lower: u64, upper: u64) -> bool
     requires { Rolling set.now }
     ensures { result ≡ fits SET_WORDS (union lower upper (ringed set.now)) }
 {
-    if set[0] < MOST_RUNS as u64 {
-        return true;
-    }
-    if takes_in(set, lower) {
-        return true;
-    }
-    let flat = unroll(set);
-    numset::has_room(&flat, lower, upper)
+    Ring { set }.has_room(lower, upper)
 }
 
 // Whether `t` is one of `lower ..= upper`.
 pub fn inside(lower: u64, upper: u64, t: u64) -> bool
     ensures { result ≡ within lower upper t }
 {
-    if lower <= t {
-        return t <= upper;
-    }
-    false
+    lower <= t && t <= upper
 }
 
 // What will become of a set: whether it will contain an instant, and whether there is room.
@@ -344,22 +300,18 @@ pub fn look_ahead(set: &[u64], t: u64, lower: u64, upper: u64) -> Outlook
     requires { Rolling set.now }
     ensures { (result.here ≡ has (union lower upper (kept t (ringed set.now))) t) × (result.room ≡ fits SET_WORDS (union lower upper (kept t (ringed set.now)))) }
 {
+    let comes = inside(lower, upper, t);
     if oldest_lapsed(set, t) {
-        if inside(lower, upper, t) {
-            return Outlook {
-                here: true,
-                room: true,
-            };
-        }
-        let here = newer_has(set, t);
-        return Outlook { here, room: true };
+        return Outlook {
+            here: comes || newer_has(set, t),
+            room: true,
+        };
     }
     let room = has_room(set, lower, upper);
-    if inside(lower, upper, t) {
-        return Outlook { here: true, room };
+    Outlook {
+        here: comes || oldest_has(set, t),
+        room,
     }
-    let here = oldest_has(set, t);
-    Outlook { here, room }
 }
 
 // Drops the oldest run: its words are wiped, and the next place is that of the oldest.
@@ -371,7 +323,7 @@ fn drop_oldest(set: &mut [u64])
     let at = PLACES + 2 * turn;
     set[at] = 0;
     set[at + 1] = 0;
-    set[0] = set[0] - 1;
+    set[0] -= 1;
     set[TURN] = ((turn + 1) % MOST_RUNS) as u64;
 }
 
@@ -390,11 +342,7 @@ fn wipe(set: &mut [u64])
     requires { length set.old ≡ RING_WORDS }
     ensures { Cleared set.old set.new 2 RING_WORDS }
 {
-    let mut i = PLACES;
-    while i < RING_WORDS {
-        set[i] = 0;
-        i += 1;
-    }
+    set[PLACES..].fill(0);
 }
 
 // Empties the set. The place of the oldest run stays.

@@ -62,7 +62,6 @@ fn stepped(set: &mut [u64], t: u64, lower: u64, upper: u64) -> Outlook
     if ahead.room {
         ring::drop_before(set, t);
         ring::add(set, lower, upper);
-        return ahead;
     }
     ahead
 }
@@ -107,10 +106,9 @@ fn first_runs(rt: &(impl Print + Eprint), set: &mut [u64])
     step(rt, set, 0, 0, 1);
     step(rt, set, 1, 4, 6);
     step(rt, set, 1, 10, 20);
-    ask(rt, set, 3);
-    ask(rt, set, 4);
-    ask(rt, set, 6);
-    ask(rt, set, 21);
+    for t in [3, 4, 6, 21] {
+        ask(rt, set, t);
+    }
 }
 
 fn longer(rt: &(impl Print + Eprint), set: &mut [u64])
@@ -161,10 +159,8 @@ fn go_on(rt: &(impl Print + Eprint), set: &mut [u64])
     ensures { Rolling set.new }
 {
     clear(rt, set);
-    let mut i = 0;
-    while i < MORE {
+    for i in 0..MORE {
         stepped(set, 4 * i, 4 * i + 40, 4 * i + 41);
-        i += 1;
     }
     text(rt, b"  70 in all: ");
     look(rt, set);
@@ -176,13 +172,9 @@ fn goes_round(rt: &(impl Print + Eprint), set: &mut [u64])
 {
     text(rt, b"goes round\n");
     go_on(rt, set);
-    ask(rt, set, 275);
-    ask(rt, set, 276);
-    ask(rt, set, 285);
-    ask(rt, set, 287);
-    ask(rt, set, 288);
-    ask(rt, set, 317);
-    ask(rt, set, 318);
+    for t in [275, 276, 285, 287, 288, 317, 318] {
+        ask(rt, set, t);
+    }
     step(rt, set, 286, 400, MAX);
     ask(rt, set, 400);
 }
@@ -193,10 +185,8 @@ fn fill(rt: &(impl Print + Eprint), set: &mut [u64])
     ensures { Rolling set.new }
 {
     clear(rt, set);
-    let mut i = 0;
-    while i < FULL {
+    for i in 0..FULL {
         stepped(set, 0, 2 * i, 2 * i);
-        i += 1;
     }
     text(rt, b"  filled: ");
     look(rt, set);

@@ -11,7 +11,7 @@ use Rattle.text.specs.Decimals.{decimal}
 use Rattle.pmtl.specs.Book.{Rows}
 use Rattle.book.specs.Reading.{Sections}
 use Rattle.book.specs.Judging.{Loaded, loaded, book_in}
-use Rattle.book.specs.Placing.{parts_of, Placed}
+use Rattle.book.specs.Placing.{parts_of, Placed, Counted}
 use Rattle.book.proofs.Placing.{accepted_book}
 use Rattle.buffer_writer.specs.Buffer.{Handed, in_buffer}
 use Rattle.buffer_writer.specs.Finish.{finish, Wrote}
@@ -74,6 +74,10 @@ unfolding section_printed
 section_put {rows} {operands} {ps} x p q r = rw (trees_count (rows_said rows operands) (said_ordered x.held) ps (properties_below x)) (and_then p (and_then q r))
 
 -- ---- the book
+-- the places of an accepted book
+pub placed_as : {words : List ℕ} {n o a g : ℕ} → (loaded words).number ≡ ACCEPTED → Counted words n o a g → Placed words ACCEPTED n o a g
+placed_as ok c = record { number_is = sym ok; counted = λ _. c; none = λ z. absurd (z refl) }
+
 module _ {words rs os : List ℕ} {number n o a g : ℕ} (p : Placed words number n o a g) (ok : number ≡ ACCEPTED) (er : rs ≡ (parts_of words n o a g).rows) (eo : os ≡ (parts_of words n o a g).operands) where
   abbrev parts : Sections
   parts = parts_of words n o a g

@@ -13,8 +13,8 @@ use Rattle.trees.specs.Forest.{Head, head_of, Forest, none, tree, count, Fit, Go
 use Rattle.rule_scanner.specs.Writing.{upper_said, range_said, head_said, shut, one_said, written, file_said}
 use Rattle.rule_scanner.specs.Reading.{read, read_text}
 use Rattle.rule_scanner.proofs.Theorems.{read_written}
-use Rattle.trees.specs.declared.Word.{Word}
-use Rattle.trees.specs.declared.Word.TheVariants.{False, True, Atom, And, Or, Not, Implies, Hist, Once, Since}
+use Rattle.book.specs.declared.kind.Kind.{Kind}
+use Rattle.book.specs.declared.kind.Kind.TheVariants.{False, True, Atom, And, Or, Not, Implies, Historically, Once, Since}
 use Rattle.rule_scanner.specs.declared.symbols.Symbol.{Symbol}
 use Rattle.rule_scanner.specs.declared.symbols.Symbol.TheVariants.{Number, Right, Opens, Closes, Comma, Star}
 use Rattle.rule_printer.specs.Printing.{spell, spelled, lines, section_printed, printed, printed_of, Ranged, Sayable}
@@ -60,7 +60,7 @@ module _ (c : ℕ) (after : goes_on c 1 ≡ false) (zs : List Symbol) (free : Fr
   range_apart l u p hl hu i =
       (refl, tt, (refl, hl, (refl, tt, upper_apart u (Opens ∷ insides p) hu (free_mark Right (Opens ∷ insides p) refl tt (opens_apart p i 3)))))
 
-  one_apart : (w : Word) (a l u : ℕ) (p : Forest) → Fit w a l u (count p) → a ≤ MAX → l ≤ MAX → u ≤ MAX → Parts p → Apart c (one_said (head_of w a l u) (written [] (Comma ∷ []) p) ++ zs)
+  one_apart : (w : Kind) (a l u : ℕ) (p : Forest) → Fit w a l u (count p) → a ≤ MAX → l ≤ MAX → u ≤ MAX → Parts p → Apart c (one_said (head_of w a l u) (written [] (Comma ∷ []) p) ++ zs)
   unfolding one_said head_said shut written goes_on
   one_apart False a l u p t ha hl hu i = rw (no_parts p t.0) (after, tt, free 1)
   one_apart True a l u p t ha hl hu i = rw (no_parts p t.0) (after, tt, free 1)
@@ -69,7 +69,7 @@ module _ (c : ℕ) (after : goes_on c 1 ≡ false) (zs : List Symbol) (free : Fr
   one_apart Or a l u p t ha hl hu i = (after, tt, opens_apart p i 1)
   one_apart Not a l u p t ha hl hu i = (after, tt, opens_apart p i 1)
   one_apart Implies a l u p t ha hl hu i = (after, tt, opens_apart p i 1)
-  one_apart Hist a l u p t ha hl hu i = (after, tt, range_apart l u p hl hu i)
+  one_apart Historically a l u p t ha hl hu i = (after, tt, range_apart l u p hl hu i)
   one_apart Once a l u p t ha hl hu i = (after, tt, range_apart l u p hl hu i)
   one_apart Since a l u p t ha hl hu i = (after, tt, range_apart l u p hl hu i)
 

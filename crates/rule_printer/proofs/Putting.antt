@@ -10,8 +10,8 @@ use Rattle.trees.specs.Forest.{Head, head_of}
 use Rattle.rule_scanner.specs.Writing.{upper_said, range_said, head_said, shut, one_said}
 use Rattle.buffer_writer.specs.Finish.{Wrote}
 use Rattle.buffer_writer.proofs.Writes.{and_then}
-use Rattle.trees.specs.declared.Word.{Word}
-use Rattle.trees.specs.declared.Word.TheVariants.{False, True, Atom, And, Or, Not, Implies, Hist, Once, Since}
+use Rattle.book.specs.declared.kind.Kind.{Kind}
+use Rattle.book.specs.declared.kind.Kind.TheVariants.{False, True, Atom, And, Or, Not, Implies, Historically, Once, Since}
 use Rattle.rule_scanner.specs.declared.symbols.Symbol.{Symbol}
 use Rattle.rule_scanner.specs.declared.symbols.Symbol.TheVariants.{Name, Opens}
 use Rattle.rule_printer.specs.Printing.{word_spelled, spell, spelled}
@@ -28,9 +28,9 @@ pub none_put : (m : List ℕ) (at : ℕ) → Wrote m at [] m at
 none_put m at = record { same = λ rest. refl }
 
 -- a head, by its word
-pub head_put_lem : {m m₁ m₂ : List ℕ} {at at₁ at₂ : ℕ} {x : List ℕ} (w v : Word) (a l u : ℕ) → w ≡ v → spelled (head_said (head_of v a l u)) ≡ x → Wrote m at (word_spelled w) m₁ at₁ → Wrote m₁ at₁ x m₂ at₂ → Wrote m at (spelled (Name w ∷ head_said (head_of w a l u))) m₂ at₂
+pub head_put_lem : {m m₁ m₂ : List ℕ} {at at₁ at₂ : ℕ} {x : List ℕ} (w v : Kind) (a l u : ℕ) → w ≡ v → spelled (head_said (head_of v a l u)) ≡ x → Wrote m at (word_spelled w) m₁ at₁ → Wrote m₁ at₁ x m₂ at₂ → Wrote m at (spelled (Name w ∷ head_said (head_of w a l u))) m₂ at₂
 unfolding spelled spell
-head_put_lem w v a l u e f p q = let g : spelled (head_said (head_of w a l u)) ≡ _ = ap (λ (z : Word). spelled (head_said (head_of z a l u))) e ∙ f in and_then p (rw g q)
+head_put_lem w v a l u e f p q = let g : spelled (head_said (head_of w a l u)) ≡ _ = ap (λ (z : Kind). spelled (head_said (head_of z a l u))) e ∙ f in and_then p (rw g q)
 
 pub said_false : (a l u : ℕ) → spelled (head_said (head_of False a l u)) ≡ []
 unfolding spelled spell head_said
@@ -60,7 +60,7 @@ pub said_implies : (a l u : ℕ) → spelled (head_said (head_of Implies a l u))
 unfolding spelled spell head_said
 said_implies a l u = refl
 
-pub said_hist : (a l u : ℕ) → spelled (head_said (head_of Hist a l u)) ≡ spelled (range_said l u (Opens ∷ []))
+pub said_hist : (a l u : ℕ) → spelled (head_said (head_of Historically a l u)) ≡ spelled (range_said l u (Opens ∷ []))
 unfolding spelled spell head_said
 said_hist a l u = refl
 

@@ -16,8 +16,8 @@ use Rattle.rule_scanner.specs.Starred.{is_comma, starred_one, starred}
 use Rattle.rule_scanner.specs.Reading.{read, read_text}
 use Rattle.rule_reader.specs.Rules.{result_of, read_book}
 use Rattle.rule_scanner.proofs.Theorems.{read_is_written}
-use Rattle.trees.specs.declared.Word.{Word}
-use Rattle.trees.specs.declared.Word.TheVariants.{False, True, Atom, And, Or, Not, Implies, Hist, Once, Since}
+use Rattle.book.specs.declared.kind.Kind.{Kind}
+use Rattle.book.specs.declared.kind.Kind.TheVariants.{False, True, Atom, And, Or, Not, Implies, Historically, Once, Since}
 use Rattle.rule_scanner.specs.declared.symbols.Symbol.{Symbol}
 use Rattle.rule_scanner.specs.declared.symbols.Symbol.TheVariants.{Name, Number, Left, Right, Opens, Closes, Comma, Star, Bad, End}
 use Rattle.rule_printer.specs.Printing.{printed, Ranged, Sayable}
@@ -117,7 +117,7 @@ upper_in u a = by_test (eqb u MAX) refl a
     by_test true e a = omega (arith, eqb-true u MAX e)
     by_test false e a = a
 
-head_in : (w : Word) (a l u n : ℕ) → Fit w a l u n → AllIn (head_said (head_of w a l u)) → (a ≤ MAX) × (l ≤ MAX) × (u ≤ MAX)
+head_in : (w : Kind) (a l u n : ℕ) → Fit w a l u n → AllIn (head_said (head_of w a l u)) → (a ≤ MAX) × (l ≤ MAX) × (u ≤ MAX)
 unfolding head_said
 head_in False a l u n t k = (omega (arith, t.1), omega (arith, t.2), omega (arith, t.3))
 head_in True a l u n t k = (omega (arith, t.1), omega (arith, t.2), omega (arith, t.3))
@@ -126,7 +126,7 @@ head_in And a l u n t k = (omega (arith, t.0), omega (arith, t.1), omega (arith,
 head_in Or a l u n t k = (omega (arith, t.0), omega (arith, t.1), omega (arith, t.2))
 head_in Not a l u n t k = (omega (arith, t.1), omega (arith, t.2), omega (arith, t.3))
 head_in Implies a l u n t k = (omega (arith, t.1), omega (arith, t.2), omega (arith, t.3))
-head_in Hist a l u n t k = (omega (arith, t.1), k.1.0, upper_in u k.1.1.1.0)
+head_in Historically a l u n t k = (omega (arith, t.1), k.1.0, upper_in u k.1.1.1.0)
 head_in Once a l u n t k = (omega (arith, t.1), k.1.0, upper_in u k.1.1.1.0)
 head_in Since a l u n t k = (omega (arith, t.1), k.1.0, upper_in u k.1.1.1.0)
 

@@ -11,8 +11,8 @@ use Rattle.text.specs.Words.{pick, parts, digit, all_digits, said, good, plain, 
 use Rattle.text.specs.Decimals.{decimal}
 use Rattle.text.proofs.Back.{good_decimal}
 use Rattle.rule_scanner.specs.Symbols.{letter, class_of, goes_on, run_of, same, name_of, number_of, mark_of, symbol_of, Placed, begins, symbols_after, symbols}
-use Rattle.trees.specs.declared.Word.{Word}
-use Rattle.trees.specs.declared.Word.TheVariants.{False, True, Atom, And, Or, Not, Implies, Hist, Once, Since}
+use Rattle.book.specs.declared.kind.Kind.{Kind}
+use Rattle.book.specs.declared.kind.Kind.TheVariants.{False, True, Atom, And, Or, Not, Implies, Historically, Once, Since}
 use Rattle.rule_scanner.specs.declared.symbols.Symbol.{Symbol}
 use Rattle.rule_scanner.specs.declared.symbols.Symbol.TheVariants.{Name, Number, Left, Right, Opens, Closes, Comma, Star, Bad, End}
 use Rattle.rule_printer.specs.Printing.{word_spelled, spell, spelled}
@@ -160,7 +160,7 @@ number_spelt n h =
     let a = digits_class (b ∷ w) f.3 in
     run_spelt (Number n) b w (refl, refl) refl e a (λ l s. is_number n b w l a.0 s (rw e at g.0) (rw e at g.1))
 
-word_spelt : (w : Word) → Spelt (Name w)
+word_spelt : (w : Kind) → Spelt (Name w)
 unfolding spell word_spelled class_of goes_on pick letter parts digit symbol_of name_of same
 word_spelt False = run_spelt (Name False) _ _ (refl, refl) refl refl (refl, (refl, (refl, (refl, (refl, tt))))) (λ l s. rw s)
 word_spelt True = run_spelt (Name True) _ _ (refl, refl) refl refl (refl, (refl, (refl, (refl, tt)))) (λ l s. rw s)
@@ -169,7 +169,7 @@ word_spelt And = run_spelt (Name And) _ _ (refl, refl) refl refl (refl, (refl, (
 word_spelt Or = run_spelt (Name Or) _ _ (refl, refl) refl refl (refl, (refl, tt)) (λ l s. rw s)
 word_spelt Not = run_spelt (Name Not) _ _ (refl, refl) refl refl (refl, (refl, (refl, tt))) (λ l s. rw s)
 word_spelt Implies = run_spelt (Name Implies) _ _ (refl, refl) refl refl (refl, (refl, (refl, (refl, (refl, (refl, (refl, tt))))))) (λ l s. rw s)
-word_spelt Hist = run_spelt (Name Hist) _ _ (refl, refl) refl refl (refl, (refl, (refl, (refl, tt)))) (λ l s. rw s)
+word_spelt Historically = run_spelt (Name Historically) _ _ (refl, refl) refl refl (refl, (refl, (refl, (refl, tt)))) (λ l s. rw s)
 word_spelt Once = run_spelt (Name Once) _ _ (refl, refl) refl refl (refl, (refl, (refl, (refl, tt)))) (λ l s. rw s)
 word_spelt Since = run_spelt (Name Since) _ _ (refl, refl) refl refl (refl, (refl, (refl, (refl, (refl, tt))))) (λ l s. rw s)
 

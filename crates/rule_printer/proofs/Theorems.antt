@@ -19,7 +19,8 @@ use Rattle.book.specs.Judging.{kind_in, arg_in, lower_in, upper_in, rows_in, jud
 use Rattle.book.proofs.Accepted.{form, range, atom_small, lower_small, upper_small, assume_below, guarantee_below}
 use Rattle.trees.specs.Forest.{Head, Forest, none, tree, ◌then◌}
 use Rattle.trees.specs.Numbered.{meanings}
-use Rattle.trees.specs.Building.{word_of, atom_of}
+use Rattle.book.specs.Kinds.{kind_of_word}
+use Rattle.trees.specs.Building.{atom_of}
 use Rattle.trees.specs.Books.{head_in, parts_in, joined, tree_at, trees_of}
 use Rattle.trees.proofs.Books.{AllOf, each_below, parts_below, tree_in, trees_count, trees_good, trees_mean}
 use Rattle.trees.proofs.Sections.{all_below_lem, head_are, rows_there, book_ordered}
@@ -56,8 +57,8 @@ module _ (b : Rows) (w : Ordered b) (fits : (r : ℕ) → r < length b → Fits 
   trees_ranged ps l = trees_each ps (each_below (λ r. Ranged (tree_at b r)) (length b) tree_ranged ps l)
 
 -- ---- an accepted book's
-atom_fits : (k a : ℕ) → (k ≡ 2 → a ≤ 255) → atom_of (word_of k) a ≤ MAX
-unfolding word_of
+atom_fits : (k a : ℕ) → (k ≡ 2 → a ≤ 255) → atom_of (kind_of_word k) a ≤ MAX
+unfolding kind_of_word
 atom_fits zero a h = omega arith
 atom_fits (suc zero) a h = omega arith
 atom_fits (suc (suc zero)) a h = omega (arith, h refl)

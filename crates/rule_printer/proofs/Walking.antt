@@ -17,11 +17,12 @@ use Rattle.book.specs.Judging.{kind_in, arg_in, lower_in, upper_in, start_in}
 use Rattle.buffer_writer.specs.Finish.{Wrote}
 use Rattle.buffer_writer.proofs.Writes.{and_then, same_bytes}
 use Rattle.trees.specs.Forest.{Head, head_of, Forest, tree, ◌then◌}
-use Rattle.trees.specs.Building.{word_of, atom_of}
+use Rattle.book.specs.Kinds.{kind_of_word}
+use Rattle.trees.specs.Building.{atom_of}
 use Rattle.trees.specs.Books.{head_in, parts_in, joined, tree_at, trees_of}
 use Rattle.trees.proofs.Books.{tree_in}
-use Rattle.trees.specs.declared.Word.{Word}
-use Rattle.trees.specs.declared.Word.TheVariants.{False, True, Atom, And, Or, Not, Implies, Hist, Once, Since}
+use Rattle.book.specs.declared.kind.Kind.{Kind}
+use Rattle.book.specs.declared.kind.Kind.TheVariants.{False, True, Atom, And, Or, Not, Implies, Historically, Once, Since}
 use Rattle.rule_scanner.specs.Writing.{head_said, shut, one_said, written}
 use Rattle.rule_scanner.specs.declared.symbols.Symbol.{Symbol}
 use Rattle.rule_scanner.specs.declared.symbols.Symbol.TheVariants.{Name, Comma}
@@ -32,10 +33,10 @@ use Rattle.rule_printer.specs.Walking.{comma_unless, rest_said}
 use Rattle.rule_printer.proofs.Putting.{none_put, spelled_append, one_spelled}
 
 -- ---- words of a head, whatever their numbers are called
-pub head_same : {m m' : List ℕ} {at at' : ℕ} {w w' : Word} {a a' l l' u u' : ℕ} → w ≡ w' → a ≡ a' → l ≡ l' → u ≡ u' → Wrote m at (spelled (Name w ∷ head_said (head_of w a l u))) m' at' → Wrote m at (spelled (Name w' ∷ head_said (head_of w' a' l' u'))) m' at'
+pub head_same : {m m' : List ℕ} {at at' : ℕ} {w w' : Kind} {a a' l l' u u' : ℕ} → w ≡ w' → a ≡ a' → l ≡ l' → u ≡ u' → Wrote m at (spelled (Name w ∷ head_said (head_of w a l u))) m' at' → Wrote m at (spelled (Name w' ∷ head_said (head_of w' a' l' u'))) m' at'
 head_same ew ea el eu p = rw (← ew, ← ea, ← el, ← eu) p
 
-head_any : (w : Word) (a l u : ℕ) → head_said (head_of w a l u) ≡ head_said (head_of w (atom_of w a) l u)
+head_any : (w : Kind) (a l u : ℕ) → head_said (head_of w a l u) ≡ head_said (head_of w (atom_of w a) l u)
 unfolding head_said
 head_any False a l u = refl
 head_any True a l u = refl
@@ -44,7 +45,7 @@ head_any And a l u = refl
 head_any Or a l u = refl
 head_any Not a l u = refl
 head_any Implies a l u = refl
-head_any Hist a l u = refl
+head_any Historically a l u = refl
 head_any Once a l u = refl
 head_any Since a l u = refl
 
@@ -128,22 +129,22 @@ module _ {rows operands : List ℕ} (x : Held rows operands) (r : ℕ) (h : r < 
   abbrev said : Rows
   said = rows_said rows operands
 
-  said_begin : spelled (Name (word_of (kind_in rows r)) ∷ head_said (head_of (word_of (kind_in rows r)) (arg_in rows r) (lower_in rows r) (upper_in rows r))) ≡ spelled (Name (head_in (row_at said r)).word ∷ head_said (head_in (row_at said r)))
+  said_begin : spelled (Name (kind_of_word (kind_in rows r)) ∷ head_said (head_of (kind_of_word (kind_in rows r)) (arg_in rows r) (lower_in rows r) (upper_in rows r))) ≡ spelled (Name (head_in (row_at said r)).word ∷ head_said (head_in (row_at said r)))
   said_begin =
-      ap (λ (z : List Symbol). spelled (Name (word_of (kind_in rows r)) ∷ z)) (head_any (word_of (kind_in rows r)) (arg_in rows r) (lower_in rows r) (upper_in rows r))
+      ap (λ (z : List Symbol). spelled (Name (kind_of_word (kind_in rows r)) ∷ z)) (head_any (kind_of_word (kind_in rows r)) (arg_in rows r) (lower_in rows r) (upper_in rows r))
       ∙ ap (λ (z : Head). spelled (Name z.word ∷ head_said z)) (sym (said_head x r h))
 
 -- nothing is left
-pub rest_done : {rows operands m m' : List ℕ} {row at at' left k : ℕ} {w : Word} → Walk rows operands row left → left ≡ 0 → w ≡ word_of k → k ≡ kind_in rows row → Wrote m at (spelled (shut w)) m' at' → Wrote m at (spelled (rest_said (rows_said rows operands) row left)) m' at'
+pub rest_done : {rows operands m m' : List ℕ} {row at at' left k : ℕ} {w : Kind} → Walk rows operands row left → left ≡ 0 → w ≡ kind_of_word k → k ≡ kind_in rows row → Wrote m at (spelled (shut w)) m' at' → Wrote m at (spelled (rest_said (rows_said rows operands) row left)) m' at'
 rest_done {rows} {operands} {row = row} x z ew ek p =
-    let e = ew ∙ ap word_of ek ∙ ap (λ (h : Head). h.word) (sym (said_head x.held row x.inside)) in
+    let e = ew ∙ ap kind_of_word ek ∙ ap (λ (h : Head). h.word) (sym (said_head x.held row x.inside)) in
     rw (z, rest_nothing (rows_said rows operands) (said_ordered x.held) row, ← e) p
 
 -- one part, and those after it
 pub rest_more : {rows operands m m₁ m₂ m₃ m₄ : List ℕ} {row left o at a₁ a₂ a₃ a₄ count inner : ℕ} → Walk rows operands row left → 0 < left
     → o ≡ get_or operands (start_in rows row + (count_of (kind_in rows row) (arg_in rows row) - left)) 0 → count ≡ count_of (kind_in rows row) (arg_in rows row) → inner ≡ count_of (kind_in rows o) (arg_in rows o)
     → Wrote m at (spelled (comma_unless (eqb left count))) m₁ a₁
-    → Wrote m₁ a₁ (spelled (Name (word_of (kind_in rows o)) ∷ head_said (head_of (word_of (kind_in rows o)) (arg_in rows o) (lower_in rows o) (upper_in rows o)))) m₂ a₂
+    → Wrote m₁ a₁ (spelled (Name (kind_of_word (kind_in rows o)) ∷ head_said (head_of (kind_of_word (kind_in rows o)) (arg_in rows o) (lower_in rows o) (upper_in rows o)))) m₂ a₂
     → Wrote m₂ a₂ (spelled (rest_said (rows_said rows operands) o inner)) m₃ a₃
     → Wrote m₃ a₃ (spelled (rest_said (rows_said rows operands) row (left - 1))) m₄ a₄
     → Wrote m at (spelled (rest_said (rows_said rows operands) row left)) m₄ a₄
@@ -163,7 +164,7 @@ rest_more {rows} {operands} {row = row} {left} {o} {count = count} {inner} x som
 
 -- a row on its line
 pub line_put : {rows operands m m₁ m₂ m₃ : List ℕ} {row at a₁ a₂ a₃ count left : ℕ} → Walk rows operands row left → count ≡ count_of (kind_in rows row) (arg_in rows row)
-    → Wrote m at (spelled (Name (word_of (kind_in rows row)) ∷ head_said (head_of (word_of (kind_in rows row)) (arg_in rows row) (lower_in rows row) (upper_in rows row)))) m₁ a₁
+    → Wrote m at (spelled (Name (kind_of_word (kind_in rows row)) ∷ head_said (head_of (kind_of_word (kind_in rows row)) (arg_in rows row) (lower_in rows row) (upper_in rows row)))) m₁ a₁
     → Wrote m₁ a₁ (spelled (rest_said (rows_said rows operands) row count)) m₂ a₂
     → Wrote m₂ a₂ (line_feed ∷ []) m₃ a₃
     → Wrote m at (lines (tree_at (rows_said rows operands) row)) m₃ a₃

@@ -9,13 +9,13 @@ use Rattle.trees.specs.Books.{trees_of}
 use Rattle.trees.specs.Forest.{Forest, none, tree, count}
 use Rattle.rule_scanner.specs.Writing.{one_said, written}
 use Rattle.rule_scanner.specs.Reading.{Outcome, read, wrong}
-use Rattle.trees.specs.declared.Word.{Word}
-use Rattle.trees.specs.declared.Word.TheVariants.{False, True, Atom, And, Or, Not, Implies, Hist, Once, Since}
+use Rattle.book.specs.declared.kind.Kind.{Kind}
+use Rattle.book.specs.declared.kind.Kind.TheVariants.{False, True, Atom, And, Or, Not, Implies, Historically, Once, Since}
 use Rattle.rule_scanner.specs.declared.symbols.Symbol.{Symbol}
 use Rattle.rule_scanner.specs.declared.symbols.Symbol.TheVariants.{Name, Number, Left, Right, Opens, Closes, Comma, Star, Bad, End}
 
 -- a word's letters
-unfoldable pub word_spelled : Word → List ℕ
+unfoldable pub word_spelled : Kind → List ℕ
 word_spelled False = false_word
 word_spelled True = true_word
 word_spelled Atom = atom_word
@@ -23,7 +23,7 @@ word_spelled And = and_word
 word_spelled Or = or_word
 word_spelled Not = not_word
 word_spelled Implies = implies_word
-word_spelled Hist = hist_word
+word_spelled Historically = hist_word
 word_spelled Once = once_word
 word_spelled Since = since_word
 

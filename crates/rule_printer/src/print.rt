@@ -9,7 +9,9 @@ ghost use Rattle.trees.specs.Walking.{rows_said, Properties};
 ghost use Rattle.rule_printer.specs.Printing.{lines, section_printed, book_printed};
 
 use crate::walk::put_line;
-use book::check::{Places, assumes_part, guarantees_part, operands_part, place, rows_part};
+use book::check::{
+    Places, assumes_part, guarantees_part, operands_part, place_accepted, rows_part,
+};
 use buffer_writer::{finished, put_bytes, put_number};
 
 // Properties, each on its line.
@@ -24,10 +26,8 @@ fn put_lines<'a>(
     ensures { Wrote out.old at (lines (trees_of (rows_said rows.now operands.now) properties.now)) out.new result }
 {
     let mut end = at;
-    let mut i = 0;
-    while i < properties.len() {
-        end = put_line(out, end, rows, operands, properties[i] as usize);
-        i += 1;
+    for property in properties {
+        end = put_line(out, end, rows, operands, *property as usize);
     }
     end
 }
@@ -53,7 +53,7 @@ pub fn print_book(words: &[u64], out: &mut [u8]) -> u64
     requires { (loaded words.now).number ≡ ACCEPTED }
     ensures { handed result out.new ≡ in_buffer out.old (book_printed (loaded words.now).book) }
 {
-    let places = place(words);
+    let places = place_accepted(words);
     let rows = rows_part(words, places);
     let operands = operands_part(words, places);
     let middle = put_section(out, 0, rows, operands, assumes_part(words, places));

@@ -2,8 +2,8 @@
 ghost use Rattle.std.specs.Prelude.{◌∷◌, ◌/◌, ◌<◌, length, eqb};
 ghost use Rattle.numbers.specs.Limits.{ROW_WORDS};
 ghost use Rattle.buffer_writer.specs.Finish.{Wrote};
+ghost use Rattle.book.specs.Kinds.{kind_of_word};
 ghost use Rattle.book.specs.Judging.{kind_in, arg_in, lower_in, upper_in};
-ghost use Rattle.trees.specs.Building.{word_of};
 ghost use Rattle.trees.specs.Forest.{head_of};
 ghost use Rattle.trees.specs.Books.{tree_at};
 ghost use Rattle.trees.specs.Walking.{Walk, rows_said};
@@ -14,19 +14,19 @@ ghost use Rattle.rule_printer.specs.Walking.{comma_unless, rest_said};
 
 use crate::put::{put_head, put_shut};
 use book::check::{arg_in, kind_in, lower_in, upper_in};
+use book::kind::Kind;
 use buffer_writer::put_bytes;
 use trees::walk::{count_at, operand_at};
-use trees::word_of;
 
 // What a row's property begins with, up to its parts.
 fn put_begin(out: &mut [u8], at: usize, rows: &[u64], row: usize) -> usize
     requires { row < length rows.now / ROW_WORDS }
-    ensures { Wrote out.old at (spelled (Name (word_of (kind_in rows.now row)) ∷ head_said (head_of (word_of (kind_in rows.now row)) (arg_in rows.now row) (lower_in rows.now row) (upper_in rows.now row)))) out.new result }
+    ensures { Wrote out.old at (spelled (Name (kind_of_word (kind_in rows.now row)) ∷ head_said (head_of (kind_of_word (kind_in rows.now row)) (arg_in rows.now row) (lower_in rows.now row) (upper_in rows.now row)))) out.new result }
 {
     put_head(
         out,
         at,
-        word_of(kind_in(rows, row)),
+        Kind::of_word(kind_in(rows, row)),
         arg_in(rows, row),
         lower_in(rows, row),
         upper_in(rows, row),
@@ -56,7 +56,7 @@ fn put_rest<'a>(
     ensures { Wrote out.old at (spelled (rest_said (rows_said rows.now operands.now) row left)) out.new result }
 {
     if left == 0 {
-        return put_shut(out, at, word_of(kind_in(rows, row)));
+        return put_shut(out, at, Kind::of_word(kind_in(rows, row)));
     }
     let part = operand_at(rows, operands, row, left);
     let begin = put_comma(out, at, left, count_at(rows, row));

@@ -9,13 +9,14 @@ use lib.Seq.{sets, length-sets, get_or-set_same, get_or-set_other}
 use Rattle.book.specs.Judging.{kind_in, arg_in, lower_in, upper_in}
 use Rattle.trees.specs.Forest.{head_of, Forest, none, one, ◌then◌, count, size, roots}
 use Rattle.rule_scanner.specs.Reading.{Frame, State, state_of, between, completed, next_part, closed, finished, taken}
-use Rattle.trees.specs.Building.{kind_of, arg_of, row_words, Mem, Emitted}
+use Rattle.book.specs.Kinds.{word_of_kind}
+use Rattle.trees.specs.Building.{arg_of, row_words, Mem, Emitted}
 use Rattle.trees.proofs.Numbered.{roots_length}
 use Rattle.trees.proofs.Built.{then_none, then_assoc, count_then, size_more, count_more}
 use Rattle.trees.specs.declared.rows.RowWords.{RowWords}
 use Rattle.trees.specs.declared.rows.Spot.{Spot}
-use Rattle.trees.specs.declared.Word.{Word}
-use Rattle.trees.specs.declared.Word.TheVariants.{False, True, And, Or, Not, Implies, Hist, Once, Since}
+use Rattle.book.specs.declared.kind.Kind.{Kind}
+use Rattle.book.specs.declared.kind.Kind.TheVariants.{False, True, And, Or, Not, Implies, Historically, Once, Since}
 use Rattle.rule_scanner.specs.declared.turns.Mode.{Mode}
 use Rattle.rule_scanner.specs.declared.turns.Turn.{Turn}
 use Rattle.rule_scanner.specs.declared.turns.Turn.TheVariants.{Refused, Go, Leaf, Open, Part, Close, Counted, Ended}
@@ -54,7 +55,7 @@ lies_completed {l} {fm} {rs} {os} {ts} t o s n h b f k m c z =
     record { mem = rw e m; height = rw e c; balance = rw e z; frames = frames_completed fm t o s n h b k }
 
 -- ---- a row is made with no parts
-leaf_words : (w : Word) (a n : ℕ) → kind_of w ∷ arg_of w a 0 ∷ 0 ∷ 0 ∷ [] ≡ row_words (record { head = head_of w a 0 0; operands = roots n none })
+leaf_words : (w : Kind) (a n : ℕ) → word_of_kind w ∷ arg_of w a 0 ∷ 0 ∷ 0 ∷ [] ≡ row_words (record { head = head_of w a 0 0; operands = roots n none })
 unfolding roots
 leaf_words w a n = refl
 
@@ -69,7 +70,7 @@ abbrev words_with : ℕ → ℕ → ℕ → ℕ → RowWords
 words_with kind arg lower upper = record { kind = kind; arg = arg; lower = lower; upper = upper }
 
 module _ {rs os ts rs' os' ts' : List ℕ} (depth row : ℕ) (l : Laid) where
-  pub lays_leaf : (w : Word) (a kind arg : ℕ) (l' : Laid) → kind ≡ kind_of w → arg ≡ arg_of w a 0 → l'.operands ≡ l.operands → l'.height ≡ l.height + 1
+  pub lays_leaf : (w : Kind) (a kind arg : ℕ) (l' : Laid) → kind ≡ word_of_kind w → arg ≡ arg_of w a 0 → l'.operands ≡ l.operands → l'.height ≡ l.height + 1
       → Emitted rs os ts (spot_of row l.height l.height l.operands) (words_with kind arg 0 0) rs' os' ts' → LaysRows (Leaf w a) (site_of depth row l) rs os ts l' rs' os' ts'
   lays_leaf w a kind arg l' ek ea eo eh e = record {
     over = λ fm. record {
@@ -93,17 +94,17 @@ module _ {rs os ts rs' os' ts' : List ℕ} (depth row : ℕ) (l : Laid) where
           lies_completed (one i none) r.stack r.second r.left r.here r.before sane.first y.frames (rw v at m) c b
 
 -- ---- a bracket closes
-not_atom : (w : Word) (a n : ℕ) → NotAtom w → arg_of w a n ≡ n
+not_atom : (w : Kind) (a n : ℕ) → NotAtom w → arg_of w a n ≡ n
 not_atom False a n k = refl
 not_atom True a n k = refl
 not_atom And a n k = refl
 not_atom Or a n k = refl
 not_atom Not a n k = refl
 not_atom Implies a n k = refl
-not_atom Hist a n k = refl
+not_atom Historically a n k = refl
 not_atom Once a n k = refl
 not_atom Since a n k = refl
-not_atom Rattle.trees.specs.declared.Word.TheVariants.Atom a n k = elim k [ ]
+not_atom Rattle.book.specs.declared.kind.Kind.TheVariants.Atom a n k = elim k [ ]
 
 -- there are no fewer rows than when it opened
 pub base_low : {l : Laid} {fm rs os ts : List ℕ} (depth top : ℕ) (r : State) → (depth ≡ 0 → ⊥) → top ≡ depth - 1 → depth ≡ length r.stack → Lies r l fm rs os ts → arg_in fm top ≤ l.height
@@ -142,7 +143,7 @@ module _ {fm rs os ts rs' os' ts' : List ℕ} (depth row : ℕ) (l : Laid) where
           let t = count_then g q in
           let j : l.height - base ≡ length (roots (size g) q) = omega (arith, roots_length (size g) q) in
           let ra : arg ≡ arg_of i.word i.atom (length (roots (size g) q)) = ea ∙ j ∙ sym (not_atom i.word i.atom (length (roots (size g) q)) a.0) in
-          let rk : kind ≡ kind_of i.word = ek ∙ ap (kind_in fm) (sym v) ∙ fr.0 in
+          let rk : kind ≡ word_of_kind i.word = ek ∙ ap (kind_in fm) (sym v) ∙ fr.0 in
           let rl : lower ≡ i.lower = el ∙ ap (lower_in fm) (sym v) ∙ fr.2 in
           let ru : upper ≡ i.upper = eu ∙ ap (upper_in fm) (sym v) ∙ fr.3 in
           let y : Mem rs' os' ts' (l.operands + (l.height - base)) (g then one i q) = e.holds g q i m w (omega arith) z (rw (rk, ra, rl, ru)) in
@@ -202,7 +203,7 @@ module _ (fm : List ℕ) (k a b c d : ℕ) (room : 4 * k + 4 ≤ length fm) wher
       rw e (get_or-set_same (set (set (set fm (4 * k) a) (suc (4 * k)) b) (suc (suc (4 * k))) c) (suc (suc (suc (4 * k)))) d 0 (omega (arith, long3)))
 
 module _ {fm fm' rs os ts : List ℕ} (depth row : ℕ) (l : Laid) where
-  pub lays_open : (w : Word) (x u kind base : ℕ) → 4 * depth + 4 ≤ length fm → kind ≡ kind_of w → base ≡ l.height → fm' ≡ sets fm (4 * depth) (kind ∷ base ∷ x ∷ u ∷ []) → Lays (Open w x u) (site_of depth row l) fm rs os ts l fm' rs os ts
+  pub lays_open : (w : Kind) (x u kind base : ℕ) → 4 * depth + 4 ≤ length fm → kind ≡ word_of_kind w → base ≡ l.height → fm' ≡ sets fm (4 * depth) (kind ∷ base ∷ x ∷ u ∷ []) → Lays (Open w x u) (site_of depth row l) fm rs os ts l fm' rs os ts
   unfolding laid
   lays_open w x u kind base room ek eb e = record {
     holds = λ r sane d z y.

@@ -16,8 +16,8 @@ use Rattle.rule_scanner.proofs.Sound.{by_symbol, Op, Frames, FrameOk, AfterOk, O
 use Rattle.trees.proofs.Numbered.{size_then}
 use Rattle.trees.proofs.Built.{then_none, count_then}
 use Rattle.rule_scanner.proofs.Passing.{Reader, refused_is, ended_is, going_is, turned_is, moved, steps, not_end}
-use Rattle.trees.specs.declared.Word.{Word}
-use Rattle.trees.specs.declared.Word.TheVariants.{False, True, Atom, And, Or, Not, Implies, Hist, Once, Since}
+use Rattle.book.specs.declared.kind.Kind.{Kind}
+use Rattle.book.specs.declared.kind.Kind.TheVariants.{False, True, Atom, And, Or, Not, Implies, Historically, Once, Since}
 use Rattle.rule_scanner.specs.declared.symbols.Symbol.{Symbol}
 use Rattle.rule_scanner.specs.declared.turns.Mode.{Mode}
 use Rattle.rule_scanner.specs.declared.turns.Mode.TheVariants as mode
@@ -56,7 +56,7 @@ FitsTurn m Close = Unit {0}
 FitsTurn m (Counted n) = m ≡ mode.Count
 FitsTurn m Ended = Unit {0}
 
-begun_fits : (m : Mode) (w : Word) → FitsTurn m (begun w)
+begun_fits : (m : Mode) (w : Kind) → FitsTurn m (begun w)
 begun_fits m False = tt
 begun_fits m True = tt
 begun_fits m Atom = tt
@@ -64,7 +64,7 @@ begun_fits m And = tt
 begun_fits m Or = tt
 begun_fits m Not = tt
 begun_fits m Implies = tt
-begun_fits m Hist = tt
+begun_fits m Historically = tt
 begun_fits m Once = tt
 begun_fits m Since = tt
 
@@ -158,12 +158,12 @@ tidy_after m Ended [] s n h b k f = tt
 tidy_after m Ended (x ∷ o) s n h b k f = tt
 
 -- ---- what a turn asks for is there
-not_atom : (w : Word) (a l u : ℕ) → Op w a l u → NotAtom w
+not_atom : (w : Kind) (a l u : ℕ) → Op w a l u → NotAtom w
 not_atom And a l u k = tt
 not_atom Or a l u k = tt
 not_atom Not a l u k = tt
 not_atom Implies a l u k = tt
-not_atom Hist a l u k = tt
+not_atom Historically a l u k = tt
 not_atom Once a l u k = tt
 not_atom Since a l u k = tt
 not_atom False a l u k = elim k [ ]

@@ -5,9 +5,10 @@ use Rattle.book.specs.Judging.{kind_in, arg_in, lower_in, upper_in}
 use Rattle.trees.specs.Forest.{Forest, none, ◌then◌, count, size}
 use Rattle.rule_scanner.specs.Reading.{Frame, State, Step, refused, going, ended, taken, Outcome, read, wrong, read_text}
 use Rattle.rule_scanner.specs.Scanning.{refuses}
-use Rattle.trees.specs.Building.{kind_of, Mem, Rooms}
-use Rattle.trees.specs.declared.Word.{Word}
-use Rattle.trees.specs.declared.Word.TheVariants.{False, True, Atom, And, Or, Not, Implies, Hist, Once, Since}
+use Rattle.book.specs.Kinds.{word_of_kind}
+use Rattle.trees.specs.Building.{Mem, Rooms}
+use Rattle.book.specs.declared.kind.Kind.{Kind}
+use Rattle.book.specs.declared.kind.Kind.TheVariants.{False, True, Atom, And, Or, Not, Implies, Historically, Once, Since}
 use Rattle.rule_scanner.specs.declared.turns.Turn.{Turn}
 use Rattle.rule_scanner.specs.declared.turns.Turn.TheVariants.{Refused, Go, Leaf, Open, Part, Close, Counted, Ended}
 use Rattle.rule_reader.specs.declared.lay.Laid.{Laid}
@@ -25,7 +26,7 @@ forest r = laid r.stack (r.before then r.here)
 abbrev pub FramesIn : List ℕ → List Frame → Forest → Type 0
 FramesIn m [] x = Unit {0}
 FramesIn m (f ∷ fs) x =
-    (kind_in m (length fs) ≡ kind_of f.head.word)
+    (kind_in m (length fs) ≡ word_of_kind f.head.word)
     × (arg_in m (length fs) ≡ count (laid fs x))
     × (lower_in m (length fs) ≡ f.head.lower)
     × (upper_in m (length fs) ≡ f.head.upper)
@@ -66,7 +67,7 @@ Counting Close o h = Unit {0}
 Counting (Counted n) o h = (o ≡ []) × (h ≡ none)
 Counting Ended o h = Unit {0}
 
-abbrev pub NotAtom : Word → Type 0
+abbrev pub NotAtom : Kind → Type 0
 NotAtom False = Unit {0}
 NotAtom True = Unit {0}
 NotAtom Atom = ⊥
@@ -74,7 +75,7 @@ NotAtom And = Unit {0}
 NotAtom Or = Unit {0}
 NotAtom Not = Unit {0}
 NotAtom Implies = Unit {0}
-NotAtom Hist = Unit {0}
+NotAtom Historically = Unit {0}
 NotAtom Once = Unit {0}
 NotAtom Since = Unit {0}
 

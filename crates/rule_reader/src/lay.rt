@@ -5,9 +5,9 @@ ghost use Rattle.trees.specs.Building.{arg_of};
 ghost use Rattle.rule_reader.specs.Laying.{Makable, Closable, Takable, Lays, LaysRows};
 
 use book::check::{arg_in, kind_in, lower_in, upper_in};
+use book::kind::Kind;
 use rule_scanner::turns::Turn;
 use trees::rows::{RowWords, Spot, emit, put_row};
-use trees::{Word, kind_of};
 
 // How many operands there are so far, and how many rows that no other has taken yet.
 #[derive(Clone, Copy)]
@@ -25,20 +25,12 @@ pub struct Site {
 }
 
 // The arg of a row with no operands.
-fn leaf_arg(word: Word, atom: u64) -> u64
+fn leaf_arg(word: Kind, atom: u64) -> u64
     ensures { result ≡ arg_of word atom 0 }
 {
     match word {
-        Word::False => 0,
-        Word::True => 0,
-        Word::Atom => atom,
-        Word::And => 0,
-        Word::Or => 0,
-        Word::Not => 0,
-        Word::Implies => 0,
-        Word::Hist => 0,
-        Word::Once => 0,
-        Word::Since => 0,
+        Kind::Atom => atom,
+        _ => 0,
     }
 }
 
@@ -82,7 +74,7 @@ fn close(
 // A property with no parts becomes a row.
 fn lay_leaf(
     site: Site,
-    word: Word,
+    word: Kind,
     atom: u64,
     rows: &mut [u64],
     operands: &mut [u64],
@@ -100,7 +92,7 @@ fn lay_leaf(
         operands: laid.operands,
     };
     let words = RowWords {
-        kind: kind_of(word),
+        kind: word.word(),
         arg: leaf_arg(word, atom),
         lower: 0,
         upper: 0,
@@ -129,7 +121,7 @@ pub fn lay(
         Turn::Leaf(word, atom) => lay_leaf(site, word, atom, rows, operands, tops),
         Turn::Open(word, lower, upper) => {
             let frame = RowWords {
-                kind: kind_of(word),
+                kind: word.word(),
                 arg: laid.height as u64,
                 lower,
                 upper,
@@ -138,10 +130,6 @@ pub fn lay(
             laid
         }
         Turn::Close => close(site, frames, rows, operands, tops),
-        Turn::Go(_) => laid,
-        Turn::Part => laid,
-        Turn::Counted(_) => laid,
-        Turn::Refused => laid,
-        Turn::Ended => laid,
+        Turn::Go(_) | Turn::Part | Turn::Counted(_) | Turn::Refused | Turn::Ended => laid,
     }
 }

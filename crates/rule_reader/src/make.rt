@@ -8,7 +8,8 @@ use rule_scanner::symbols::{Found, Symbol, next_symbol};
 use rule_scanner::turns::{Form, Mode, Turn, turned};
 
 // Builds what a text says that has few enough rows, and answers with how many operands there are. It is known by then
-// that the text is written as it should be and how many rows it has, so nothing is asked about room.
+// that the text is written as it should be and how many rows it has, so nothing is asked about room. The loop is
+// not that of `scan_text` with a closure in it, whose contract would have to say both.
 pub fn make(
     input: &[u8],
     forms: &mut [u8],
@@ -28,18 +29,15 @@ pub fn make(
     let mut at = 0;
     loop {
         let found = next_symbol(input, at);
-        let depth = p.depth;
-        let mode = p.mode;
-        let symbol = found.symbol;
-        let t = turned(mode, form_at(forms, depth), symbol);
-        if refuses(t, depth) {
+        let t = turned(p.mode, form_at(forms, p.depth), found.symbol);
+        if refuses(t, p.depth) {
             return 0;
         }
         if ends(t) {
             return laid.operands;
         }
         let site = Site {
-            depth,
+            depth: p.depth,
             row: p.past + p.rows,
             laid,
         };

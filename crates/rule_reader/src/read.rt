@@ -3,47 +3,34 @@
 ghost use Rattle.std.specs.Prelude.{◌≡◌, ◌≤◌, length};
 ghost use Rattle.numbers.specs.Limits.{LONGEST_INPUT};
 ghost use Rattle.trees.specs.Putting.{MOST_WORDS};
-ghost use Rattle.rule_reader.specs.Words.{refused_at, Right, ReadAs};
+ghost use Rattle.numbers.specs.Refusals.{refused_with};
+ghost use Rattle.rule_reader.specs.Words.{number_read, place_read, length_of, Right, ReadAs};
 
 use crate::make::make;
-use book::check::check;
-use numbers::{ACCEPTED, BAD_WORD, LONGEST_INPUT, MOST_ROWS, PAST_LIMIT, ROW_WORDS};
-use rule_scanner::scan::{Scan, scan_text};
-use trees::book_words::{Counts, put_sections};
+use book::check::{Places, check};
+use numbers::{LONGEST_INPUT, MOST_ROWS, ROW_WORDS, Refusal};
+use rule_scanner::scan::{Extent, scan_text};
+use trees::book_words::put_sections;
 
-// What a text is refused with, 0 where nothing is wrong; the place of what is wrong in its form; and how many words its
-// book has, 0 where it is refused.
-#[derive(Clone, Copy)]
-pub struct BookRead {
-    pub number: u64,
+// What a text is refused with, and the place of what is wrong in its form, 0 where it is not its form.
+#[derive(Clone, Copy, Debug, PartialEq, Eq)]
+pub struct Wrong {
+    pub refusal: Refusal,
     pub place: usize,
-    pub length: usize,
-}
-
-fn refused(number: u64, place: usize) -> BookRead
-    ensures { result ≡ refused_at number place }
-{
-    BookRead {
-        number,
-        place,
-        length: 0,
-    }
 }
 
 // The book of a text that is written as it should be.
 fn build(
     input: &[u8],
     forms: &mut [u8],
-    rows: usize,
-    assumes: usize,
-    guarantees: usize,
+    extent: Extent,
     words: &mut [u64],
-) -> BookRead
-    requires { Right input.now rows assumes guarantees (length forms.old) (length words.old) }
-    ensures { ReadAs input.now result.number result.place result.length words.new }
+) -> Result<usize, Refusal>
+    requires { Right input.now extent (length forms.old) (length words.old) }
+    ensures { ReadAs input.now (refused_with result) 0 (length_of result) words.new }
 {
-    if MOST_ROWS < rows {
-        return refused(PAST_LIMIT, 0);
+    if MOST_ROWS < extent.rows {
+        return Err(Refusal::PastLimit);
     }
     let mut frames = [0; ROW_WORDS * MOST_ROWS];
     let mut made = [0; ROW_WORDS * MOST_ROWS];
@@ -57,35 +44,31 @@ fn build(
         &mut operands,
         &mut tops,
     );
-    let counts = Counts {
-        rows,
+    let counts = Places {
+        rows: extent.rows,
         operands: taken,
-        assumes,
-        guarantees,
+        assumes: extent.assumes,
+        guarantees: extent.guarantees,
     };
     let end = put_sections(words, counts, &made, &operands, &tops);
-    let number = check(lists::part_of(words, 0, end));
-    if number != ACCEPTED {
-        return refused(number, 0);
-    }
-    BookRead {
-        number,
-        place: 0,
-        length: end,
-    }
+    check(lists::part_of(words, 0, end))?;
+    Ok(end)
 }
 
-// Reads a text as a book, whose words are then the first of `words`.
-pub fn read_book(input: &[u8], words: &mut [u64]) -> BookRead
+// Reads a text as a book, whose words are then the first of `words`, and answers with how many they are.
+pub fn read_book(input: &[u8], words: &mut [u64]) -> Result<usize, Wrong>
     requires { (length input.now ≤ LONGEST_INPUT) × (MOST_WORDS ≤ length words.old) }
-    ensures { ReadAs input.now result.number result.place result.length words.new }
+    ensures { ReadAs input.now (number_read result) (place_read result) (length_of result) words.new }
 {
-    let mut forms = [0u8; LONGEST_INPUT];
-    let scan = scan_text(input, &mut forms);
-    match scan {
-        Scan::Wrong(place) => refused(BAD_WORD, place),
-        Scan::Right(rows, assumes, guarantees) => build(
-            input, &mut forms, rows, assumes, guarantees, words,
-        ),
+    let mut forms = [0; LONGEST_INPUT];
+    match scan_text(input, &mut forms) {
+        Ok(extent) => build(input, &mut forms, extent, words).map_err(|refusal| Wrong {
+            refusal,
+            place: 0,
+        }),
+        Err(place) => Err(Wrong {
+            refusal: Refusal::BadWord,
+            place,
+        }),
     }
 }

@@ -13,8 +13,8 @@ use Rattle.trees.proofs.Built.{then_none, then_assoc}
 use Rattle.trees.specs.Forest.{Head, head_of, Forest, none, tree, one, ◌then◌, count, Fit, Good}
 use Rattle.rule_scanner.specs.Writing.{range_said, head_said, shut, one_said, written, file_said}
 use Rattle.rule_scanner.specs.Reading.{parting, closing, form_of, first_mode, parted, Frame, frame_of, State, state_of, start, between, completed, Step, refused, going, ended, move, read, onward, reading}
-use Rattle.trees.specs.declared.Word.{Word}
-use Rattle.trees.specs.declared.Word.TheVariants.{False, True, Atom, And, Or, Not, Implies, Hist, Once, Since}
+use Rattle.book.specs.declared.kind.Kind.{Kind}
+use Rattle.book.specs.declared.kind.Kind.TheVariants.{False, True, Atom, And, Or, Not, Implies, Historically, Once, Since}
 use Rattle.rule_scanner.specs.declared.symbols.Symbol.{Symbol}
 use Rattle.rule_scanner.specs.declared.symbols.Symbol.TheVariants.{Name, Number, Opens, Closes, Comma, End}
 use Rattle.rule_scanner.specs.declared.turns.Mode.{Mode}
@@ -90,7 +90,7 @@ module _ (o : List Frame) (sec : Bool) (n : ℕ) (hh bb : Forest) where
   unfolding through move
   closing_step f g p e = rw e
 
-  as_begin : (f : Form) (k : Frame) (w : Word) (zs : List Symbol) → through (In (first_mode f) k) (Name w ∷ zs) ≡ through (In mode.Begin k) (Name w ∷ zs)
+  as_begin : (f : Form) (k : Frame) (w : Kind) (zs : List Symbol) → through (In (first_mode f) k) (Name w ∷ zs) ≡ through (In mode.Begin k) (Name w ∷ zs)
   unfolding through move
   as_begin form.Many k w zs = refl
   as_begin form.One k w zs = refl
@@ -114,7 +114,7 @@ module _ (o : List Frame) (sec : Bool) (n : ℕ) (hh bb : Forest) where
   no_parts none e = refl
   no_parts (tree h p s) e = absurd (omega arith)
 
-  range_read : (w : Word) (l u : ℕ) (zs : List Symbol) → through (At (mode.Left w)) (range_said l u (Opens ∷ []) ++ zs) ≡ through (In (first_mode (form_of w)) (frame_of (head_of w 0 l u) (form_of w) none)) zs
+  range_read : (w : Kind) (l u : ℕ) (zs : List Symbol) → through (At (mode.Left w)) (range_said l u (Opens ∷ []) ++ zs) ≡ through (In (first_mode (form_of w)) (frame_of (head_of w 0 l u) (form_of w) none)) zs
   unfolding through move pick
   range_read w l u zs = by_test (eqb u MAX) refl
     where
@@ -122,7 +122,7 @@ module _ (o : List Frame) (sec : Bool) (n : ℕ) (hh bb : Forest) where
       by_test true e = let v : u ≡ MAX = eqb-true u MAX e in rw (e, v)
       by_test false e = rw e
 
-  reads_one : (w : Word) (a l u : ℕ) (p : Forest) → Inner p → Fit w a l u (count p) → through (At mode.Begin) (one_said (head_of w a l u) (written [] (Comma ∷ []) p)) ≡ going (completed (one (head_of w a l u) p) o sec n hh bb)
+  reads_one : (w : Kind) (a l u : ℕ) (p : Forest) → Inner p → Fit w a l u (count p) → through (At mode.Begin) (one_said (head_of w a l u) (written [] (Comma ∷ []) p)) ≡ going (completed (one (head_of w a l u) p) o sec n hh bb)
   unfolding through move one_said head_said shut written
   reads_one False a l u p i t = rw (no_parts p t.0, t.1, t.2, t.3)
   reads_one True a l u p i t = rw (no_parts p t.0, t.1, t.2, t.3)
@@ -131,7 +131,7 @@ module _ (o : List Frame) (sec : Bool) (n : ℕ) (hh bb : Forest) where
   reads_one Or a l u p i t = rw (t.0, t.1, t.2) (inside form.Many (head_of Or 0 0 0) p i tt)
   reads_one Not a l u p i t = rw (t.1, t.2, t.3) (inside form.One (head_of Not 0 0 0) p i t.0)
   reads_one Implies a l u p i t = rw (t.1, t.2, t.3) (inside form.Two (head_of Implies 0 0 0) p i t.0)
-  reads_one Hist a l u p i t = rw t.1 (range_read Hist l u (written [] (Comma ∷ []) p ++ (Closes ∷ [])) ∙ inside form.One (head_of Hist 0 l u) p i t.0)
+  reads_one Historically a l u p i t = rw t.1 (range_read Historically l u (written [] (Comma ∷ []) p ++ (Closes ∷ [])) ∙ inside form.One (head_of Historically 0 l u) p i t.0)
   reads_one Once a l u p i t = rw t.1 (range_read Once l u (written [] (Comma ∷ []) p ++ (Closes ∷ [])) ∙ inside form.One (head_of Once 0 l u) p i t.0)
   reads_one Since a l u p i t = rw t.1 (range_read Since l u (written [] (Comma ∷ []) p ++ (Closes ∷ [])) ∙ inside form.Two (head_of Since 0 l u) p i t.0)
 

@@ -12,7 +12,7 @@ use Rattle.rule_scanner.specs.Reading.{turn, form_of, first_mode, parted, Frame,
 use Rattle.rule_scanner.specs.Symbols.{symbols}
 use Rattle.rule_scanner.specs.Steps.{symbols_from, Next}
 use Rattle.rule_scanner.specs.Scanning.{scanned, form_byte, byte_form, form_top, less_one, refuses, ends, pass_of, between_pass, completed_pass, FormsAre, stack_size, Rel, Bound, Follows, Steps}
-use Rattle.trees.specs.declared.Word.{Word}
+use Rattle.book.specs.declared.kind.Kind.{Kind}
 use Rattle.rule_scanner.specs.declared.symbols.Symbol.{Symbol}
 use Rattle.rule_scanner.specs.declared.symbols.Symbol.TheVariants as symbol
 use Rattle.rule_scanner.specs.declared.turns.Mode.{Mode}
@@ -22,23 +22,16 @@ use Rattle.rule_scanner.specs.declared.turns.Form.TheVariants as form
 use Rattle.rule_scanner.specs.declared.turns.Turn.{Turn}
 use Rattle.rule_scanner.specs.declared.turns.Turn.TheVariants.{Refused, Go, Leaf, Open, Part, Close, Counted, Ended}
 use Rattle.rule_scanner.specs.declared.scan.Pass.{Pass}
-use Rattle.rule_scanner.specs.declared.scan.Scan.TheVariants.{Wrong, Right}
-
-pub begin_pass : (s : Bool) (l r h p b : ℕ) → (l ≡ 0 → ⊥) → pass_of mode.Begin 0 s l r h p b ≡ between_pass s l r h p b
-begin_pass s zero r h p b e = absurd (e refl)
-begin_pass s (suc l) r h p b e = refl
+use Rattle.rule_scanner.specs.declared.scan.Extent.{Extent}
+use Rattle.std.specs.Prelude.{Result, Ok, Err}
 
 pub top_byte : (m : List ℕ) (d : ℕ) → (d ≡ 0 → ⊥) → byte_form (get_or m (d - 1) 0) ≡ form_top m d
 top_byte m zero e = absurd (e refl)
 top_byte m (suc d) e = let v : suc d - 1 ≡ d = omega arith in rw v
 
-pub one_less : (n : ℕ) → (n ≡ 0 → ⊥) → n - 1 ≡ less_one n
-one_less zero e = absurd (e refl)
-one_less (suc n) e = omega arith
-
-pub after_pass : (p : Pass) (d : ℕ) → (d ≡ 0 → ⊥) → pass_of mode.After d p.second p.left (p.rows + 1) p.here p.past p.before ≡ completed_pass p d
-after_pass p zero e = absurd (e refl)
-after_pass p (suc d) e = refl
+pub less_is : (n : ℕ) → n - 1 ≡ less_one n
+less_is zero = omega arith
+less_is (suc n) = omega arith
 
 -- ---- bounds
 bound_between : (s : Bool) (l r h p b n : ℕ) → r ≤ n → h ≤ n → p ≤ n → b ≤ n → Bound (between_pass s l r h p b) n
@@ -141,14 +134,14 @@ module _ (p : Pass) (m : List ℕ) where
     size = refl;
   }
 
-  pub step_leaf : (w : Word) (a : ℕ) (q : Pass) → q ≡ completed_pass p p.depth → Steps (Leaf w a) p m q m
+  pub step_leaf : (w : Kind) (a : ℕ) (q : Pass) → q ≡ completed_pass p p.depth → Steps (Leaf w a) p m q m
   step_leaf w a q e = record {
     follows = λ r g. rw e (rel_completed r.stack r.second r.left r.here r.before (head_of w a 0 0) none p p.depth m g.forms g.second g.left (leaf_rows p.rows (stack_size r.stack) (size r.here) g.rows) g.here g.past g.before);
     bound = λ n k. rw e (bound_completed p p.depth n k.depth k);
     size = refl;
   }
 
-  pub step_open : (w : Word) (l u : ℕ) (q : Pass) (v : ℕ) → p.depth < length m → q ≡ with_mode (first_mode (form_of w)) (p.depth + 1) → v ≡ form_byte (form_of w) → Steps (Open w l u) p m q (set m p.depth v)
+  pub step_open : (w : Kind) (l u : ℕ) (q : Pass) (v : ℕ) → p.depth < length m → q ≡ with_mode (first_mode (form_of w)) (p.depth + 1) → v ≡ form_byte (form_of w) → Steps (Open w l u) p m q (set m p.depth v)
   step_open w l u q v h e f = record {
     follows = λ r g. rw e (record {
       mode = refl;
@@ -307,11 +300,11 @@ module _ {s : List ℕ} {at : ℕ} {p : Pass} {m₀ m : List ℕ} (g : Reader s 
   unfolding reading
   steps = sym g.left ∙ rw (n.first, moved)
 
-  pub reader_wrong : refuses t p.depth ≡ true → Wrong place ≡ scanned (read_text s)
+  pub reader_wrong : refuses t p.depth ≡ true → Err place ≡ scanned (read_text s)
   unfolding scanned
   reader_wrong h = rw (steps, refused_is t m p.depth g.state.stack g.state.second g.state.left g.state.here g.state.before g.rel.forms h)
 
-  pub reader_right : refuses t p.depth ≡ false → ends t ≡ true → (k : ℕ) → k ≡ p.past + p.rows → Right k p.before p.here ≡ scanned (read_text s)
+  pub reader_right : refuses t p.depth ≡ false → ends t ≡ true → (k : ℕ) → k ≡ p.past + p.rows → Ok (record { rows = k; assumes = p.before; guarantees = p.here }) ≡ scanned (read_text s)
   unfolding scanned stack_size
   reader_right h i k f =
       let x = ended_is t m p.depth g.state.stack g.state.second g.state.left g.state.here g.state.before g.rel.forms h i in

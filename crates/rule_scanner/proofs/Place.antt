@@ -10,8 +10,8 @@ use Rattle.trees.specs.Forest.{Head, head_of, Forest, none, one, ◌then◌}
 use Rattle.rule_scanner.specs.Reading.{form_of, first_mode, Frame, frame_of, State, state_of, between, completed, Step, refused, going, ended, move, wrong, onward, reading}
 use Rattle.rule_scanner.proofs.Back.{through}
 use Rattle.rule_scanner.proofs.Sound.{Ok, OkOf, ok_next}
-use Rattle.trees.specs.declared.Word.{Word}
-use Rattle.trees.specs.declared.Word.TheVariants.{True, Atom}
+use Rattle.book.specs.declared.kind.Kind.{Kind}
+use Rattle.book.specs.declared.kind.Kind.TheVariants.{True, Atom}
 use Rattle.rule_scanner.specs.declared.symbols.Symbol.{Symbol}
 use Rattle.rule_scanner.specs.declared.symbols.Symbol.TheVariants.{Name, Number, Left, Right, Opens, Closes, Comma, End}
 use Rattle.rule_scanner.specs.declared.turns.Mode.{Mode}
@@ -75,7 +75,7 @@ inside_goes form.Many o s n h b = first_goes o s n h b
 inside_goes form.One o s n h b = begin_goes o s n h b
 inside_goes form.Two o s n h b = begin_goes o s n h b
 
-module _ (w : Word) (o : List Frame) (s : Bool) (n : ℕ) (h b : Forest) where
+module _ (w : Kind) (o : List Frame) (s : Bool) (n : ℕ) (h b : Forest) where
   open_goes : (l u : ℕ) → Viable (state_of (mode.Open w l u) o s n h b)
   unfolding move
   open_goes l u = on (state_of (mode.Open w l u) o s n h b) (state_of (first_mode (form_of w)) (frame_of (head_of w 0 l u) (form_of w) none ∷ o) s n h b) Opens refl (inside_goes (form_of w) (frame_of (head_of w 0 l u) (form_of w) none ∷ o) s n h b)

@@ -5,60 +5,36 @@ use mathlib.Core.Bool.{Bool, true, false, not, ◌&&◌, ◌||◌, and-false, fa
 use mathlib.Core.List.{List, [], ◌∷◌}
 use native.Mathlib.Omega.{arith}
 use native.Mathlib.Numerals.{add-one}
-use lib.Dec.{leb, eqb}
+use lib.Dec.{leb, ltb, eqb}
+use Rattle.std.proofs.Common.{add-zero}
+use Rattle.std.proofs.Math.Seq.{take-length}
+use Rattle.std.specs.Prelude.{cond, Result, Ok, Err, Some, None}
+use Rattle.std.specs.List.{position, position_or_len}
+use Rattle.std.proofs.lemmas.List.Recursion.{is_position_or_len}
+use Rattle.std.proofs.lemmas.List.{get_or-drop, length-drop}
+use lib.Pointwise.{pointwise}
+use Rattle.std.specs.Char.{is_ascii_alphabetic, is_ascii_digit}
 use lib.ListN.{length, get_or, take, drop, drop_of_length-le}
 use lib.Seq.{drop-cons, drop-drop}
-use borrow.Author.Tests.{le-leb, lt-leb, eq-eqb, ne_eqb, eqb-true, eqb-false, leb-true}
-use Rattle.text.specs.Words.{pick, parts, digit, letters, all_digits, said, good, word_here, next_in, next_word}
-use Rattle.numbers.specs.Refusals.{BAD_WORD}
-use Rattle.text.specs.declared.words.Read.{Read}
-use Rattle.text.specs.declared.words.Read.TheVariants.{Word, Refused}
+use Rattle.std.proofs.lemmas.Option.{none-some}
+use borrow.Author.Tests.{le-leb, lt-leb, eq-eqb, ne_eqb, eqb-true, eqb-false, leb-true, ltb-true, ltb-false}
+use Rattle.text.specs.Words.{pick, parts, digit, letters, all_digits, said, good, read, word_here, next_in, next_word}
+use Rattle.numbers.specs.declared.Refusal.{Refusal}
+use Rattle.numbers.specs.declared.Refusal.TheVariants.{BadWord}
+use Rattle.text.specs.declared.words.Word.{Word}
 use Rattle.rule_scanner.specs.Symbols.{letter, class_of, goes_on, run_of, same, name_of, number_of, mark_of, symbol_of, begins, symbols_after}
 use Rattle.rule_scanner.specs.Steps.{symbols_from, Next}
 use Rattle.rule_scanner.specs.declared.symbols.Symbol.{Symbol}
 use Rattle.rule_scanner.specs.declared.symbols.Symbol.TheVariants.{Number, Bad, End}
 
 -- ---- letters, classes
-pub low : (b : ℕ) → b < 65 → false ≡ letter b
+pub letter_is : (b : ℕ) → is_ascii_alphabetic b ≡ letter b
 unfolding letter
-low b h = rw (lt-leb 65 b h, lt-leb 97 b (omega arith))
+letter_is b = refl
 
-pub capital : (b : ℕ) → 65 ≤ b → b ≤ 90 → true ≡ letter b
-unfolding letter
-capital b h k = rw (le-leb 65 b h, le-leb b 90 k)
-
-pub between : (b : ℕ) → 90 < b → b < 97 → false ≡ letter b
-unfolding letter
-between b h k = rw (le-leb 65 b (omega arith), lt-leb b 90 h, lt-leb 97 b k)
-
-pub small : (b : ℕ) → 97 ≤ b → leb b 122 ≡ letter b
-unfolding letter
-small b h = rw (le-leb 65 b (omega arith), lt-leb b 90 (omega arith), le-leb 97 b h)
-
-pub blank_1 : (b : ℕ) → b ≡ 32 → ◌≡◌ {A = ℕ} 0 (class_of b)
-unfolding class_of parts pick
-blank_1 b e = rw e
-
-pub blank_2 : (b : ℕ) → b ≡ 10 → ◌≡◌ {A = ℕ} 0 (class_of b)
-unfolding class_of parts pick
-blank_2 b e = rw e
-
-module _ (b : ℕ) (h : b ≡ 32 → ⊥) (k : b ≡ 10 → ⊥) where
-  pub class_letter : letter b ≡ true → ◌≡◌ {A = ℕ} 1 (class_of b)
-  unfolding class_of parts pick
-  class_letter e = rw (ne_eqb b 32 h, ne_eqb b 10 k, e)
-
-  pub class_low : letter b ≡ false → b < 48 → ◌≡◌ {A = ℕ} 3 (class_of b)
-  unfolding class_of parts pick digit
-  class_low e l = rw (ne_eqb b 32 h, ne_eqb b 10 k, e, lt-leb 48 b l)
-
-  pub class_digit : letter b ≡ false → 48 ≤ b → b ≤ 57 → ◌≡◌ {A = ℕ} 2 (class_of b)
-  unfolding class_of parts pick digit
-  class_digit e l m = rw (ne_eqb b 32 h, ne_eqb b 10 k, e, le-leb 48 b l, le-leb b 57 m)
-
-  pub class_high : letter b ≡ false → 48 ≤ b → 57 < b → ◌≡◌ {A = ℕ} 3 (class_of b)
-  unfolding class_of parts pick digit
-  class_high e l m = rw (ne_eqb b 32 h, ne_eqb b 10 k, e, le-leb 48 b l, lt-leb b 57 m)
+pub digit_is : (b : ℕ) → is_ascii_digit b ≡ digit b
+unfolding digit
+digit_is b = refl
 
 is_digit : (b : ℕ) → class_of b ≡ 2 → digit b ≡ true
 unfolding class_of pick
@@ -74,13 +50,6 @@ is_digit b = by_tests (parts b) (letter b) (digit b)
 at_place : (s : List ℕ) (i : ℕ) → i < length s → drop i s ≡ get_or s i 0 ∷ drop (i + 1) s
 at_place s i h = drop-cons s i 0 h ∙ rw add-one
 
-pub record Running (s : List ℕ) (at c i : ℕ) : Type 0 where
-  pub inside : i ≤ length s
-  pub same : i + length (run_of c (drop i s)) ≡ at + length (run_of c (drop at s))
-
-pub run_start : (s : List ℕ) (at c : ℕ) → at ≤ length s → Running s at c at
-run_start s at c h = record { inside = h; same = refl }
-
 run_on : (c b : ℕ) (s : List ℕ) → class_of b ≡ c → run_of c (b ∷ s) ≡ b ∷ run_of c s
 unfolding run_of pick
 run_on c b s e = rw (eq-eqb (class_of b) c e)
@@ -89,24 +58,48 @@ run_off : (c b : ℕ) (s : List ℕ) → (class_of b ≡ c → ⊥) → run_of c
 unfolding run_of pick
 run_off c b s e = rw (ne_eqb (class_of b) c e)
 
-pub run_more : {s : List ℕ} {at c i : ℕ} → Running s at c i → i < length s → class_of (get_or s i 0) ≡ c → Running s at c (i + 1)
-run_more {s} {at} {c} {i} g h e =
-    let d = ap length (ap (run_of c) (at_place s i h) ∙ run_on c (get_or s i 0) (drop (i + 1) s) e) in
-    record { inside = omega arith; same = omega (arith, g.same) }
+-- what a range to the end is
+pub rest_is : (s : List ℕ) (at : ℕ) → take (length s - at) (drop at s) ≡ drop at s
+rest_is s at = rw (← length-drop at s) (take-length (drop at s))
 
-pub run_stop : {s : List ℕ} {at c i : ℕ} → Running s at c i → i < length s → (class_of (get_or s i 0) ≡ c → ⊥) → (i ≡ at + length (run_of c (drop at s))) × (i ≤ length s)
-run_stop {s} {at} {c} {i} g h e =
-    let d = ap length (ap (run_of c) (at_place s i h) ∙ run_off c (get_or s i 0) (drop (i + 1) s) e) in
-    (omega (arith, g.same), g.inside)
+-- the first byte of another class stands where the run ends
+abbrev pub other : ℕ → ℕ → Bool
+other c b = not (eqb (class_of b) c)
 
-run_nil : (c : ℕ) → run_of c [] ≡ []
-unfolding run_of
-run_nil c = refl
+run_first : (c : ℕ) (l : List ℕ) → length (run_of c l) ≡ position_or_len (other c) l
+unfolding run_of pick
+run_first c l = is_position_or_len (λ (l : List ℕ). length (run_of c l)) (other c) refl one_more l
+  where
+    by_test : (b : ℕ) (l : List ℕ) (t : Bool) → length (pick t (b ∷ run_of c l) []) ≡ cond (not t) 0 (1 + length (run_of c l))
+    by_test b l true = omega arith
+    by_test b l false = refl
 
-pub run_end : {s : List ℕ} {at c i : ℕ} → Running s at c i → length s ≤ i → (i ≡ at + length (run_of c (drop at s))) × (i ≤ length s)
-run_end {s} {at} {c} {i} g h =
-    let d = ap length (ap (run_of c) (drop_of_length-le s h) ∙ run_nil c) in
-    (omega (arith, g.same), g.inside)
+    one_more : (b : ℕ) (l : List ℕ) → length (run_of c (b ∷ l)) ≡ cond (other c b) 0 (1 + length (run_of c l))
+    one_more b l = by_test b l (eqb (class_of b) c)
+
+run_short : (c : ℕ) (l : List ℕ) → length (run_of c l) ≤ length l
+unfolding run_of pick
+run_short c [] = omega arith
+run_short c (b ∷ l) = by_test (eqb (class_of b) c) (run_short c l)
+  where
+    by_test : (t : Bool) → length (run_of c l) ≤ length l → length (pick t (b ∷ run_of c l) []) ≤ length (b ∷ l)
+    by_test true h = omega arith
+    by_test false h = omega arith
+
+module _ (c : ℕ) (l : List ℕ) where
+  pub run_some : {i : ℕ} → Some i ≡ position (other c) l → (i ≡ length (run_of c l)) × (i < length l)
+  run_some {i} e = by_test (ltb (position_or_len (other c) l) (length l)) refl e
+    where
+      by_test : (t : Bool) → ltb (position_or_len (other c) l) (length l) ≡ t → Some i ≡ cond t (Some (position_or_len (other c) l)) None → (i ≡ length (run_of c l)) × (i < length l)
+      by_test true f g = let v : i ≡ position_or_len (other c) l = cc in let k = ltb-true _ _ f in (omega (arith, run_first c l), omega arith)
+      by_test false f g = absurd (none-some i (sym g))
+
+  pub run_none : position (other c) l ≡ None → length l ≡ length (run_of c l)
+  run_none e = by_test (ltb (position_or_len (other c) l) (length l)) refl e
+    where
+      by_test : (t : Bool) → ltb (position_or_len (other c) l) (length l) ≡ t → cond t (Some (position_or_len (other c) l)) None ≡ None → length l ≡ length (run_of c l)
+      by_test true f g = absurd (none-some (position_or_len (other c) l) (sym g))
+      by_test false f g = let k = ltb-false _ _ f in omega (arith, run_first c l, run_short c l)
 
 -- a run stands at the start of what it is of
 run_take : (c : ℕ) (l : List ℕ) → take (length (run_of c l)) l ≡ run_of c l
@@ -128,47 +121,12 @@ run_digits (b ∷ l) = by_test (eqb (class_of b) 2) refl (run_digits l)
     by_test false e r = rw e
 
 -- ---- the same bytes
-pub same_lengths : (a b : List ℕ) → (length a ≡ length b → ⊥) → false ≡ same a b
+pub same_is : (a b : List ℕ) → pointwise eqb a b ≡ same a b
 unfolding same
-same_lengths [] [] h = absurd (h refl)
-same_lengths [] (y ∷ b) h = refl
-same_lengths (x ∷ a) [] h = refl
-same_lengths (x ∷ a) (y ∷ b) h = by_test (eqb x y) (same_lengths a b (λ e. h (ap suc e)))
-  where
-    by_test : (t : Bool) → false ≡ same a b → false ≡ (t && same a b)
-    by_test true r = r
-    by_test false r = refl
-
-pub record Alike (a b : List ℕ) (i : ℕ) : Type 0 where
-  pub long : length a ≡ length b
-  pub left : same (drop i a) (drop i b) ≡ same a b
-
-pub alike_start : (a b : List ℕ) → length a ≡ length b → Alike a b 0
-alike_start a b h = record { long = h; left = refl }
-
-same_cons : (a b : List ℕ) (x y : ℕ) → same (x ∷ a) (y ∷ b) ≡ (eqb x y && same a b)
-unfolding same
-same_cons a b x y = refl
-
-alike_step : {a b : List ℕ} {i : ℕ} → Alike a b i → i < length a → same a b ≡ (eqb (get_or a i 0) (get_or b i 0) && same (drop (i + 1) a) (drop (i + 1) b))
-alike_step {a} {b} {i} g h =
-    sym g.left
-    ∙ rw (at_place a i h, at_place b i (omega (arith, g.long))) (same_cons (drop (i + 1) a) (drop (i + 1) b) (get_or a i 0) (get_or b i 0))
-
-pub alike_more : {a b : List ℕ} {i : ℕ} → Alike a b i → i < length a → get_or a i 0 ≡ get_or b i 0 → Alike a b (i + 1)
-alike_more {a} {b} {i} g h e = record { long = g.long; left = sym (alike_step g h ∙ rw (eq-eqb (get_or a i 0) (get_or b i 0) e)) }
-
-pub alike_stop : {a b : List ℕ} {i : ℕ} → Alike a b i → i < length a → (get_or a i 0 ≡ get_or b i 0 → ⊥) → false ≡ same a b
-alike_stop {a} {b} {i} g h e = sym (alike_step g h ∙ rw (ne_eqb (get_or a i 0) (get_or b i 0) e))
-
-same_nil : same [] [] ≡ true
-unfolding same
-same_nil = refl
-
-pub alike_end : {a b : List ℕ} {i : ℕ} → Alike a b i → length a ≤ i → true ≡ same a b
-alike_end {a} {b} {i} g h =
-    let k : length b ≤ i = omega (arith, g.long) in
-    sym (sym g.left ∙ rw (drop_of_length-le a h, drop_of_length-le b k) same_nil)
+same_is [] [] = refl
+same_is [] (y ∷ b) = refl
+same_is (x ∷ a) [] = refl
+same_is (x ∷ a) (y ∷ b) = rw (same_is a b) refl
 
 -- ---- numbers
 digit_parts : (b : ℕ) → digit b ≡ true → parts b ≡ false
@@ -196,26 +154,26 @@ first_digit b w e = by_test (digit b) e
     by_test true h = refl
     by_test false h = h
 
-number_word : (w : List ℕ) → 0 < length w → all_digits w ≡ true → next_word w 0 ≡ pick (good w) (Word (said 0 w) (0 + length w)) (Refused BAD_WORD)
+number_word : (w : List ℕ) → 0 < length w → all_digits w ≡ true → next_word w 0 ≡ pick (good w) (read (said 0 w) (0 + length w)) (Err BadWord)
 unfolding next_word next_in word_here pick
 number_word [] h e = absurd (omega arith)
 number_word (b ∷ w) h e = rw (digit_parts b (first_digit b w e), letters_digits (b ∷ w) e)
 
-pub number_good : (w : List ℕ) {r : Read} {n k : ℕ} → 0 < length w → all_digits w ≡ true → r ≡ next_word w 0 → r ≡ Word n k → Number n ≡ number_of w
+pub number_good : (w : List ℕ) {r : Result Word Refusal} {x : Word} → 0 < length w → all_digits w ≡ true → r ≡ next_word w 0 → r ≡ Ok x → Number x.number ≡ number_of w
 unfolding number_of pick
-number_good w {r} {n} {k} h d e f = by_test (good w) refl (sym f ∙ e ∙ number_word w h d)
+number_good w {r} {x} h d e f = by_test (good w) refl (sym f ∙ e ∙ number_word w h d)
   where
-    by_test : (t : Bool) → good w ≡ t → Word n k ≡ pick (good w) (Word (said 0 w) (0 + length w)) (Refused BAD_WORD) → Number n ≡ number_of w
-    by_test true g x = let y : Word n k ≡ Word (said 0 w) (0 + length w) = rw g at x in let v : n ≡ said 0 w = cc in rw (g, v)
-    by_test false g x = let y : Word n k ≡ Refused BAD_WORD = rw g at x in let z : ◌≡◌ {A = ℕ} 0 1 = cc in absurd (omega arith)
+    by_test : (t : Bool) → good w ≡ t → Ok x ≡ pick (good w) (read (said 0 w) (0 + length w)) (Err BadWord) → Number x.number ≡ number_of w
+    by_test true g z = let y : Ok x ≡ read (said 0 w) (0 + length w) = rw g at z in let v : x ≡ record { number = said 0 w; next = 0 + length w } = cc in rw (g, v)
+    by_test false g z = let y : Ok x ≡ Err BadWord = rw g at z in cc
 
-pub number_bad : (w : List ℕ) {r : Read} {n : ℕ} → 0 < length w → all_digits w ≡ true → r ≡ next_word w 0 → r ≡ Refused n → Bad ≡ number_of w
+pub number_bad : (w : List ℕ) {r : Result Word Refusal} {x : Refusal} → 0 < length w → all_digits w ≡ true → r ≡ next_word w 0 → r ≡ Err x → Bad ≡ number_of w
 unfolding number_of pick
-number_bad w {r} {n} h d e f = by_test (good w) refl (sym f ∙ e ∙ number_word w h d)
+number_bad w {r} {x} h d e f = by_test (good w) refl (sym f ∙ e ∙ number_word w h d)
   where
-    by_test : (t : Bool) → good w ≡ t → Refused n ≡ pick (good w) (Word (said 0 w) (0 + length w)) (Refused BAD_WORD) → Bad ≡ number_of w
-    by_test true g x = let y : Refused n ≡ Word (said 0 w) (0 + length w) = rw g at x in let z : ◌≡◌ {A = ℕ} 0 1 = cc in absurd (omega arith)
-    by_test false g x = rw g
+    by_test : (t : Bool) → good w ≡ t → Err x ≡ pick (good w) (read (said 0 w) (0 + length w)) (Err BadWord) → Bad ≡ number_of w
+    by_test true g z = let y : Err x ≡ read (said 0 w) (0 + length w) = rw g at z in cc
+    by_test false g z = rw g
 
 -- ---- the next symbol
 begins_fresh : (c d : ℕ) → goes_on c d ≡ false → begins c d ≡ begins 0 d
@@ -347,20 +305,47 @@ module _ (s : List ℕ) (at : ℕ) (h : at < length s) where
   blank_on v = let e : suc at ≡ at + 1 = omega arith in rw (at_place s at h, v, e)
 
 -- ---- past blanks
-pub record Past (s : List ℕ) (from i : ℕ) : Type 0 where
-  pub low : from ≤ i
-  pub inside : i ≤ length s
-  pub same : symbols_from s from ≡ symbols_from s i
+stops : (b : ℕ) (l : List ℕ) (at : ℕ) → run_of 0 (b ∷ l) ≡ [] → symbols_after 0 at (b ∷ l) ≡ symbols_after 0 (at + length (run_of 0 (b ∷ l))) (drop (length (run_of 0 (b ∷ l))) (b ∷ l))
+stops b l at e = rw (e, add-zero at)
 
-pub past_start : (s : List ℕ) (from : ℕ) → from ≤ length s → Past s from from
-past_start s from h = record { low = omega arith; inside = h; same = refl }
+blank_off : (l : List ℕ) (at : ℕ) → symbols_after 0 at l ≡ symbols_after 0 (at + length (run_of 0 l)) (drop (length (run_of 0 l)) l)
+unfolding symbols_after run_of pick begins
+blank_off [] at = let e : at + 0 ≡ at = omega arith in rw e
+blank_off (b ∷ l) at = by_test (eqb (class_of b) 0) refl (blank_off l (suc at))
+  where
+    by_test : (t : Bool) → eqb (class_of b) 0 ≡ t → symbols_after 0 (suc at) l ≡ symbols_after 0 (suc at + length (run_of 0 l)) (drop (length (run_of 0 l)) l) → symbols_after 0 at (b ∷ l) ≡ symbols_after 0 (at + length (run_of 0 (b ∷ l))) (drop (length (run_of 0 (b ∷ l))) (b ∷ l))
+    by_test true e r =
+        let v : class_of b ≡ 0 = eqb-true (class_of b) 0 e in
+        let m : suc at + length (run_of 0 l) ≡ at + suc (length (run_of 0 l)) = omega arith in
+        rw (v, ← m) r
+    by_test false e r = stops b l at (run_off 0 b l (eqb-false (class_of b) 0 e))
 
-pub past_more : {s : List ℕ} {from i : ℕ} → Past s from i → i < length s → class_of (get_or s i 0) ≡ 0 → Past s from (i + 1)
-past_more {s} {from} {i} g h e = record { low = omega (arith, g.low); inside = omega arith; same = g.same ∙ blank_on s i h e }
+-- a run does not go on past its end
+run_over : (c : ℕ) (l : List ℕ) → length (run_of c l) < length l → class_of (get_or l (length (run_of c l)) 0) ≡ c → ⊥
+unfolding run_of pick
+run_over c [] h e = absurd (omega arith)
+run_over c (b ∷ l) h e = by_test (eqb (class_of b) c) refl (run_over c l) h e
+  where
+    by_test : (t : Bool) → eqb (class_of b) c ≡ t → (length (run_of c l) < length l → class_of (get_or l (length (run_of c l)) 0) ≡ c → ⊥) → length (run_of c (b ∷ l)) < length (b ∷ l) → class_of (get_or (b ∷ l) (length (run_of c (b ∷ l))) 0) ≡ c → ⊥
+    by_test true f r k g = let j : suc (length (run_of c l)) < suc (length l) = rw f at k in r (omega arith) (rw f at g)
+    by_test false f r k g = eqb-false (class_of b) c f (rw f at g)
 
-pub past_found : {s : List ℕ} {from i : ℕ} {y : Symbol} {at next : ℕ} → Past s from i → Next s i y at next → Next s from y at next
-past_found g n = record { later = n.later; first = g.same ∙ n.first; others = n.others; further = λ x. omega (arith, g.low, n.further x); inside = n.inside }
+module _ (s : List ℕ) (from at : ℕ) (e : at ≡ from + length (run_of 0 (drop from s))) where
+  -- past the blanks from a place on, the symbols are the same
+  past_blanks : symbols_from s from ≡ symbols_from s at
+  past_blanks =
+      let d : drop (length (run_of 0 (drop from s))) (drop from s) ≡ drop at s = drop-drop (length (run_of 0 (drop from s))) from s ∙ ap (λ (i : ℕ). drop i s) (sym e) in
+      blank_off (drop from s) from ∙ rw (d, ← e)
 
-pub past_end : {s : List ℕ} {from i : ℕ} → Past s from i → length s ≤ i → Next s from End i i
-unfolding symbols_after
-past_end {s} {from} {i} g h = record { later = []; first = g.same ∙ rw (drop_of_length-le s h); others = λ x. absurd (x refl); further = λ x. absurd (x refl); inside = g.inside }
+  pub not_blank : at < length s → 0 < class_of (get_or s at 0)
+  not_blank h =
+      let k : length (run_of 0 (drop from s)) < length (drop from s) = omega (arith, length-drop from s) in
+      let f : class_of (get_or s at 0) ≡ 0 → ⊥ = rw (e, ← get_or-drop from s (length (run_of 0 (drop from s))) 0) (run_over 0 (drop from s) k) in
+      omega (arith, f)
+
+  pub after_blanks : {next place : ℕ} {y : Symbol} → Next s at y place next → Next s from y place next
+  after_blanks n = record { later = n.later; first = past_blanks ∙ n.first; others = n.others; further = λ x. omega (arith, e, n.further x); inside = n.inside }
+
+  pub only_blanks : length s ≤ at → at ≤ length s → Next s from End at at
+  unfolding symbols_after
+  only_blanks h k = record { later = []; first = past_blanks ∙ rw (drop_of_length-le s h); others = λ x. absurd (x refl); further = λ x. absurd (x refl); inside = k }

@@ -12,8 +12,8 @@ use Rattle.trees.specs.Forest.{Head, head_of, Forest, none, tree, one, ◌then�
 use Rattle.rule_scanner.specs.Writing.{upper_said, range_said, head_said, shut, one_said, written, file_said}
 use Rattle.rule_scanner.specs.Starred.{is_comma, plainly, starred_one, starred}
 use Rattle.rule_scanner.specs.Reading.{on, turn, begun, parting, closing, form_of, first_mode, parted, Frame, frame_of, State, state_of, start, form_in, between, completed, Step, refused, going, ended, taken, move, read, onward, reading}
-use Rattle.trees.specs.declared.Word.{Word}
-use Rattle.trees.specs.declared.Word.TheVariants.{False, True, Atom, And, Or, Not, Implies, Hist, Once, Since}
+use Rattle.book.specs.declared.kind.Kind.{Kind}
+use Rattle.book.specs.declared.kind.Kind.TheVariants.{False, True, Atom, And, Or, Not, Implies, Historically, Once, Since}
 use Rattle.rule_scanner.specs.declared.symbols.Symbol.{Symbol}
 use Rattle.rule_scanner.specs.declared.symbols.Symbol.TheVariants.{Name, Number, Left, Right, Opens, Closes, Comma, Star, Bad, End}
 use Rattle.rule_scanner.specs.declared.turns.Mode.{Mode}
@@ -59,7 +59,7 @@ stack_said (mode.Open w l u) o = opened o
 stack_said mode.Over o = opened o
 
 -- a head, but for its bracket
-abbrev open_said : Word → ℕ → ℕ → List Symbol
+abbrev open_said : Kind → ℕ → ℕ → List Symbol
 open_said False l u = []
 open_said True l u = []
 open_said Atom l u = []
@@ -67,7 +67,7 @@ open_said And l u = []
 open_said Or l u = []
 open_said Not l u = []
 open_said Implies l u = []
-open_said Hist l u = range_said l u []
+open_said Historically l u = range_said l u []
 open_said Once l u = range_said l u []
 open_said Since l u = range_said l u []
 
@@ -114,7 +114,7 @@ so_far (mode.Open w l u) o s n h b = sections s n h b ++ (opened o ++ mode_said 
 so_far mode.Over o s n h b = sections s n h b ++ (opened o ++ [])
 
 -- ---- what holds of a state
-abbrev pub Op : Word → ℕ → ℕ → ℕ → Type 0
+abbrev pub Op : Kind → ℕ → ℕ → ℕ → Type 0
 Op False a l u = ⊥
 Op True a l u = ⊥
 Op Atom a l u = ⊥
@@ -122,11 +122,11 @@ Op And a l u = (a ≡ 0) × (l ≡ 0) × (u ≡ 0)
 Op Or a l u = (a ≡ 0) × (l ≡ 0) × (u ≡ 0)
 Op Not a l u = (a ≡ 0) × (l ≡ 0) × (u ≡ 0)
 Op Implies a l u = (a ≡ 0) × (l ≡ 0) × (u ≡ 0)
-Op Hist a l u = a ≡ 0
+Op Historically a l u = a ≡ 0
 Op Once a l u = a ≡ 0
 Op Since a l u = a ≡ 0
 
-abbrev pub Timed : Word → Type 0
+abbrev pub Timed : Kind → Type 0
 Timed False = ⊥
 Timed True = ⊥
 Timed Atom = ⊥
@@ -134,7 +134,7 @@ Timed And = ⊥
 Timed Or = ⊥
 Timed Not = ⊥
 Timed Implies = ⊥
-Timed Hist = Unit {0}
+Timed Historically = Unit {0}
 Timed Once = Unit {0}
 Timed Since = Unit {0}
 
@@ -209,7 +209,7 @@ Stepped h b old y (going q) = Onto old y q.mode q.stack q.second q.left q.here q
 Stepped h b old y ended = (y ≡ End) × (old ≡ section 0 b ++ section 0 h)
 
 -- ---- a line of the table
-pub by_symbol : (P : Symbol → Turn → Type 0) (nm : Word → Turn) (nu : ℕ → Turn) (l r o c k s e : Turn) → ((w : Word) → P (Name w) (nm w)) → ((n : ℕ) → P (Number n) (nu n)) → P Left l → P Right r → P Opens o → P Closes c → P Comma k → P Star s → P Bad Refused → P End e → (y : Symbol) → P y (on nm nu l r o c k s e y)
+pub by_symbol : (P : Symbol → Turn → Type 0) (nm : Kind → Turn) (nu : ℕ → Turn) (l r o c k s e : Turn) → ((w : Kind) → P (Name w) (nm w)) → ((n : ℕ) → P (Number n) (nu n)) → P Left l → P Right r → P Opens o → P Closes c → P Comma k → P Star s → P Bad Refused → P End e → (y : Symbol) → P y (on nm nu l r o c k s e y)
 by_symbol P nm nu l r o c k s e a1 a2 a3 a4 a5 a6 a7 a8 a9 a10 (Name w) = a1 w
 by_symbol P nm nu l r o c k s e a1 a2 a3 a4 a5 a6 a7 a8 a9 a10 (Number n) = a2 n
 by_symbol P nm nu l r o c k s e a1 a2 a3 a4 a5 a6 a7 a8 a9 a10 Left = a3
@@ -298,7 +298,7 @@ last_shut : (c : Symbol) (x y : List Symbol) → is_comma (last_of c (x ++ (y ++
 unfolding last_of
 last_shut c x y = rw (last_append c x (y ++ (Closes ∷ [])), last_append (last_of c x) y (Closes ∷ []))
 
-last_one : (c : Symbol) (w : Word) (a l u : ℕ) (p : Forest) → Fit w a l u (count p) → is_comma (last_of c (one_said (head_of w a l u) (written [] commas p))) ≡ false
+last_one : (c : Symbol) (w : Kind) (a l u : ℕ) (p : Forest) → Fit w a l u (count p) → is_comma (last_of c (one_said (head_of w a l u) (written [] commas p))) ≡ false
 unfolding one_said head_said shut written last_of
 last_one c False a l u p t = rw (no_parts p t.0)
 last_one c True a l u p t = rw (no_parts p t.0)
@@ -307,7 +307,7 @@ last_one c And a l u p t = last_shut c (head_all (head_of And a l u)) (written [
 last_one c Or a l u p t = last_shut c (head_all (head_of Or a l u)) (written [] commas p)
 last_one c Not a l u p t = last_shut c (head_all (head_of Not a l u)) (written [] commas p)
 last_one c Implies a l u p t = last_shut c (head_all (head_of Implies a l u)) (written [] commas p)
-last_one c Hist a l u p t = last_shut c (head_all (head_of Hist a l u)) (written [] commas p)
+last_one c Historically a l u p t = last_shut c (head_all (head_of Historically a l u)) (written [] commas p)
 last_one c Once a l u p t = last_shut c (head_all (head_of Once a l u)) (written [] commas p)
 last_one c Since a l u p t = last_shut c (head_all (head_of Since a l u)) (written [] commas p)
 
@@ -378,11 +378,11 @@ module _ (o : List Frame) (s : Bool) (n : ℕ) (h b : Forest) (gh : Good h) (gb 
     onward_in : (m : Mode) (x : List Symbol) (y : Symbol) → Keeps (sections s n h b ++ (opened o ++ x)) y → OkOf (st m) → so_far_of (st m) ≡ sections s n h b ++ (opened o ++ (x ++ (y ∷ []))) → Stepped h b (sections s n h b ++ (opened o ++ x)) y (going (st m))
     onward_in m x y a g e = onto (sections s n h b ++ (opened o ++ x)) y a (st m) g (e ∙ snoc (sections s n h b) (opened o) x y)
 
-    leaf : (w : Word) (a : ℕ) (x : List Symbol) (y : Symbol) → Keeps (sections s n h b ++ (opened o ++ x)) y → Fit w a 0 0 0 → one_said (head_of w a 0 0) [] ≡ x ++ (y ∷ []) → Stepped h b (sections s n h b ++ (opened o ++ x)) y (going (completed (one (head_of w a 0 0) none) o s n h b))
+    leaf : (w : Kind) (a : ℕ) (x : List Symbol) (y : Symbol) → Keeps (sections s n h b ++ (opened o ++ x)) y → Fit w a 0 0 0 → one_said (head_of w a 0 0) [] ≡ x ++ (y ∷ []) → Stepped h b (sections s n h b ++ (opened o ++ x)) y (going (completed (one (head_of w a 0 0) none) o s n h b))
     unfolding written count
     leaf w a x y j g e = finish o s n h b (head_of w a 0 0) none (sections s n h b ++ (opened o ++ x)) y j (g, tt, tt) k l gh gb (rw e (snoc (sections s n h b) (opened o) x y))
 
-    begun_step : (w : Word) → Stepped h b (sections s n h b ++ (opened o ++ [])) (Name w) (taken (begun w) o s n h b)
+    begun_step : (w : Kind) → Stepped h b (sections s n h b ++ (opened o ++ [])) (Name w) (taken (begun w) o s n h b)
     unfolding one_said head_said shut
     begun_step False = leaf False 0 [] (Name False) (as_it_is (sections s n h b ++ (opened o ++ [])) (Name False) refl) (refl, refl, refl, refl) refl
     begun_step True = leaf True 0 [] (Name True) (as_it_is (sections s n h b ++ (opened o ++ [])) (Name True) refl) (refl, refl, refl, refl) refl
@@ -391,12 +391,12 @@ module _ (o : List Frame) (s : Bool) (n : ℕ) (h b : Forest) (gh : Good h) (gb 
     begun_step Or = onward_in (mode.Open Or 0 0) [] (Name Or) (as_it_is (sections s n h b ++ (opened o ++ [])) (Name Or) refl) (record { mode = (k, l, (refl, refl, refl)); here = gh; past = gb }) refl
     begun_step Not = onward_in (mode.Open Not 0 0) [] (Name Not) (as_it_is (sections s n h b ++ (opened o ++ [])) (Name Not) refl) (record { mode = (k, l, (refl, refl, refl)); here = gh; past = gb }) refl
     begun_step Implies = onward_in (mode.Open Implies 0 0) [] (Name Implies) (as_it_is (sections s n h b ++ (opened o ++ [])) (Name Implies) refl) (record { mode = (k, l, (refl, refl, refl)); here = gh; past = gb }) refl
-    begun_step Hist = onward_in (mode.Left Hist) [] (Name Hist) (as_it_is (sections s n h b ++ (opened o ++ [])) (Name Hist) refl) (record { mode = (k, l, tt); here = gh; past = gb }) refl
+    begun_step Historically = onward_in (mode.Left Historically) [] (Name Historically) (as_it_is (sections s n h b ++ (opened o ++ [])) (Name Historically) refl) (record { mode = (k, l, tt); here = gh; past = gb }) refl
     begun_step Once = onward_in (mode.Left Once) [] (Name Once) (as_it_is (sections s n h b ++ (opened o ++ [])) (Name Once) refl) (record { mode = (k, l, tt); here = gh; past = gb }) refl
     begun_step Since = onward_in (mode.Left Since) [] (Name Since) (as_it_is (sections s n h b ++ (opened o ++ [])) (Name Since) refl) (record { mode = (k, l, tt); here = gh; past = gb }) refl
 
     -- an upper bound, in digits or not
-    upper_step : (w : Word) (x u : ℕ) (y : Symbol) → Timed w → plainly y ≡ upper_said u → Stepped h b (so_far_of (st (mode.Upper w x))) y (going (st (mode.Right w x u)))
+    upper_step : (w : Kind) (x u : ℕ) (y : Symbol) → Timed w → plainly y ≡ upper_said u → Stepped h b (so_far_of (st (mode.Upper w x))) y (going (st (mode.Right w x u)))
     unfolding last_of
     upper_step w x u y t e = record {
       ok = record { mode = (k, l, t); here = gh; past = gb };
@@ -405,8 +405,8 @@ module _ (o : List Frame) (s : Bool) (n : ℕ) (h b : Forest) (gh : Good h) (gb 
       said = snoc (sections s n h b) (opened o) (mode_said (mode.Upper w x)) (upper_said u);
     }
 
-    right_step : (w : Word) (x u : ℕ) → Timed w → Stepped h b (so_far_of (st (mode.Right w x u))) Right (going (st (mode.Open w x u)))
-    right_step Hist x u t = onward_in (mode.Open Hist x u) (mode_said (mode.Right Hist x u)) Right (as_it_is (so_far_of (st (mode.Right Hist x u))) Right refl) (record { mode = (k, l, refl); here = gh; past = gb }) refl
+    right_step : (w : Kind) (x u : ℕ) → Timed w → Stepped h b (so_far_of (st (mode.Right w x u))) Right (going (st (mode.Open w x u)))
+    right_step Historically x u t = onward_in (mode.Open Historically x u) (mode_said (mode.Right Historically x u)) Right (as_it_is (so_far_of (st (mode.Right Historically x u))) Right refl) (record { mode = (k, l, refl); here = gh; past = gb }) refl
     right_step Once x u t = onward_in (mode.Open Once x u) (mode_said (mode.Right Once x u)) Right (as_it_is (so_far_of (st (mode.Right Once x u))) Right refl) (record { mode = (k, l, refl); here = gh; past = gb }) refl
     right_step Since x u t = onward_in (mode.Open Since x u) (mode_said (mode.Right Since x u)) Right (as_it_is (so_far_of (st (mode.Right Since x u))) Right refl) (record { mode = (k, l, refl); here = gh; past = gb }) refl
     right_step False x u t = elim t [ ]
@@ -418,13 +418,13 @@ module _ (o : List Frame) (s : Bool) (n : ℕ) (h b : Forest) (gh : Good h) (gb 
     right_step Implies x u t = elim t [ ]
 
     -- a bracket opens
-    head_all_lem : (w : Word) (x u : ℕ) → Op w 0 x u → head_all (head_of w 0 x u) ≡ mode_said (mode.Open w x u) ++ (Opens ∷ [])
+    head_all_lem : (w : Kind) (x u : ℕ) → Op w 0 x u → head_all (head_of w 0 x u) ≡ mode_said (mode.Open w x u) ++ (Opens ∷ [])
     unfolding head_said
     head_all_lem And x u t = refl
     head_all_lem Or x u t = refl
     head_all_lem Not x u t = refl
     head_all_lem Implies x u t = refl
-    head_all_lem Hist x u t = refl
+    head_all_lem Historically x u t = refl
     head_all_lem Once x u t = refl
     head_all_lem Since x u t = refl
     head_all_lem False x u t = elim t [ ]
@@ -436,7 +436,7 @@ module _ (o : List Frame) (s : Bool) (n : ℕ) (h b : Forest) (gh : Good h) (gb 
     first_owes form.One = refl
     first_owes form.Two = refl
 
-    open_step : (w : Word) (x u : ℕ) → Op w 0 x u → Stepped h b (so_far_of (st (mode.Open w x u))) Opens (taken (Open w x u) o s n h b)
+    open_step : (w : Kind) (x u : ℕ) → Op w 0 x u → Stepped h b (so_far_of (st (mode.Open w x u))) Opens (taken (Open w x u) o s n h b)
     unfolding opened trailed count
     open_step w x u t = by_form (form_of w) refl
       where
@@ -455,7 +455,7 @@ module _ (o : List Frame) (s : Bool) (n : ℕ) (h b : Forest) (gh : Good h) (gb 
         by_form form.Two e = onto (so_far_of (st (mode.Open w x u))) Opens (as_it_is (so_far_of (st (mode.Open w x u))) Opens refl) (state_of mode.Begin (frame_of (head_of w 0 x u) (form_of w) none ∷ o) s n h b) (record { mode = (frames, l); here = gh; past = gb }) said
 
 -- a part is over
-takes_one : (w : Word) (f : Form) (n : ℕ) → closing f ≡ Close → Owes (form_of w) f n → Takes (form_of w) (suc n)
+takes_one : (w : Kind) (f : Form) (n : ℕ) → closing f ≡ Close → Owes (form_of w) f n → Takes (form_of w) (suc n)
 takes_one w f n = by_forms (form_of w) f
   where
     by_forms : (g f : Form) → closing f ≡ Close → Owes g f n → Takes g (suc n)
@@ -469,7 +469,7 @@ takes_one w f n = by_forms (form_of w) f
     by_forms form.One form.Two c e = elim e [ ]
     by_forms form.Two form.Many c e = elim e [ ]
 
-owes_more : (w : Word) (f : Form) (n : ℕ) → parting f ≡ Part → Owes (form_of w) f n → Owes (form_of w) (parted f) (suc n)
+owes_more : (w : Kind) (f : Form) (n : ℕ) → parting f ≡ Part → Owes (form_of w) f n → Owes (form_of w) (parted f) (suc n)
 owes_more w f n = by_forms (form_of w) f
   where
     by_forms : (g f : Form) → parting f ≡ Part → Owes g f n → Owes g (parted f) (suc n)
@@ -483,25 +483,25 @@ owes_more w f n = by_forms (form_of w) f
     by_forms form.One form.Two c e = elim e [ ]
     by_forms form.Two form.Many c e = elim e [ ]
 
-fit_of : (w : Word) (a l u n : ℕ) → Op w a l u → Takes (form_of w) n → Fit w a l u n
+fit_of : (w : Kind) (a l u n : ℕ) → Op w a l u → Takes (form_of w) n → Fit w a l u n
 fit_of And a l u n p t = p
 fit_of Or a l u n p t = p
 fit_of Not a l u n p t = (t, p.0, p.1, p.2)
 fit_of Implies a l u n p t = (t, p.0, p.1, p.2)
-fit_of Hist a l u n p t = (t, p)
+fit_of Historically a l u n p t = (t, p)
 fit_of Once a l u n p t = (t, p)
 fit_of Since a l u n p t = (t, p)
 fit_of False a l u n p t = elim p [ ]
 fit_of True a l u n p t = elim p [ ]
 fit_of Atom a l u n p t = elim p [ ]
 
-shuts : (w : Word) (a l u : ℕ) → Op w a l u → shut w ≡ Closes ∷ []
+shuts : (w : Kind) (a l u : ℕ) → Op w a l u → shut w ≡ Closes ∷ []
 unfolding shut
 shuts And a l u p = refl
 shuts Or a l u p = refl
 shuts Not a l u p = refl
 shuts Implies a l u p = refl
-shuts Hist a l u p = refl
+shuts Historically a l u p = refl
 shuts Once a l u p = refl
 shuts Since a l u p = refl
 shuts False a l u p = elim p [ ]

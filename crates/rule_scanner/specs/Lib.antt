@@ -1,4 +1,5 @@
 pub mod Symbols
+pub mod Classes
 pub mod Writing
 pub mod Starred
 pub mod Reading

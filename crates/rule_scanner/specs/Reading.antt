@@ -3,8 +3,8 @@ use Rattle.std.specs.Prelude.{ℕ, zero, suc, Bool, true, false, List, [], ◌�
 use Rattle.numbers.specs.Limits.{MAX}
 use Rattle.rule_scanner.specs.Symbols.{Placed, symbols}
 use Rattle.trees.specs.Forest.{Head, head_of, Forest, none, one, ◌then◌}
-use Rattle.trees.specs.declared.Word.{Word}
-use Rattle.trees.specs.declared.Word.TheVariants as word
+use Rattle.book.specs.declared.kind.Kind.{Kind}
+use Rattle.book.specs.declared.kind.Kind.TheVariants as word
 use Rattle.rule_scanner.specs.declared.symbols.Symbol.{Symbol}
 use Rattle.rule_scanner.specs.declared.symbols.Symbol.TheVariants as symbol
 use Rattle.rule_scanner.specs.declared.turns.Mode.{Mode}
@@ -15,7 +15,7 @@ use Rattle.rule_scanner.specs.declared.turns.Turn.{Turn}
 use Rattle.rule_scanner.specs.declared.turns.Turn.TheVariants.{Refused, Go, Leaf, Open, Part, Close, Counted, Ended}
 
 -- a line of the table below: what each symbol does
-abbrev pub on : (Word → Turn) → (ℕ → Turn) → Turn → Turn → Turn → Turn → Turn → Turn → Turn → Symbol → Turn
+abbrev pub on : (Kind → Turn) → (ℕ → Turn) → Turn → Turn → Turn → Turn → Turn → Turn → Turn → Symbol → Turn
 on name number left right opens shuts comma star end (symbol.Name w) = name w
 on name number left right opens shuts comma star end (symbol.Number n) = number n
 on name number left right opens shuts comma star end symbol.Left = left
@@ -28,7 +28,7 @@ on name number left right opens shuts comma star end symbol.Bad = Refused
 on name number left right opens shuts comma star end symbol.End = end
 
 -- what the word does that a property begins with
-abbrev pub begun : Word → Turn
+abbrev pub begun : Kind → Turn
 begun word.False = Leaf word.False 0
 begun word.True = Leaf word.True 0
 begun word.Atom = Go mode.Atom
@@ -36,7 +36,7 @@ begun word.And = Go (mode.Open word.And 0 0)
 begun word.Or = Go (mode.Open word.Or 0 0)
 begun word.Not = Go (mode.Open word.Not 0 0)
 begun word.Implies = Go (mode.Open word.Implies 0 0)
-begun word.Hist = Go (mode.Left word.Hist)
+begun word.Historically = Go (mode.Left word.Historically)
 begun word.Once = Go (mode.Left word.Once)
 begun word.Since = Go (mode.Left word.Since)
 
@@ -71,7 +71,7 @@ turn (mode.Open w l u) f = on no no Refused Refused (Open w l u) Refused Refused
 turn mode.Over f = on no no Refused Refused Refused Refused Refused Refused Ended
 
 -- what an operator takes as its bracket opens, and what is wanted then; what it takes after a comma
-abbrev pub form_of : Word → Form
+abbrev pub form_of : Kind → Form
 form_of word.False = form.Many
 form_of word.True = form.Many
 form_of word.Atom = form.Many
@@ -79,7 +79,7 @@ form_of word.And = form.Many
 form_of word.Or = form.Many
 form_of word.Not = form.One
 form_of word.Implies = form.Two
-form_of word.Hist = form.One
+form_of word.Historically = form.One
 form_of word.Once = form.One
 form_of word.Since = form.Two
 

@@ -1,5 +1,5 @@
 -- Steps of scanning a written text with a byte for each open bracket. No public contract but that of `scan` cites these. Definitions only.
-use Rattle.std.specs.Prelude.{ℕ, zero, suc, ◌+◌, ◌≤◌, ◌≡◌, Bool, true, false, cond, not, List, [], ◌∷◌, length, get_or, eqb}
+use Rattle.std.specs.Prelude.{ℕ, zero, suc, ◌+◌, ◌≤◌, ◌≡◌, Bool, true, false, cond, not, List, [], ◌∷◌, length, get_or, eqb, Result, Ok, Err}
 use Rattle.trees.specs.Forest.{count, size}
 use Rattle.rule_scanner.specs.Reading.{Frame, State, Step, refused, going, ended, taken, Outcome, read, wrong}
 use Rattle.rule_scanner.specs.declared.turns.Mode.{Mode}
@@ -9,13 +9,12 @@ use Rattle.rule_scanner.specs.declared.turns.Form.TheVariants as form
 use Rattle.rule_scanner.specs.declared.turns.Turn.{Turn}
 use Rattle.rule_scanner.specs.declared.turns.Turn.TheVariants.{Refused, Go, Leaf, Open, Part, Close, Counted, Ended}
 use Rattle.rule_scanner.specs.declared.scan.Pass.{Pass}
-use Rattle.rule_scanner.specs.declared.scan.Scan.{Scan}
-use Rattle.rule_scanner.specs.declared.scan.Scan.TheVariants.{Wrong, Right}
+use Rattle.rule_scanner.specs.declared.scan.Extent.{Extent}
 
 -- ---- what the code says of a text: how many rows, assumes and guarantees it has, or the place of what is wrong
-unfoldable pub scanned : Outcome → Scan
-scanned (read a g) = Right (size a + size g) (count a) (count g)
-scanned (wrong at) = Wrong at
+unfoldable pub scanned : Outcome → Result Extent ℕ
+scanned (read a g) = Ok (record { rows = size a + size g; assumes = count a; guarantees = count g })
+scanned (wrong at) = Err at
 
 -- ---- bytes for what an operator still takes
 abbrev pub form_byte : Form → ℕ

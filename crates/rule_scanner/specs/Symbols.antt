@@ -1,7 +1,7 @@
 -- The symbols of a text, each with the place where it begins: 02, Ask 3. Definitions only.
 use Rattle.std.specs.Prelude.{ℕ, suc, Bool, true, false, not, ◌&&◌, ◌||◌, List, [], ◌∷◌, leb, eqb}
 use Rattle.text.specs.Words.{pick, parts, digit, said, good}
-use Rattle.trees.specs.declared.Word.TheVariants.{False, True, Atom, And, Or, Not, Implies, Hist, Once, Since}
+use Rattle.book.specs.declared.kind.Kind.TheVariants.{False, True, Atom, And, Or, Not, Implies, Historically, Once, Since}
 use Rattle.rule_scanner.specs.declared.symbols.Symbol.{Symbol}
 use Rattle.rule_scanner.specs.declared.symbols.Symbol.TheVariants.{Name, Number, Left, Right, Opens, Closes, Comma, Star, Bad, End}
 
@@ -70,7 +70,7 @@ name_of w =
     (pick (same w or_word) (Name Or)
     (pick (same w not_word) (Name Not)
     (pick (same w implies_word) (Name Implies)
-    (pick (same w hist_word) (Name Hist)
+    (pick (same w hist_word) (Name Historically)
     (pick (same w once_word) (Name Once)
     (pick (same w since_word) (Name Since) Bad)))))))))
 

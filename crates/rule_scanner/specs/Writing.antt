@@ -2,8 +2,8 @@
 use Rattle.std.specs.Prelude.{ℕ, List, [], ◌∷◌, ◌++◌, eqb}
 use Rattle.text.specs.Words.{pick}
 use Rattle.numbers.specs.Limits.{MAX}
-use Rattle.trees.specs.declared.Word.{Word}
-use Rattle.trees.specs.declared.Word.TheVariants.{False, True, Atom, And, Or, Not, Implies, Hist, Once, Since}
+use Rattle.book.specs.declared.kind.Kind.{Kind}
+use Rattle.book.specs.declared.kind.Kind.TheVariants.{False, True, Atom, And, Or, Not, Implies, Historically, Once, Since}
 use Rattle.rule_scanner.specs.declared.symbols.Symbol.{Symbol}
 use Rattle.rule_scanner.specs.declared.symbols.Symbol.TheVariants.{Name, Number, Left, Right, Opens, Closes, Comma, Star, End}
 use Rattle.trees.specs.Forest.{Head, Forest, none, tree, count}
@@ -24,12 +24,12 @@ head_said h = elim h.word [
   | Or ↦ Opens ∷ []
   | Not ↦ Opens ∷ []
   | Implies ↦ Opens ∷ []
-  | Hist ↦ range_said h.lower h.upper (Opens ∷ [])
+  | Historically ↦ range_said h.lower h.upper (Opens ∷ [])
   | Once ↦ range_said h.lower h.upper (Opens ∷ [])
   | Since ↦ range_said h.lower h.upper (Opens ∷ [])
 ]
 
-unfoldable pub shut : Word → List Symbol
+unfoldable pub shut : Kind → List Symbol
 shut False = []
 shut True = []
 shut Atom = []
@@ -37,7 +37,7 @@ shut And = Closes ∷ []
 shut Or = Closes ∷ []
 shut Not = Closes ∷ []
 shut Implies = Closes ∷ []
-shut Hist = Closes ∷ []
+shut Historically = Closes ∷ []
 shut Once = Closes ∷ []
 shut Since = Closes ∷ []
 

@@ -2,11 +2,11 @@
 ghost use Rattle.std.specs.Prelude.{◌≡◌, false, ◌+◌, ◌≤◌, ◌<◌, length};
 ghost use Rattle.numbers.specs.Limits.{LONGEST_INPUT};
 ghost use Rattle.rule_scanner.specs.Reading.{read_text, first_mode};
-ghost use Rattle.rule_scanner.specs.Scanning.{form_byte, byte_form, form_top, less_one, refuses as scanning_refuses, ends as scanning_ends, start_pass, between_pass, completed_pass, Bound, Steps, scanned};
+ghost use Rattle.rule_scanner.specs.Scanning.{form_byte, byte_form, form_top, refuses as scanning_refuses, ends as scanning_ends, start_pass, between_pass, completed_pass, Steps, scanned};
 
 use crate::symbols::{Found, Symbol, next_symbol};
 use crate::turns::{Form, Mode, Turn, form_of, parted, turned};
-use trees::Word;
+use book::kind::Kind;
 
 // How far a reader is: what is wanted, how many brackets are open, whether the guarantees are being read, how many
 // properties of the section are still to come, its rows and properties so far, and those of the section before.
@@ -22,14 +22,15 @@ pub struct Pass {
     pub before: usize,
 }
 
-// What a text comes to: the place of the first symbol that cannot stand there; or how many rows, assumes and guarantees.
+// How many rows, assumes and guarantees a text has.
 #[derive(Clone, Copy)]
-pub enum Scan {
-    Wrong(usize),
-    Right(usize, usize, usize),
+pub struct Extent {
+    pub rows: usize,
+    pub assumes: usize,
+    pub guarantees: usize,
 }
 
-// What an operator still takes, as a byte, and back.
+// What an operator still takes, as a byte, and back. Bytes stay, since `scan_text` takes any bytes to work in.
 fn form_byte(f: Form) -> u8
     ensures { result ≡ form_byte f }
 {
@@ -43,13 +44,11 @@ fn form_byte(f: Form) -> u8
 fn byte_form(b: u8) -> Form
     ensures { result ≡ byte_form b }
 {
-    if b == 0 {
-        return Form::Many;
+    match b {
+        0 => Form::Many,
+        1 => Form::One,
+        _ => Form::Two,
     }
-    if b == 1 {
-        return Form::One;
-    }
-    Form::Two
 }
 
 // What the innermost open operator still takes.
@@ -63,22 +62,12 @@ pub fn form_at(forms: &[u8], depth: usize) -> Form
     byte_form(forms[depth - 1])
 }
 
-fn less_one(n: u64) -> u64
-    ensures { result ≡ less_one n }
-{
-    if n == 0 {
-        return 0;
-    }
-    n - 1
-}
-
 fn first_mode(f: Form) -> Mode
     ensures { result ≡ first_mode f }
 {
     match f {
         Form::Many => Mode::First,
-        Form::One => Mode::Begin,
-        Form::Two => Mode::Begin,
+        Form::One | Form::Two => Mode::Begin,
     }
 }
 
@@ -88,29 +77,16 @@ pub fn refuses(t: Turn, depth: usize) -> bool
 {
     match t {
         Turn::Refused => true,
-        Turn::Go(_) => false,
-        Turn::Leaf(_, _) => false,
-        Turn::Open(_, _, _) => false,
-        Turn::Part => depth == 0,
-        Turn::Close => depth == 0,
-        Turn::Counted(_) => false,
+        Turn::Part | Turn::Close => depth == 0,
         Turn::Ended => depth != 0,
+        Turn::Go(_) | Turn::Leaf(_, _) | Turn::Open(_, _, _) | Turn::Counted(_) => false,
     }
 }
 
 pub fn ends(t: Turn) -> bool
     ensures { result ≡ scanning_ends t }
 {
-    match t {
-        Turn::Refused => false,
-        Turn::Go(_) => false,
-        Turn::Leaf(_, _) => false,
-        Turn::Open(_, _, _) => false,
-        Turn::Part => false,
-        Turn::Close => false,
-        Turn::Counted(_) => false,
-        Turn::Ended => true,
-    }
+    matches!(t, Turn::Ended)
 }
 
 // Before the first symbol.
@@ -129,43 +105,29 @@ pub fn start() -> Pass
     }
 }
 
-// Between two properties of a file.
-fn between(second: bool, left: u64, rows: usize, here: usize, past: usize, before: usize) -> Pass
-    ensures { result ≡ between_pass second left rows here past before }
+// Between two properties of a file: after the assumes the guarantees' count is wanted, after these the end.
+fn between(p: Pass) -> Pass
+    ensures { result ≡ between_pass p.second p.left p.rows p.here p.past p.before }
 {
-    if left == 0 {
-        if second {
-            return Pass {
-                mode: Mode::Over,
-                depth: 0,
-                second: true,
-                left: 0,
-                rows,
-                here,
-                past,
-                before,
-            };
-        }
+    if p.left != 0 {
         return Pass {
-            mode: Mode::Count,
+            mode: Mode::Begin,
             depth: 0,
-            second: true,
-            left: 0,
-            rows: 0,
-            here: 0,
-            past: rows,
-            before: here,
+            ..p
+        };
+    }
+    if p.second {
+        return Pass {
+            mode: Mode::Over,
+            depth: 0,
+            ..p
         };
     }
     Pass {
-        mode: Mode::Begin,
-        depth: 0,
-        second,
-        left,
-        rows,
-        here,
-        past,
-        before,
+        second: true,
+        past: p.rows,
+        before: p.here,
+        ..start()
     }
 }
 
@@ -174,25 +136,20 @@ fn completed(p: Pass, depth: usize) -> Pass
     requires { (p.rows < LONGEST_INPUT) × (p.here < LONGEST_INPUT) }
     ensures { result ≡ completed_pass p depth }
 {
+    let rows = p.rows + 1;
     if depth == 0 {
-        return between(
-            p.second,
-            less_one(p.left),
-            p.rows + 1,
-            p.here + 1,
-            p.past,
-            p.before,
-        );
+        return between(Pass {
+            left: p.left.saturating_sub(1),
+            rows,
+            here: p.here + 1,
+            ..p
+        });
     }
     Pass {
         mode: Mode::After,
         depth,
-        second: p.second,
-        left: p.left,
-        rows: p.rows + 1,
-        here: p.here,
-        past: p.past,
-        before: p.before,
+        rows,
+        ..p
     }
 }
 
@@ -201,56 +158,40 @@ pub fn taken(t: Turn, p: Pass, forms: &mut [u8]) -> Pass
     requires { (p.depth < length forms.old) × (p.rows < LONGEST_INPUT) × (p.here < LONGEST_INPUT) × (scanning_refuses t p.depth ≡ false) }
     ensures { Steps t p forms.old result forms.new }
 {
-    let depth = p.depth;
     match t {
-        Turn::Go(m) => Pass {
-            mode: m,
-            depth,
-            second: p.second,
-            left: p.left,
-            rows: p.rows,
-            here: p.here,
-            past: p.past,
-            before: p.before,
-        },
-        Turn::Leaf(_, _) => completed(p, depth),
-        Turn::Open(w, _, _) => {
-            let f = form_of(w);
-            forms[depth] = form_byte(f);
+        Turn::Go(mode) => Pass { mode, ..p },
+        Turn::Leaf(_, _) => completed(p, p.depth),
+        Turn::Open(word, _, _) => {
+            let form = form_of(word);
+            forms[p.depth] = form_byte(form);
             Pass {
-                mode: first_mode(f),
-                depth: depth + 1,
-                second: p.second,
-                left: p.left,
-                rows: p.rows,
-                here: p.here,
-                past: p.past,
-                before: p.before,
+                mode: first_mode(form),
+                depth: p.depth + 1,
+                ..p
             }
         }
         Turn::Part => {
-            let top = depth - 1;
+            let top = p.depth - 1;
             forms[top] = form_byte(parted(byte_form(forms[top])));
             Pass {
                 mode: Mode::Begin,
-                depth,
-                second: p.second,
-                left: p.left,
-                rows: p.rows,
-                here: p.here,
-                past: p.past,
-                before: p.before,
+                ..p
             }
         }
-        Turn::Close => completed(p, depth - 1),
-        Turn::Counted(n) => between(p.second, n, 0, 0, p.past, p.before),
-        Turn::Refused => p,
-        Turn::Ended => p,
+        Turn::Close => completed(p, p.depth - 1),
+        Turn::Counted(left) => between(Pass {
+            left,
+            rows: 0,
+            here: 0,
+            ..p
+        }),
+        Turn::Refused | Turn::Ended => p,
     }
 }
 
-// Whether a text is written as properties are, and how many rows, assumes and guarantees it has.
-pub fn scan_text(input: &[u8], forms: &mut [u8]) -> Scan
+// How many rows, assumes and guarantees a text has that is written as properties are; or the place of the first symbol
+// that cannot stand there. It stays a `loop`: only the symbols tell where the text ends.
+pub fn scan_text(input: &[u8], forms: &mut [u8]) -> Result<Extent, usize>
     requires { (length input.now ≤ LONGEST_INPUT) × (length input.now ≤ length forms.old) }
     ensures { result ≡ scanned (read_text input.now) }
 {
@@ -258,15 +199,16 @@ pub fn scan_text(input: &[u8], forms: &mut [u8]) -> Scan
     let mut at = 0;
     loop {
         let found = next_symbol(input, at);
-        let depth = p.depth;
-        let mode = p.mode;
-        let symbol = found.symbol;
-        let t = turned(mode, form_at(forms, depth), symbol);
-        if refuses(t, depth) {
-            return Scan::Wrong(found.at);
+        let t = turned(p.mode, form_at(forms, p.depth), found.symbol);
+        if refuses(t, p.depth) {
+            return Err(found.at);
         }
         if ends(t) {
-            return Scan::Right(p.past + p.rows, p.before, p.here);
+            return Ok(Extent {
+                rows: p.past + p.rows,
+                assumes: p.before,
+                guarantees: p.here,
+            });
         }
         p = taken(t, p, forms);
         at = found.next;

@@ -1,42 +1,25 @@
 // The symbols of a written text.
-ghost use Rattle.std.specs.Prelude.{◌≡◌, true, [], ◌+◌, ◌-◌, ◌≤◌, ◌<◌, length, get_or, take, drop};
+ghost use Rattle.std.specs.Prelude.{◌≡◌, true, [], ◌+◌, ◌-◌, ◌≤◌, ◌<◌, length, get_or, take, drop, eqb, not, position};
 ghost use Rattle.text.specs.Words.{all_digits};
-ghost use Rattle.rule_scanner.specs.Symbols.{letter as symbols_letter, class_of, run_of, same as symbols_same, name_of, number_of, mark_of};
+ghost use Rattle.rule_scanner.specs.Symbols.{class_of, run_of, name_of, number_of, mark_of};
+ghost use Rattle.rule_scanner.specs.Classes.{class_number};
 ghost use Rattle.rule_scanner.specs.Steps.{Next};
 
-use text::Read;
-use trees::Word;
+use book::kind::Kind;
 
-// The bytes that part symbols, and the bounds of letters and digits.
-const SPACE: u8 = b' ';
-
-const LINE_FEED: u8 = b'\n';
-
-const UPPER_A: u8 = b'A';
-
-const UPPER_Z: u8 = b'Z';
-
-const LOWER_A: u8 = b'a';
-
-const LOWER_Z: u8 = b'z';
-
-const ZERO: u8 = b'0';
-
-const NINE: u8 = b'9';
-
-// A byte's class.
-const BLANK: u64 = 0;
-
-const LETTER: u64 = 1;
-
-const DIGIT: u64 = 2;
-
-const OTHER: u64 = 3;
+// What a byte is to a symbol.
+#[derive(Clone, Copy, Debug, PartialEq, Eq)]
+enum Class {
+    Blank,
+    Letter,
+    Digit,
+    Other,
+}
 
 // A symbol. `Bad` is one that can stand nowhere, `End` the end of the text.
 #[derive(Clone, Copy)]
 pub enum Symbol {
-    Name(Word),
+    Name(Kind),
     Number(u64),
     Left,
     Right,
@@ -56,110 +39,75 @@ pub struct Found {
     pub next: usize,
 }
 
-fn is_letter(b: u8) -> bool
-    ensures { result ≡ symbols_letter b }
+// What a byte is to a symbol.
+#[tactic(auto, using(crate::proofs::Scanning::letter_is, crate::proofs::Scanning::digit_is), unfolding(crate::specs::Symbols::class_of, text::specs::Words::pick))]
+fn class_of(b: u8) -> Class
+    ensures { class_number result ≡ class_of b }
 {
-    if b < UPPER_A {
-        return false;
+    if text::parts(b) {
+        Class::Blank
+    } else if b.is_ascii_alphabetic() {
+        Class::Letter
+    } else if b.is_ascii_digit() {
+        Class::Digit
+    } else {
+        Class::Other
     }
-    if b <= UPPER_Z {
-        return true;
-    }
-    if b < LOWER_A {
-        return false;
-    }
-    b <= LOWER_Z
 }
 
-// What a byte is to a symbol.
-fn class_of(b: u8) -> u64
-    ensures { result ≡ class_of b }
+// Whether a byte has a class.
+fn has_class(b: u8, class: Class) -> bool
+    ensures { result ≡ eqb (class_of b) (class_number class) }
 {
-    if b == SPACE {
-        return BLANK;
-    }
-    if b == LINE_FEED {
-        return BLANK;
-    }
-    if is_letter(b) {
-        return LETTER;
-    }
-    if b < ZERO {
-        return OTHER;
-    }
-    if b <= NINE {
-        return DIGIT;
-    }
-    OTHER
+    class_of(b) == class
+}
+
+// Where the first byte of another class stands.
+fn first_other(bytes: &[u8], class: Class) -> Option<usize>
+    ensures { result ≡ position (λ b. not (eqb (class_of b) (class_number class))) bytes.now }
+{
+    bytes.iter().position(|b| !has_class(*b, class))
 }
 
 // Where a run of bytes of a class ends.
-fn run_end(input: &[u8], at: usize, class: u64) -> usize
+fn run_end(input: &[u8], at: usize, class: Class) -> usize
     requires { at ≤ length input.now }
-    ensures { (result ≡ at + length (run_of class (drop at input.now))) × (result ≤ length input.now) }
+    ensures { (result ≡ at + length (run_of (class_number class) (drop at input.now))) × (result ≤ length input.now) }
 {
-    let mut i = at;
-    while i < input.len() {
-        if class_of(input[i]) != class {
-            return i;
-        }
-        i += 1;
+    match first_other(&input[at..], class) {
+        Some(run) => at + run,
+        None => input.len(),
     }
-    i
-}
-
-// Whether two runs have the same bytes.
-fn same(a: &[u8], b: &[u8]) -> bool
-    ensures { result ≡ symbols_same a.now b.now }
-{
-    if a.len() != b.len() {
-        return false;
-    }
-    let mut i = 0;
-    while i < a.len() {
-        if a[i] != b[i] {
-            return false;
-        }
-        i += 1;
-    }
-    true
 }
 
 // What a run of letters is.
+#[tactic(auto, using(crate::proofs::Scanning::same_is), unfolding(crate::specs::Symbols::name_of, text::specs::Words::pick))]
 fn name_of(w: &[u8]) -> Symbol
     ensures { result ≡ name_of w.now }
 {
-    if same(w, b"false") {
-        return Symbol::Name(Word::False);
+    if w == b"false".as_slice() {
+        Symbol::Name(Kind::False)
+    } else if w == b"true".as_slice() {
+        Symbol::Name(Kind::True)
+    } else if w == b"a".as_slice() {
+        Symbol::Name(Kind::Atom)
+    } else if w == b"and".as_slice() {
+        Symbol::Name(Kind::And)
+    } else if w == b"or".as_slice() {
+        Symbol::Name(Kind::Or)
+    } else if w == b"not".as_slice() {
+        Symbol::Name(Kind::Not)
+    } else if w == b"implies".as_slice() {
+        Symbol::Name(Kind::Implies)
+    } else if w == b"hist".as_slice() {
+        Symbol::Name(Kind::Historically)
+    } else if w == b"once".as_slice() {
+        Symbol::Name(Kind::Once)
+    } else if w == b"since".as_slice() {
+        Symbol::Name(Kind::Since)
+    } else {
+        Symbol::Bad
     }
-    if same(w, b"true") {
-        return Symbol::Name(Word::True);
-    }
-    if same(w, b"a") {
-        return Symbol::Name(Word::Atom);
-    }
-    if same(w, b"and") {
-        return Symbol::Name(Word::And);
-    }
-    if same(w, b"or") {
-        return Symbol::Name(Word::Or);
-    }
-    if same(w, b"not") {
-        return Symbol::Name(Word::Not);
-    }
-    if same(w, b"implies") {
-        return Symbol::Name(Word::Implies);
-    }
-    if same(w, b"hist") {
-        return Symbol::Name(Word::Hist);
-    }
-    if same(w, b"once") {
-        return Symbol::Name(Word::Once);
-    }
-    if same(w, b"since") {
-        return Symbol::Name(Word::Since);
-    }
-    Symbol::Bad
 }
 
 // What a run of digits is: a word of 01's text that stands alone.
@@ -167,44 +115,26 @@ fn number_of(w: &[u8]) -> Symbol
     requires { (0 < length w.now) × (all_digits w.now ≡ true) }
     ensures { result ≡ number_of w.now }
 {
-    let r = text::next_word(w, 0);
-    let Read::Word(n, _) = r else {
-        return Symbol::Bad;
-    };
-    Symbol::Number(n)
+    match text::next_word(w, 0) {
+        Ok(word) => Symbol::Number(word.number),
+        Err(_) => Symbol::Bad,
+    }
 }
 
 // What another byte is.
+#[tactic(auto, unfolding(crate::specs::Symbols::mark_of, text::specs::Words::pick))]
 fn mark_of(b: u8) -> Symbol
     ensures { result ≡ mark_of b }
 {
-    if b == b'[' {
-        return Symbol::Left;
+    match b {
+        b'[' => Symbol::Left,
+        b']' => Symbol::Right,
+        b'(' => Symbol::Opens,
+        b')' => Symbol::Closes,
+        b',' => Symbol::Comma,
+        b'*' => Symbol::Star,
+        _ => Symbol::Bad,
     }
-    if b == b']' {
-        return Symbol::Right;
-    }
-    if b == b'(' {
-        return Symbol::Opens;
-    }
-    if b == b')' {
-        return Symbol::Closes;
-    }
-    if b == b',' {
-        return Symbol::Comma;
-    }
-    if b == b'*' {
-        return Symbol::Star;
-    }
-    Symbol::Bad
-}
-
-// So many bytes from a place on.
-fn piece(input: &[u8], from: usize, end: usize) -> &[u8]
-    requires { (from ≤ end) × (end ≤ length input.now) }
-    ensures { result.now ≡ take (end - from) (drop from input.now) }
-{
-    &input[from..end]
 }
 
 // The symbol that begins at a place where there is no blank.
@@ -212,27 +142,28 @@ fn symbol_here(input: &[u8], at: usize) -> Found
     requires { (at < length input.now) × (0 < class_of (get_or input.now at 0)) }
     ensures { Next input.now at result.symbol result.at result.next }
 {
-    let class = class_of(input[at]);
-    if class == LETTER {
-        let end = run_end(input, at, LETTER);
-        return Found {
-            symbol: name_of(piece(input, at, end)),
+    match class_of(input[at]) {
+        Class::Letter => {
+            let next = run_end(input, at, Class::Letter);
+            Found {
+                symbol: name_of(&input[at..next]),
+                at,
+                next,
+            }
+        }
+        Class::Digit => {
+            let next = run_end(input, at, Class::Digit);
+            Found {
+                symbol: number_of(&input[at..next]),
+                at,
+                next,
+            }
+        }
+        Class::Blank | Class::Other => Found {
+            symbol: mark_of(input[at]),
             at,
-            next: end,
-        };
-    }
-    if class == DIGIT {
-        let end = run_end(input, at, DIGIT);
-        return Found {
-            symbol: number_of(piece(input, at, end)),
-            at,
-            next: end,
-        };
-    }
-    Found {
-        symbol: mark_of(input[at]),
-        at,
-        next: at + 1,
+            next: at + 1,
+        },
     }
 }
 
@@ -241,16 +172,13 @@ pub fn next_symbol(input: &[u8], from: usize) -> Found
     requires { from ≤ length input.now }
     ensures { Next input.now from result.symbol result.at result.next }
 {
-    let mut i = from;
-    while i < input.len() {
-        if class_of(input[i]) != BLANK {
-            return symbol_here(input, i);
-        }
-        i += 1;
+    let at = run_end(input, from, Class::Blank);
+    if at < input.len() {
+        return symbol_here(input, at);
     }
     Found {
         symbol: Symbol::End,
-        at: i,
-        next: i,
+        at,
+        next: at,
     }
 }

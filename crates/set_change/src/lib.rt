@@ -11,7 +11,8 @@ ghost use Rattle.set_change.specs.Change.{mode_of, changed, growing, spanned, sp
 use ring::Outlook;
 
 // The changes: the set stays, or is dropped; the range is added, or is not. To a set that stays the ranges of a stretch of instants
-// may be added, as one interval.
+// may be added, as one interval. They are numbers and no enum: `next`, `look_ahead` and `change`, and `start_of` and `plan_call` of
+// `planning`, take every u8, from 4 on as 4, and a narrower type would ask more of their callers.
 pub const STAYS: u8 = 0;
 
 pub const STAYS_AND_ADDS: u8 = 1;
@@ -102,7 +103,7 @@ pub fn next(before: u8, mode: u8, spans: bool) -> u8
 
 // What will become of the set: whether it will contain the clock, and whether there is room for the change. No run that holds the clock
 // is dropped for its age; and only a set that stays can grow past its words. The two changes that drop the set stand together, here and
-// below: one look tells them from those by which it grows.
+// below: one look tells them from those by which it grows. `here` is promised where there is no room, too, so no Option says it.
 pub fn look_ahead(set: &[u64], mode: u8, lower: u64, upper: u64, clock: u64) -> Outlook
     requires { Rolling set.now }
     ensures { (result.here ≡ has (changed mode lower upper clock (ringed set.now)) clock) × (result.room ≡ fits SET_WORDS (changed mode lower upper clock (ringed set.now))) }

@@ -5,31 +5,42 @@ ghost use Rattle.std.specs.Prelude.{◌<◌, ◌≤◌};
 ghost use Rattle.numset.specs.Runs.{Good};
 
 use numbers::MAX;
+use std::fmt;
+use std::fmt::Display;
+
+// An instant; the last one is printed by its name.
+#[derive(Clone, Copy)]
+struct Moment(u64);
+
+impl Display for Moment {
+    fn fmt<W: fmt::Write>(&self, f: &mut fmt::Formatter<W>) -> fmt::Result {
+        if self.0 == MAX {
+            write!(f, "MAX")
+        } else {
+            write!(f, "{}", self.0)
+        }
+    }
+}
 
 pub fn text(rt: &(impl Print + Eprint), bytes: &[u8]) {
     console::print(rt, bytes);
 }
 
-// A number in decimal.
-pub fn number(rt: &(impl Print + Eprint), n: u64) {
-    console::print_value(rt, n);
+pub fn value(rt: &(impl Print + Eprint), value: impl Display + Drop) {
+    console::print_value(rt, value);
 }
 
-// An instant; the last one is printed by its name.
+// A number in decimal.
+pub fn number(rt: &(impl Print + Eprint), n: u64) {
+    value(rt, n);
+}
+
 pub fn instant(rt: &(impl Print + Eprint), t: u64) {
-    if t == MAX {
-        text(rt, b"MAX");
-    } else {
-        number(rt, t);
-    }
+    value(rt, Moment(t));
 }
 
 pub fn interval(rt: &(impl Print + Eprint), lower: u64, upper: u64) {
-    text(rt, b"[");
-    instant(rt, lower);
-    text(rt, b",");
-    instant(rt, upper);
-    text(rt, b"]");
+    value(rt, format_args!("[{},{}]", Moment(lower), Moment(upper)));
 }
 
 // The runs of a set, the oldest first, and a line feed.
@@ -37,22 +48,12 @@ pub fn runs(rt: &(impl Print + Eprint), set: &[u64])
     requires { Good set.now }
 {
     let n = set[0] as usize;
-    let mut j = 0;
     text(rt, b"{");
-    while j < n {
+    for j in 0..n {
         if 0 < j {
             text(rt, b",");
         }
         interval(rt, set[2 * j + 1], set[2 * j + 2]);
-        j += 1;
     }
     text(rt, b"}\n");
-}
-
-// The three digits of a property, after a space.
-pub fn digits(rt: &(impl Print + Eprint), value: u8, early: u8, settled: u8) {
-    text(rt, b" ");
-    number(rt, value as u64);
-    number(rt, early as u64);
-    number(rt, settled as u64);
 }

@@ -22,9 +22,9 @@ use Rattle.pmtl.proofs.Fullest.{fresh_none, call_few}
 use Rattle.book.specs.Rows.{temporal}
 use Rattle.book.specs.Reading.{Read, got, refused, Sections}
 use Rattle.book.specs.declared.loading.Loading.{Loading}
+use Rattle.std.specs.Prelude.{Option, Some, None}
 use Rattle.book.specs.declared.strict.Excess.{Excess}
-use Rattle.book.specs.declared.strict.Excess.TheVariants.{Within, Over}
-use Rattle.book.specs.Strict.{excess_by}
+use Rattle.book.specs.Strict.{over, excess_by}
 use Rattle.book.specs.Loading.{way_in, admitted}
 use Rattle.book.proofs.Excess.{excess_small}
 use Rattle.book.proofs.Admitted.{admitted_all}
@@ -127,22 +127,22 @@ unfolding property_words property_word
 words_length [] = refl
 words_length (w ∷ ws) = let h = words_length ws in omega arith
 
-book_length : (n : ℕ) → n < 100 → length (book_line n Within) ≤ LAST_BYTES
+book_length : (n : ℕ) → n < 100 → length (book_line n None) ≤ LAST_BYTES
 unfolding book_line excess_words
 book_length n h = simp length-append (omega (arith, two_digits n h))
 
 -- a row of an input that is not too long has at most five digits, and what it can need at most twenty
-over_length : (n row count : ℕ) → n < 100 → row < 100000 → count ≤ LAST_TIME + 1 → length (book_line n (Over row count)) ≤ 35
+over_length : (n row count : ℕ) → n < 100 → row < 100000 → count ≤ LAST_TIME + 1 → length (book_line n (Some (over row count))) ≤ 35
 unfolding book_line excess_words
 over_length n row count h k l = simp length-append (omega (arith, two_digits n h, five_digits row k, at_most_20 count (omega arith)))
 
-first_length : length (book_line ACCEPTED Within) ≤ FIRST_BYTES
+first_length : length (book_line ACCEPTED None) ≤ FIRST_BYTES
 unfolding book_line excess_words
 first_length = simp length-append (omega (arith, at_most 0 ACCEPTED (omega arith)))
 
-after_book : (ls : List Line) → length (written (book ACCEPTED Within ∷ ls)) ≤ FIRST_BYTES + length (written ls)
+after_book : (ls : List Line) → length (written (book ACCEPTED None ∷ ls)) ≤ FIRST_BYTES + length (written ls)
 unfolding written line
-after_book ls = omega (arith, length-append (book_line ACCEPTED Within) (written ls), first_length)
+after_book ls = omega (arith, length-append (book_line ACCEPTED None) (written ls), first_length)
 
 last_length : (e : Ending) → EndsSmall e → length (last_line e) ≤ LAST_BYTES
 unfolding last_line stop_line end_line EndsSmall
@@ -246,7 +246,7 @@ calls_number b st ks h = ap (λ (l : Ledger). l.number) (from_blank b st ks h) �
 
 -- ---- reports
 -- a line alone
-lone_book : (n room : ℕ) → n < 100 → length (written (book n Within ∷ [])) ≤ longest room
+lone_book : (n room : ℕ) → n < 100 → length (written (book n None ∷ [])) ≤ longest room
 unfolding written line
 lone_book n room h = simp length-append (omega (arith, book_length n h))
 
@@ -275,19 +275,19 @@ module _ (way : Loading) (input : List ℕ) where
       rw (lines_loaded way input f e z) (omega (arith, after_book (map called cs ++ end_lines l (calls_after ending ws).ends), called-lines, after))
 
   -- a refused book's line alone. Where a row of it is named, the input has the words of a row, and so there would be room for a call's line
-  refused_length : (s : Sections) (ws : List ℕ) → length input ≤ LONGEST_INPUT → sections_said input ≡ got s ws → (e : Excess) → excess_by way (loaded_from s).book.rows ≡ e
+  refused_length : (s : Sections) (ws : List ℕ) → length input ≤ LONGEST_INPUT → sections_said input ≡ got s ws → (e : Option Excess) → excess_by way (loaded_from s).book.rows ≡ e
       → length (written (book (admitted way (loaded_from s)).number e ∷ [])) ≤ longest (length input)
   unfolding written line
-  refused_length s ws f e Within h =
+  refused_length s ws f e None h =
       let g = sections_got (supply input).ending (small_ending input) (supply input).words e in
       lone_book (admitted way (loaded_from s)).number (length input) (loads_by way s g.0).small
-  refused_length s ws f e (Over r n) h =
+  refused_length s ws f e (Some o) h =
       let g = sections_got (supply input).ending (small_ending input) (supply input).words e in
       let x = excess_small way s h in
       let rows : 4 ≤ length s.rows = omega (arith, x.row) in
       let far : 15 ≤ length input = omega (arith, g.1, few_words input) in
-      let near : r < 100000 = omega (arith, x.row, g.1, few_words input) in
-      let l = over_length (admitted way (loaded_from s)).number r n (loads_by way s g.0).small near x.count in
+      let near : o.row < 100000 = omega (arith, x.row, g.1, few_words input) in
+      let l = over_length (admitted way (loaded_from s)).number o.row o.count (loads_by way s g.0).small near x.count in
       simp length-append (omega arith)
 
   by_number : (s : Sections) (ws : List ℕ) → length input ≤ LONGEST_INPUT → sections_said input ≡ got s ws → Dec ((admitted way (loaded_from s)).number ≡ ACCEPTED)
@@ -318,7 +318,7 @@ module _ (way : Loading) (input : List ℕ) where
   unfolding final_line room_after
   at_most_stopped {n} h = go (dec_lt LONGEST_INPUT (length input))
     where
-      not_book : {m : ℕ} {x : Excess} → book m x ≡ last (stop n) → ⊥
+      not_book : {m : ℕ} {x : Option Excess} → book m x ≡ last (stop n) → ⊥
       not_book h = let z : ◌≡◌ {A = ℕ} 0 1 = cc in omega arith
 
       not_end : last end ≡ last (stop n) → ⊥

@@ -15,8 +15,8 @@ use Rattle.pmtl.specs.Monitor.{State, initial_in}
 use Rattle.pmtl.specs.Calls.{Call, Outcome, call, after_in}
 use Rattle.book.specs.Reading.{Read, got, refused, Sections}
 use Rattle.book.specs.declared.loading.Loading.{Loading}
+use Rattle.std.specs.Prelude.{Option, None}
 use Rattle.book.specs.declared.strict.Excess.{Excess}
-use Rattle.book.specs.declared.strict.Excess.TheVariants.{Within}
 use Rattle.book.specs.Strict.{excess_by}
 use Rattle.book.specs.Loading.{way_in, admitted}
 use Rattle.book.proofs.Admitted.{accepted_within}
@@ -36,7 +36,7 @@ use Rattle.slip.proofs.Words.{sections_refused}
 use Rattle.slip.proofs.Calls.{few_calls}
 
 -- ---- a call's line among the others
-not_book : {n : ℕ} {e : Excess} {l : CallLine} → book n e ≡ called l → ⊥
+not_book : {n : ℕ} {e : Option Excess} {l : CallLine} → book n e ≡ called l → ⊥
 not_book h = let z : ◌≡◌ {A = ℕ} 0 1 = cc in omega arith
 
 not_last : {e : Ending} {l : CallLine} → last e ≡ called l → ⊥
@@ -127,7 +127,7 @@ module _ (way : Loading) (input : List ℕ) {s : Sections} {ws : List ℕ} (e : 
 module _ (way : Loading) (input : List ℕ) (fits : length input ≤ LONGEST_INPUT) where
   -- of a loaded book
   pub lines_loaded : {s : Sections} {ws : List ℕ} → sections_said input ≡ got s ws → (admitted way (loaded_from s)).number ≡ ACCEPTED
-      → lines way input ≡ book ACCEPTED Within ∷ lines_from (admitted way (loaded_from s)).book 0 (initial_in (way_in way) (admitted way (loaded_from s)).book.rows) (blank_ledger (admitted way (loaded_from s)).book) (calls_after (supply input).ending ws)
+      → lines way input ≡ book ACCEPTED None ∷ lines_from (admitted way (loaded_from s)).book 0 (initial_in (way_in way) (admitted way (loaded_from s)).book.rows) (blank_ledger (admitted way (loaded_from s)).book) (calls_after (supply input).ending ws)
   unfolding lines book_lines book_then call_lines
   lines_loaded {s} {ws} e z =
       rw (le-ltb LONGEST_INPUT (length input) fits, e, eq-eqb (admitted way (loaded_from s)).number ACCEPTED z)
@@ -138,21 +138,21 @@ module _ (way : Loading) (input : List ℕ) (fits : length input ≤ LONGEST_INP
   unfolding lines book_lines book_then
   lines_refused {s} e z = rw (le-ltb LONGEST_INPUT (length input) fits, e, ne_eqb (admitted way (loaded_from s)).number ACCEPTED z)
 
-  pub lines_unread : {n : ℕ} → sections_said input ≡ refused n → lines way input ≡ book n Within ∷ []
+  pub lines_unread : {n : ℕ} → sections_said input ≡ refused n → lines way input ≡ book n None ∷ []
   unfolding lines book_lines
   lines_unread e = rw (le-ltb LONGEST_INPUT (length input) fits, e)
 
   -- by the lines of its calls
   pub lines_recounted : {s : Sections} {ws : List ℕ} → sections_said input ≡ got s ws → (admitted way (loaded_from s)).number ≡ ACCEPTED
       → let b = (admitted way (loaded_from s)).book in let r = calls_after (supply input).ending ws in let cs = lines_of b 0 (initial_in (way_in way) b.rows) r.calls in
-      lines way input ≡ book ACCEPTED Within ∷ map called cs ++ closing b cs r.ends
+      lines way input ≡ book ACCEPTED None ∷ map called cs ++ closing b cs r.ends
   unfolding lines_from
   lines_recounted {s} {ws} e z =
       let b = (admitted way (loaded_from s)).book in
       let r = calls_after (supply input).ending ws in
       let st = initial_in (way_in way) b.rows in
       lines_loaded e z
-      ∙ ap (λ ls. book ACCEPTED Within ∷ map called (lines_of b 0 st r.calls) ++ ls) (ends_are b st r.calls (omega (arith, few_calls input e)) r.ends)
+      ∙ ap (λ ls. book ACCEPTED None ∷ map called (lines_of b 0 st r.calls) ++ ls) (ends_are b st r.calls (omega (arith, few_calls input e)) r.ends)
 
   pub whole_of : {s : Sections} {ws : List ℕ} → sections_said input ≡ got s ws → (admitted way (loaded_from s)).number ≡ ACCEPTED → Whole way input
   whole_of {s} {ws} e z =
@@ -165,7 +165,7 @@ module _ (way : Loading) (input : List ℕ) (fits : length input ≤ LONGEST_INP
         calls = cs;
         loads = rw (loads_as way input e) z;
         all = lines_recounted e z
-            ∙ ap₂ (λ b' x. book ACCEPTED Within ∷ map called cs ++ closing b' cs x) (sym (ap (λ (l : Loaded). l.book) (loads_as way input e))) (ap (λ (r : CallsRead). r.ends) (sym (read_as way input e)));
+            ∙ ap₂ (λ b' x. book ACCEPTED None ∷ map called cs ++ closing b' cs x) (sym (ap (λ (l : Loaded). l.book) (loads_as way input e))) (ap (λ (r : CallsRead). r.ends) (sym (read_as way input e)));
         each = n ∙ ap length said;
         numbered = λ i h. ap (λ (l : CallLine). l.number) (said_at (way_in way) b ks i (omega arith)) ∙ number_of_lem b (suc i) _;
         in_order = λ i h. said_at (way_in way) b ks i (omega arith) ∙ ap₂ (sayings (way_in way) i) (sym (ap (λ (l : Loaded). l.book) (loads_as way input e))) said;
@@ -199,7 +199,7 @@ pub record CalledLine (way : Loading) (input : List ℕ) (i : ℕ) (l : CallLine
   pub said : others < length (calls_said input)
   pub is : sayings (way_in way) others (book_said way input) (calls_said input) ≡ l
 
-in_whole : (way : Loading) (input : List ℕ) → length input ≤ LONGEST_INPUT → (w : Whole way input) (i : ℕ) (l : CallLine) → get_or (book ACCEPTED Within ∷ map called w.calls ++ closing (book_said way input) w.calls (end_said input)) i no_line ≡ called l → CalledLine way input i l
+in_whole : (way : Loading) (input : List ℕ) → length input ≤ LONGEST_INPUT → (w : Whole way input) (i : ℕ) (l : CallLine) → get_or (book ACCEPTED None ∷ map called w.calls ++ closing (book_said way input) w.calls (end_said input)) i no_line ≡ called l → CalledLine way input i l
 in_whole way input f w zero l h = absurd (not_book h)
 in_whole way input f w (suc i) l h =
     let q = at_place w.calls (book_said way input) w.calls (end_said input) i l h in

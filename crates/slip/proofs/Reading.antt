@@ -15,8 +15,9 @@ use Rattle.text.proofs.Back.{decimal_digits, decimal_says}
 use Rattle.text.proofs.Digits.{one_place}
 use Rattle.numbers.specs.Refusals.{ACCEPTED}
 use Rattle.ledger.specs.declared.Summary.{Summary}
+use Rattle.std.specs.Prelude.{Option, Some, None}
 use Rattle.book.specs.declared.strict.Excess.{Excess}
-use Rattle.book.specs.declared.strict.Excess.TheVariants.{Within, Over}
+use Rattle.book.specs.Strict.{over}
 use Rattle.report.specs.Lines.{PropertyWord, Rest, nothing, told, CallLine, end, stop, Line, book, called, summed, last}
 use Rattle.report.specs.Report.{excess_words, book_line, stop_line, end_line, last_line, property_word, property_words, rest_words, call_line, summary_line, line, written}
 use Rattle.slip.specs.Back.{before, pieces, word_in, word_then, rest_in, excess_said, sums, summary_in, line_in, lines_in, Proper, AllProper}
@@ -134,27 +135,27 @@ clear_rest nothing = tt
 clear_rest (told ws count) = clear_append line_feed (property_words ws) (space ∷ decimal count) (clear_words ws) ((λ e. omega arith), clear_decimal line_feed (omega arith) count)
 
 -- ---- what strict loading refuses
-excess_pieces : Excess → List (List ℕ)
-excess_pieces Within = []
-excess_pieces (Over r n) = decimal r ∷ decimal n ∷ []
+excess_pieces : Option Excess → List (List ℕ)
+excess_pieces None = []
+excess_pieces (Some o) = decimal o.row ∷ decimal o.count ∷ []
 
-excess_parted : (w : List ℕ) (e : Excess) → 0 < length w → Clear space w → pieces space (w ++ excess_words e) ≡ w ∷ excess_pieces e
+excess_parted : (w : List ℕ) (e : Option Excess) → 0 < length w → Clear space w → pieces space (w ++ excess_words e) ≡ w ∷ excess_pieces e
 unfolding excess_words excess_pieces
-excess_parted w Within h c = rw append-nil (one_piece space w h c)
-excess_parted w (Over r n) h c =
-    first_piece space w (decimal r ++ space ∷ decimal n) c
-    ∙ ap (λ ps. w ∷ ps) (first_piece space (decimal r) (decimal n) (clear_decimal space (omega arith) r) ∙ ap (λ ps. decimal r ∷ ps) (number_piece n))
+excess_parted w None h c = rw append-nil (one_piece space w h c)
+excess_parted w (Some o) h c =
+    first_piece space w (decimal o.row ++ space ∷ decimal o.count) c
+    ∙ ap (λ ps. w ∷ ps) (first_piece space (decimal o.row) (decimal o.count) (clear_decimal space (omega arith) o.row) ∙ ap (λ ps. decimal o.row ∷ ps) (number_piece o.count))
 
-excess_back : (e : Excess) → excess_said (excess_pieces e) ≡ e
+excess_back : (e : Option Excess) → excess_said (excess_pieces e) ≡ e
 unfolding excess_pieces excess_said
-excess_back Within = refl
-excess_back (Over r n) = ap₂ Over (decimal_says r) (decimal_says n)
+excess_back None = refl
+excess_back (Some o) = ap₂ (λ row count. Some (over row count)) (decimal_says o.row) (decimal_says o.count)
 
-clear_excess : (e : Excess) → Clear line_feed (excess_words e)
+clear_excess : (e : Option Excess) → Clear line_feed (excess_words e)
 unfolding excess_words
-clear_excess Within = tt
-clear_excess (Over r n) =
-    ((λ h. omega arith), clear_append line_feed (decimal r) (space ∷ decimal n) (clear_decimal line_feed (omega arith) r) ((λ h. omega arith), clear_decimal line_feed (omega arith) n))
+clear_excess None = tt
+clear_excess (Some o) =
+    ((λ h. omega arith), clear_append line_feed (decimal o.row) (space ∷ decimal o.count) (clear_decimal line_feed (omega arith) o.row) ((λ h. omega arith), clear_decimal line_feed (omega arith) o.count))
 
 -- ---- a line without its line feed
 abbrev numbered : List ℕ → ℕ → List ℕ

@@ -11,8 +11,8 @@ use Rattle.lists.specs.Lists.{listed}
 use Rattle.pmtl.specs.Book.{Book, properties}
 use Rattle.pmtl.specs.Calls.{Outcome}
 use Rattle.book.specs.declared.loading.Loading.{Loading}
+use Rattle.std.specs.Prelude.{Option, None}
 use Rattle.book.specs.declared.strict.Excess.{Excess}
-use Rattle.book.specs.declared.strict.Excess.TheVariants.{Within}
 use Rattle.ledger.specs.declared.Summary.{Summary}
 use Rattle.report.specs.Lines.{CallLine, Ending, end, stop, Line, book, called, summed, last, line_of, lines}
 use Rattle.summaries.specs.Recount.{recount}
@@ -90,7 +90,7 @@ final_is x (y ∷ xs) l = final_is y xs l
 -- ---- after a loaded book
 module _ (b : Book) (cs : List CallLine) where
   abbrev all_lines : Ending → List Line
-  all_lines e = book ACCEPTED Within ∷ map called cs ++ closing b cs e
+  all_lines e = book ACCEPTED None ∷ map called cs ++ closing b cs e
 
   calls_are : (e : Ending) → calls_among (all_lines e) ≡ cs
   unfolding calls_among closing
@@ -108,14 +108,14 @@ module _ (b : Book) (cs : List CallLine) where
   final : (e : Ending) → final_line (all_lines e) ≡ last e
   unfolding closing
   final end =
-      ap (λ ls. final_line (book ACCEPTED Within ∷ ls)) (sym (append_assoc (map called cs) (map summed (recounts b cs)) (last end ∷ [])))
-      ∙ final_is (book ACCEPTED Within) (map called cs ++ map summed (recounts b cs)) (last end)
-  final (stop n) = final_is (book ACCEPTED Within) (map called cs) (last (stop n))
+      ap (λ ls. final_line (book ACCEPTED None ∷ ls)) (sym (append_assoc (map called cs) (map summed (recounts b cs)) (last end ∷ [])))
+      ∙ final_is (book ACCEPTED None) (map called cs ++ map summed (recounts b cs)) (last end)
+  final (stop n) = final_is (book ACCEPTED None) (map called cs) (last (stop n))
 
 not_end : {n : ℕ} → last (stop n) ≡ last end → ⊥
 not_end h = let z : ◌≡◌ {A = ℕ} 0 1 = cc in omega arith
 
-book_not_end : {n : ℕ} {x : Excess} → book n x ≡ last end → ⊥
+book_not_end : {n : ℕ} {x : Option Excess} → book n x ≡ last end → ⊥
 book_not_end h = let z : ◌≡◌ {A = ℕ} 0 1 = cc in omega arith
 
 module _ (way : Loading) (input : List ℕ) where
@@ -132,7 +132,7 @@ module _ (way : Loading) (input : List ℕ) where
     where
       by_end : (w : Whole way input) (e : Ending) → end_said input ≡ e → summaries_among (lines way input) ≡ recounts b (calls_among (lines way input))
       by_end w end z =
-          let all = w.all ∙ ap (λ e. book ACCEPTED Within ∷ map called w.calls ++ closing b w.calls e) z in
+          let all = w.all ∙ ap (λ e. book ACCEPTED None ∷ map called w.calls ++ closing b w.calls e) z in
           ap summaries_among all ∙ summaries_are b w.calls ∙ ap (recounts b) (sym (calls_are b w.calls end) ∙ ap calls_among (sym all))
       by_end w (stop n) z = absurd (not_end (ap last (sym z) ∙ sym (final_said w) ∙ h))
 
@@ -147,7 +147,7 @@ module _ (way : Loading) (input : List ℕ) where
     where
       by_end : (w : Whole way input) (e : Ending) → end_said input ≡ e → summaries_among (lines way input) ≡ []
       by_end w end z = absurd (h (final_said w ∙ ap last z))
-      by_end w (stop n) z = ap summaries_among (w.all ∙ ap (λ e. book ACCEPTED Within ∷ map called w.calls ++ closing b w.calls e) z) ∙ none_stopped b w.calls n
+      by_end w (stop n) z = ap summaries_among (w.all ∙ ap (λ e. book ACCEPTED None ∷ map called w.calls ++ closing b w.calls e) z) ∙ none_stopped b w.calls n
 
       go : Shape way input → summaries_among (lines way input) ≡ []
       go (whole f w) = by_end w (end_said input) refl

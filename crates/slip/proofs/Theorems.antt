@@ -25,11 +25,11 @@ use Rattle.lasts.specs.Lasting.{history_in}
 use Rattle.lasts.proofs.EitherWay.{demand_2, demand_3, never_eleven as strict-never}
 use Rattle.pmtl.proofs.Fullest.{fullest_few}
 use Rattle.book.specs.declared.loading.Loading.{Loading}
+use Rattle.std.specs.Prelude.{Option, Some, None}
 use Rattle.book.specs.declared.strict.Excess.{Excess}
-use Rattle.book.specs.declared.strict.Excess.TheVariants.{Within, Over}
 use Rattle.book.specs.Reading.{Read, got, refused, Sections}
 use Rattle.book.specs.Judging.{Loaded, refused_with, loaded_from}
-use Rattle.book.specs.Strict.{strictly, excess_by, unless}
+use Rattle.book.specs.Strict.{over, strictly, excess_by, unless}
 use Rattle.book.specs.Loading.{way_in, flatly, admitted}
 use Rattle.book.proofs.Admitted.{nested_refused, fifteen_first, admitted_strict}
 use Rattle.property_answers.specs.Verdict.{verdict_in}
@@ -139,18 +139,18 @@ never_eleven way strict input i h e =
     (get_or (calls_said input) c.others missing_call) (sym (refusal_here way input c) ∙ e)
 
 -- the lines of a book, by the way of monitoring and by what strict loading refuses in it: nothing else of the way of loading counts
-lines_by_lem : Loaded → ℕ → List ℕ → Way → Excess → List Line
+lines_by_lem : Loaded → ℕ → List ℕ → Way → Option Excess → List Line
 lines_by_lem l ending ws way x =
     let a = flatly way (unless x l) in
     book a.number x ∷ cond (eqb a.number ACCEPTED) (call_lines way a.book ending ws) []
 
-loose_within : (way : Loading) → strictly way ≡ false → (r : Read Sections) → excess_of way r ≡ Within
+loose_within : (way : Loading) → strictly way ≡ false → (r : Read Sections) → excess_of way r ≡ None
 unfolding excess_of
 loose_within way loose (got s ws) = rw loose
 loose_within way loose (refused n) = refl
 
 -- where no row is refused, the report is that of loading which is not strict, for the same way of monitoring, byte for byte
-pub strict_as_loose : (way loose : Loading) → way_in way ≡ way_in loose → strictly loose ≡ false → (input : List ℕ) → excess_of way (sections_said input) ≡ Within → report way input ≡ report loose input
+pub strict_as_loose : (way loose : Loading) → way_in way ≡ way_in loose → strictly loose ≡ false → (input : List ℕ) → excess_of way (sections_said input) ≡ None → report way input ≡ report loose input
 unfolding report lines book_lines book_then excess_of lines_by_lem
 strict_as_loose way loose same not-strict input h =
     ap (λ ls. written (cond (ltb LONGEST_INPUT (length input)) (last (stop PAST_LIMIT) ∷ []) ls)) (same_lines (sections_said input) (h ∙ sym (loose_within loose not-strict (sections_said input))))
@@ -160,23 +160,23 @@ strict_as_loose way loose same not-strict input h =
     same_lines (refused n) z = refl
 
 -- a book that is refused has one line
-lone_line : (way : Loading) (l : Loaded) (ending : ℕ) (ws : List ℕ) {n : ℕ} {x : Excess} → admitted way l ≡ refused_with n → ¬ (n ≡ ACCEPTED) → excess_by way l.book.rows ≡ x → book_then way l ending ws ≡ book n x ∷ []
+lone_line : (way : Loading) (l : Loaded) (ending : ℕ) (ws : List ℕ) {n : ℕ} {x : Option Excess} → admitted way l ≡ refused_with n → ¬ (n ≡ ACCEPTED) → excess_by way l.book.rows ≡ x → book_then way l ending ws ≡ book n x ∷ []
 unfolding book_then
 lone_line way l ending ws {n} e z f = rw (e, ne_eqb n ACCEPTED z, f)
 
 -- where a row is refused, it is 15, the first row that can need more runs than a set may have, and how many it can need
-pub strict_refuses : (way : Loading) (input : List ℕ) {row count : ℕ} → length input ≤ LONGEST_INPUT → excess_of way (sections_said input) ≡ Over row count
-    → lines way input ≡ book COULD_RUN_OUT (Over row count) ∷ []
+pub strict_refuses : (way : Loading) (input : List ℕ) {row count : ℕ} → length input ≤ LONGEST_INPUT → excess_of way (sections_said input) ≡ Some (over row count)
+    → lines way input ≡ book COULD_RUN_OUT (Some (over row count)) ∷ []
 unfolding lines book_lines excess_of
 strict_refuses way input {row} {count} f h = rw (le-ltb LONGEST_INPUT (length input) f) (go (sections_said input) h)
   where
-    go : (r : Read Sections) → excess_of way r ≡ Over row count → book_lines way r (supply input).ending ≡ book COULD_RUN_OUT (Over row count) ∷ []
+    go : (r : Read Sections) → excess_of way r ≡ Some (over row count) → book_lines way r (supply input).ending ≡ book COULD_RUN_OUT (Some (over row count)) ∷ []
     go (got s ws) z = lone_line way (loaded_from s) (supply input).ending ws (fifteen_first way (loaded_from s) row count z) (λ q. omega arith) z
     go (refused n) z = absurd (let y : ◌≡◌ {A = ℕ} 0 1 = cc in omega arith)
 
 -- ---- THE LASTING WAY: where no row is refused, but a temporal row lies below another, it is 17
 pub nested_refuses : (way : Loading) → way_in way ≡ lasting → (input : List ℕ) {s : Sections} {ws : List ℕ} → length input ≤ LONGEST_INPUT → sections_said input ≡ got s ws
-    → excess_by way (loaded_from s).book.rows ≡ Within → flat (loaded_from s).book.rows ≡ false → lines way input ≡ book NESTED Within ∷ []
+    → excess_by way (loaded_from s).book.rows ≡ None → flat (loaded_from s).book.rows ≡ false → lines way input ≡ book NESTED None ∷ []
 unfolding lines book_lines
 nested_refuses way last-way input {s} {ws} f e h n =
     rw (le-ltb LONGEST_INPUT (length input) f, e)

@@ -9,6 +9,7 @@ use lib.ListN.{length, get_or, take, drop}
 use lib.Dec.{ltb}
 use borrow.Author.Tests.{lt-ltb, le-ltb}
 use lib.Seq.{split_at, length-take-le, take-append_seam, get_or-append_seam}
+use Rattle.std.specs.Prelude.{None}
 use Rattle.numbers.specs.Limits.{LONGEST_INPUT}
 use Rattle.numbers.specs.Refusals.{ACCEPTED}
 use Rattle.text.specs.Words.{supply}
@@ -21,7 +22,6 @@ use Rattle.pmtl.specs.Calls.{Call, Outcome, call, after_in}
 use Rattle.pmtl.proofs.Theorems.{refused_changes_nothing}
 use Rattle.book.specs.Reading.{Read, got, refused, Sections}
 use Rattle.book.specs.declared.loading.Loading.{Loading}
-use Rattle.book.specs.declared.strict.Excess.TheVariants.{Within}
 use Rattle.book.specs.Loading.{way_in, admitted}
 use Rattle.book.specs.Judging.{Loaded, loaded_from}
 use Rattle.ledger.specs.declared.Summary.{Summary}
@@ -99,24 +99,24 @@ map_listed f g (suc n) = map-append f (listed g n) (g n ∷ []) ∙ ap (λ xs. x
 
 -- a report's lines, by those of its calls
 abbrev reported : Book → List CallLine → Ending → List Line
-reported b cs e = book ACCEPTED Within ∷ map called cs ++ closing b cs e
+reported b cs e = book ACCEPTED None ∷ map called cs ++ closing b cs e
 
 -- without one line of a call
 without_call : (olds : List CallLine) (l : CallLine) (news : List CallLine) (after : List Line)
-    → without (suc (length olds)) (book ACCEPTED Within ∷ map called (olds ++ l ∷ news) ++ after)
-    ≡ book ACCEPTED Within ∷ map called (map (renumbered_line (lower_from (suc (length olds)))) (olds ++ news)) ++ map (lowered (suc (length olds))) after
+    → without (suc (length olds)) (book ACCEPTED None ∷ map called (olds ++ l ∷ news) ++ after)
+    ≡ book ACCEPTED None ∷ map called (map (renumbered_line (lower_from (suc (length olds)))) (olds ++ news)) ++ map (lowered (suc (length olds))) after
 unfolding without
 without_call olds l news after =
     let i = suc (length olds) in
-    let head : List Line = book ACCEPTED Within ∷ map called olds in
+    let head : List Line = book ACCEPTED None ∷ map called olds in
     let rest : List Line = map called news ++ after in
-    let parts : book ACCEPTED Within ∷ map called (olds ++ l ∷ news) ++ after ≡ head ++ called l ∷ rest =
-    ap (λ ls. book ACCEPTED Within ∷ ls ++ after) (map-append called olds (l ∷ news)) ∙ append_assoc head (called l ∷ map called news) after in
+    let parts : book ACCEPTED None ∷ map called (olds ++ l ∷ news) ++ after ≡ head ++ called l ∷ rest =
+    ap (λ ls. book ACCEPTED None ∷ ls ++ after) (map-append called olds (l ∷ news)) ∙ append_assoc head (called l ∷ map called news) after in
     let place : suc (length olds) ≡ length head = ap suc (sym (called_length olds)) in
     ap₂ (λ n ls. map (lowered i) (take n ls ++ drop (suc n) ls)) place parts
-    ∙ ap (map (lowered i)) (cut_at head (called l) rest ∙ sym (append_assoc head (map called news) after) ∙ ap (λ ls. book ACCEPTED Within ∷ ls ++ after) (sym (map-append called olds news)))
-    ∙ map-append (lowered i) (book ACCEPTED Within ∷ map called (olds ++ news)) after
-    ∙ ap (λ ls. book ACCEPTED Within ∷ ls ++ map (lowered i) after) (called_lowered i (olds ++ news))
+    ∙ ap (map (lowered i)) (cut_at head (called l) rest ∙ sym (append_assoc head (map called news) after) ∙ ap (λ ls. book ACCEPTED None ∷ ls ++ after) (sym (map-append called olds news)))
+    ∙ map-append (lowered i) (book ACCEPTED None ∷ map called (olds ++ news)) after
+    ∙ ap (λ ls. book ACCEPTED None ∷ ls ++ map (lowered i) after) (called_lowered i (olds ++ news))
 
 -- ---- the lines of calls, one of which leaves the state as it was
 module _ (w : Way) (b : Book) (before : List Call) (k : Call) (later : List Call)
@@ -162,13 +162,13 @@ module _ (w : Way) (b : Book) (before : List Call) (k : Call) (later : List Call
 
   -- without its line, all but what follows the lines of calls
   cut : (e : Ending) → without (suc there) (reported b (lines_of b 0 (initial_in w b.rows) (before ++ k ∷ later)) e)
-      ≡ book ACCEPTED Within ∷ map called (lines_of b 0 (initial_in w b.rows) (before ++ later)) ++ map (lowered (suc there)) (closing b with_its e)
+      ≡ book ACCEPTED None ∷ map called (lines_of b 0 (initial_in w b.rows) (before ++ later)) ++ map (lowered (suc there)) (closing b with_its e)
   cut e =
       ap (λ cs. without (suc there) (reported b cs e)) with_lines
       ∙ ap (λ n. without (suc n) (reported b with_its e)) (sym olds_length)
       ∙ without_call olds its news (closing b with_its e)
-      ∙ ap (λ n. book ACCEPTED Within ∷ map called (map (renumbered_line (lower_from (suc n))) (olds ++ news)) ++ map (lowered (suc n)) (closing b with_its e)) olds_length
-      ∙ ap (λ cs. book ACCEPTED Within ∷ map called cs ++ map (lowered (suc there)) (closing b with_its e)) (sym without_lines)
+      ∙ ap (λ n. book ACCEPTED None ∷ map called (map (renumbered_line (lower_from (suc n))) (olds ++ news)) ++ map (lowered (suc n)) (closing b with_its e)) olds_length
+      ∙ ap (λ cs. book ACCEPTED None ∷ map called cs ++ map (lowered (suc there)) (closing b with_its e)) (sym without_lines)
 
   -- that follows, too, where the call is refused: of a summary only the numbers of calls fall
   closing_cut : ¬ ((call b.rows state k).number ≡ ACCEPTED) → (e : Ending) → map (lowered (suc there)) (closing b with_its e) ≡ closing b (lines_of b 0 (initial_in w b.rows) (before ++ later)) e
@@ -207,9 +207,9 @@ unsummed_lowered i b cs end =
     ap unsummed (map-append (lowered i) (map summed (recounts b cs)) (last end ∷ []) ∙ ap (λ ls. ls ++ last end ∷ []) (summed_lowered i (recounts b cs))) ∙ unsummed_last (map (renumbered (lower_from i)) (recounts b cs)) end
 unsummed_lowered i b cs (stop n) = unsummed_last [] (stop n)
 
-unsummed_whole : (cs : List CallLine) (after : List Line) {e : Ending} → unsummed after ≡ last e ∷ [] → unsummed (book ACCEPTED Within ∷ map called cs ++ after) ≡ book ACCEPTED Within ∷ map called cs ++ last e ∷ []
+unsummed_whole : (cs : List CallLine) (after : List Line) {e : Ending} → unsummed after ≡ last e ∷ [] → unsummed (book ACCEPTED None ∷ map called cs ++ after) ≡ book ACCEPTED None ∷ map called cs ++ last e ∷ []
 unfolding unsummed
-unsummed_whole cs after {e} h = ap (λ ls. book ACCEPTED Within ∷ ls) (unsummed_called cs after ∙ ap (λ ls. map called cs ++ ls) h)
+unsummed_whole cs after {e} h = ap (λ ls. book ACCEPTED None ∷ ls) (unsummed_called cs after ∙ ap (λ ls. map called cs ++ ls) h)
 
 -- ---- the calls of the text, and of the text without one
 module _ (way : Loading) {input : List ℕ} {i : ℕ} (c : CallAt input i) where
@@ -276,7 +276,7 @@ module _ (way : Loading) {input : List ℕ} {i : ℕ} (c : CallAt input i) where
       abbrev line_lowered : List Line
       line_lowered = map (lowered (suc (length c.before))) (closing loaded (with_its (way_in way) loaded c.before c.itself later.calls stays) later.ends)
 
-      line_cut : without i (lines way input) ≡ book ACCEPTED Within ∷ map called left ++ line_lowered
+      line_cut : without i (lines way input) ≡ book ACCEPTED None ∷ map called left ++ line_lowered
       line_cut = ap₂ without c.place lines_are ∙ cut (way_in way) loaded c.before c.itself later.calls stays later.ends
 
       -- all but the summaries
@@ -291,7 +291,7 @@ module _ (way : Loading) {input : List ℕ} {i : ℕ} (c : CallAt input i) where
       all_cut : ¬ (outcome.number ≡ ACCEPTED) → {other : List ℕ} → TakenOut c other → lines way other ≡ without i (lines way input)
       all_cut n t =
           others_are t
-          ∙ ap (λ ls. book ACCEPTED Within ∷ map called left ++ ls) (sym (closing_cut (way_in way) loaded c.before c.itself later.calls stays n later.ends))
+          ∙ ap (λ ls. book ACCEPTED None ∷ map called left ++ ls) (sym (closing_cut (way_in way) loaded c.before c.itself later.calls stays n later.ends))
           ∙ sym line_cut
 
   pub no_trace : {l : CallLine} → get_or (lines way input) i no_line ≡ called l → ¬ (l.refusal ≡ ACCEPTED) → {other : List ℕ} → TakenOut c other → lines way other ≡ without i (lines way input)

@@ -1,9 +1,9 @@
 -- Reading a report back: the lines that bytes say, and the lines that a report can have. Definitions only.
-use Rattle.std.specs.Prelude.{ℕ, ◌-◌, ◌≡◌, Bool, true, false, cond, List, [], ◌∷◌, map, length, get_or, eqb}
+use Rattle.std.specs.Prelude.{ℕ, ◌-◌, ◌≡◌, Bool, true, false, cond, List, [], ◌∷◌, map, length, get_or, eqb, Option, Some, None}
 use Rattle.numbers.specs.Refusals.{ACCEPTED}
 use Rattle.text.specs.Words.{space, line_feed, digit0, said}
+use Rattle.book.specs.Strict.{over}
 use Rattle.book.specs.declared.strict.Excess.{Excess}
-use Rattle.book.specs.declared.strict.Excess.TheVariants.{Within, Over}
 use Rattle.ledger.specs.declared.Summary.{Summary}
 use Rattle.report.specs.Lines.{PropertyWord, Rest, nothing, told, end, stop, Line, book, called, summed, last}
 use Rattle.report.specs.Report.{book_word, stop_word}
@@ -37,10 +37,10 @@ rest_in (w ∷ []) = told [] (said 0 w)
 rest_in (w ∷ v ∷ ws) = word_then (word_in w) (rest_in (v ∷ ws))
 
 -- what strict loading refuses, of the words after a book's number: there is none, or a row and how many runs it can need
-unfoldable pub excess_said : List (List ℕ) → Excess
-excess_said [] = Within
-excess_said (r ∷ []) = Within
-excess_said (r ∷ n ∷ ws) = Over (said 0 r) (said 0 n)
+unfoldable pub excess_said : List (List ℕ) → Option Excess
+excess_said [] = None
+excess_said (r ∷ []) = None
+excess_said (r ∷ n ∷ ws) = Some (over (said 0 r) (said 0 n))
 
 -- a word among others, and the number that it says
 abbrev pub word_at : List (List ℕ) → ℕ → List ℕ

@@ -1,5 +1,5 @@
 -- What a text says, and what the lines of a report say. Definitions only.
-use Rattle.std.specs.Prelude.{ℕ, suc, ◌-◌, ◌≤◌, ◌<◌, ◌≡◌, List, [], ◌∷◌, ◌++◌, map, reverse, length, get_or, take}
+use Rattle.std.specs.Prelude.{ℕ, suc, ◌-◌, ◌≤◌, ◌<◌, ◌≡◌, List, [], ◌∷◌, ◌++◌, map, reverse, length, get_or, take, Option, None}
 use Rattle.numbers.specs.Limits.{LONGEST_INPUT}
 use Rattle.numbers.specs.Refusals.{ACCEPTED, PAST_LIMIT}
 use Rattle.text.specs.Words.{supply}
@@ -9,7 +9,6 @@ use Rattle.pmtl.specs.Calls.Call.{time}
 use Rattle.book.specs.Reading.{Read, got, refused, Sections, sections}
 use Rattle.book.specs.declared.loading.Loading.{Loading}
 use Rattle.book.specs.declared.strict.Excess.{Excess}
-use Rattle.book.specs.declared.strict.Excess.TheVariants.{Within}
 use Rattle.book.specs.Strict.{excess_by}
 use Rattle.book.specs.Loading.{way_in, admitted}
 use Rattle.book.specs.Judging.{Loaded, refused_with, loaded_from}
@@ -32,9 +31,9 @@ abbrev pub book_said : Loading → List ℕ → Book
 book_said way input = (loaded_of way (sections_said input)).book
 
 -- what this way of loading refuses in a book that is in order
-unfoldable pub excess_of : Loading → Read Sections → Excess
+unfoldable pub excess_of : Loading → Read Sections → Option Excess
 excess_of way (got s ws) = excess_by way (loaded_from s).book.rows
-excess_of way (refused n) = Within
+excess_of way (refused n) = None
 
 -- the words after the book; none where it could not be read
 unfoldable pub words_after : Read Sections → List ℕ
@@ -119,7 +118,7 @@ closing b calls (stop n) = last (stop n) ∷ []
 pub record Whole (way : Loading) (input : List ℕ) : Type 0 where
   pub calls : List CallLine
   pub loads : (loaded_of way (sections_said input)).number ≡ ACCEPTED
-  pub all : lines way input ≡ book ACCEPTED Within ∷ map called calls ++ closing (book_said way input) calls (end_said input)
+  pub all : lines way input ≡ book ACCEPTED None ∷ map called calls ++ closing (book_said way input) calls (end_said input)
   pub each : length calls ≡ length (calls_said input)
   pub numbered : (i : ℕ) → i < length calls → (get_or calls i no_call_line).number ≡ suc i
   pub in_order : (i : ℕ) → i < length calls → get_or calls i no_call_line

@@ -4,34 +4,33 @@
 
 ghost use Rattle.memory.specs.Kept.{Kept};
 
-use oracle::{SIZE, Summary};
+use numbers::MAX;
+use oracle::{Refusal, SIZE, Summary};
 
 // Both properties, and one more.
 const ASKED: usize = 3;
 
 fn show_summary(rt: &(impl Print + Eprint), s: Summary) {
-    show::text(rt, b" |");
-    show_field(rt, s.accepted);
-    show_field(rt, s.failed);
-    show_field(rt, s.first);
-    show_field(rt, s.last);
-    show_field(rt, s.longest);
-    show_field(rt, s.settled);
+    let Summary {
+        accepted,
+        failed,
+        first,
+        last,
+        longest,
+        settled,
+    } = s;
+    show::value(
+        rt,
+        format_args!(" | {accepted} {failed} {first} {last} {longest} {settled}"),
+    );
 }
 
-fn show_field(rt: &(impl Print + Eprint), n: u64) {
-    show::text(rt, b" ");
-    show::number(rt, n);
-}
-
-fn show_all(rt: &(impl Print + Eprint), number: u64, monitor: &[u64; SIZE])
+fn show_all(rt: &(impl Print + Eprint), outcome: Result<(), Refusal>, monitor: &[u64; SIZE])
     requires { Kept monitor.now }
 {
-    show::number(rt, number);
-    let mut i = 0;
-    while i < ASKED {
+    show::number(rt, oracle::refused_with(outcome));
+    for i in 0..ASKED {
         show_summary(rt, oracle::summary_of(monitor, i));
-        i += 1;
     }
     show::text(rt, b"\n");
 }
@@ -41,44 +40,23 @@ fn time(rt: &(impl Print + Eprint), monitor: &mut [u64; SIZE], t: u64)
     ensures { Kept monitor.new }
 {
     let made = oracle::update_time(monitor, t);
-    show_all(rt, made.number, monitor);
+    show_all(rt, made.outcome, monitor);
 }
 
 fn state(rt: &(impl Print + Eprint), monitor: &mut [u64; SIZE], first: u8, second: u8)
     requires { Kept monitor.old }
     ensures { Kept monitor.new }
 {
-    let bytes = [first, second];
-    let made = oracle::update_state(monitor, &bytes);
-    show_all(rt, made.number, monitor);
+    let made = oracle::update_state(monitor, &[first, second]);
+    show_all(rt, made.outcome, monitor);
 }
 
 // False twice in a row, with a refused call between, then true, and false again to the end; the other settles at the sixth call.
 fn main(rt: HostRuntime) {
-    let book = [
-        3u64,
-        2,
-        0,
-        0,
-        0,
-        2,
-        1,
-        0,
-        0,
-        7,
-        1,
-        0,
-        0xffff_ffff_ffff_ffff,
-        1,
-        1,
-        1,
-        0,
-        1,
-        2,
-    ];
+    let book = [3u64, 2, 0, 0, 0, 2, 1, 0, 0, 7, 1, 0, MAX, 1, 1, 1, 0, 1, 2];
     let mut monitor = [0u64; SIZE];
-    let number = oracle::load(&book, &mut monitor);
-    show_all(&rt, number, &monitor);
+    let loaded = oracle::load(&book, &mut monitor);
+    show_all(&rt, loaded, &monitor);
     state(&rt, &mut monitor, 1, 1);
     state(&rt, &mut monitor, 0, 1);
     state(&rt, &mut monitor, 0, 2);

@@ -7,6 +7,8 @@ use mathlib.Core.Logic.{⊎_elim}
 use mathlib.Core.List.{List, []}
 use lib.ListN.{length, get_or}
 use borrow.Author.Tests.{le-leb, lt-leb}
+use Rattle.std.proofs.Common.{rules}
+use Rattle.std.specs.Ordering.{ord_max, nat_cmp}
 use Rattle.numset.specs.Runs.{Runs}
 use Rattle.ring.specs.Ring.{ringed}
 use Rattle.lists.specs.Lists.{listed}
@@ -22,6 +24,10 @@ use Rattle.memory.proofs.Same.{set_owned}
 unfoldable pub most_to : List ℕ → ℕ → ℕ
 most_to m zero = 0
 most_to m (suc j) = max (most_to m j) (length (ringed (slot_words m j)))
+
+-- the library's greater of two is that of the definition
+pub max_is : (a b : ℕ) → ord_max nat_cmp a b ≡ max a b
+max_is a b = search rules
 
 pub most_none : (m : List ℕ) → most_to m 0 ≡ 0
 unfolding most_to

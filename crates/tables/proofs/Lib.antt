@@ -4,3 +4,4 @@ pub mod Reach
 pub mod Sets
 pub mod Fullest
 pub mod Until
+pub mod Asks

@@ -3,12 +3,13 @@ use Prim.Native.Nat.{ℕ, zero, suc, ◌+◌, min, max, ◌≤◌, ◌<◌}
 use native.Mathlib.Numerals.{add-one}
 use native.Mathlib.Omega.{arith}
 use mathlib.Core.Path.{◌≡◌, refl, sym, ap, ap₂, ◌∙◌}
-use mathlib.Core.Bool.{Bool, true, false, cond, ◌&&◌}
+use mathlib.Core.Bool.{Bool, true, false, cond}
 use mathlib.Core.Logic.{⊎_elim}
 use mathlib.Core.List.{List}
+use mir.Val.{bool_byte}
 use lib.ListN.{length, get_or, set, length-set}
 use lib.Seq.{set-get_or, get_or-set_same, get_or-set_other}
-use lib.Dec.{eqb, leb, ltb}
+use lib.Dec.{eqb}
 use borrow.Author.Tests.{eqb-true, eq-eqb, ne_eqb}
 use Rattle.lists.specs.Lists.{filled_from}
 use Rattle.lists.proofs.Tests.{either}
@@ -33,8 +34,15 @@ use Rattle.memory.proofs.Ledger.{ledger_on, ledger_filled}
 use Rattle.memory.proofs.Alike.{alike_on, alike_filled, alike_sound, alike_rows, alike_state, alike_set}
 use Rattle.row_answers.specs.Told.{early_told}
 use Rattle.row_answers.proofs.Told.{told_early, told_settled, early_same, settled_same, alike_told}
-use Rattle.tables.specs.Puts.{bit_in, moves_put, word_in, lowest_put, values_put, standing_at, told_put, count_put, news_from, news_end, early_digit, early_put, settled_now, settled_digit, settled_put, reaches, early_asked, early_renewed}
+use Rattle.std.specs.Prelude.{None, Some}
+use Rattle.tables.specs.declared.News.{News}
+use Rattle.tables.specs.Puts.{bit_in, moves_put, word_in, lowest_put, values_put, standing_at, told_put, count_put, news_from, news_end, news_told, early_digit, early_put, settled_now, settled_digit, settled_put}
 use Rattle.tables.proofs.Fullest.{most_to, most_none, most_more, most_is_fullest}
+
+-- a truth value as a word
+pub byte_bit : (b : Bool) → bool_byte b ≡ bit_of b
+byte_bit true = refl
+byte_bit false = refl
 
 abbrev pub move_word : List ℕ → ℕ → ℕ
 move_word m r = bit_of (moves (rows_of m) r)
@@ -155,8 +163,8 @@ module _ {m : List ℕ} (sound : Sound m) where
     pub moves_count : row_count m' ≡ row_count m
     moves_count = moves_alike.below 0 (omega arith)
 
-    pub moves_more : n < row_count m → {v : Bool} → v ≡ move_rule (map_row (bit_in m' MOVES) (row_of m' n)) → {d w : ℕ} → d ≡ bit_of v → w ≡ d → set m' (MOVES + n) w ≡ filled_from MOVES (move_word m) m (n + 1)
-    moves_more h ev ed ew =
+    pub moves_more : n < row_count m → {v : Bool} → v ≡ move_rule (map_row (bit_in m' MOVES) (row_of m' n)) → {w : ℕ} → w ≡ bool_byte v → set m' (MOVES + n) w ≡ filled_from MOVES (move_word m) m (n + 1)
+    moves_more h {v} ev ew =
         let few = few_rows sound in
         let long = sound.book.long in
         let h' : n < row_count m' = rw moves_count h in
@@ -165,7 +173,7 @@ module _ {m : List ℕ} (sound : Sound m) where
         let bits : (o : ℕ) → o < n → bit_in m' MOVES o ≡ moves (rows_of m) o =
         λ o l. ap (λ (x : List ℕ). bit_in x MOVES o) e ∙ ap is_one (filled_from_at MOVES (move_word m) m 0 n o l (omega arith)) ∙ bit_back (moves (rows_of m) o) in
         filled_from_more MOVES (move_word m) m e
-        (ew ∙ ed ∙ ap bit_of (ev ∙ ap (λ (x : Row ℕ). move_rule (map_row (bit_in m' MOVES) x)) row ∙ ap move_rule (map_row_local n (bit_in m' MOVES) (moves (rows_of m)) bits (row_of m n) low)
+        (ew ∙ byte_bit v ∙ ap bit_of (ev ∙ ap (λ (x : Row ℕ). move_rule (map_row (bit_in m' MOVES) x)) row ∙ ap move_rule (map_row_local n (bit_in m' MOVES) (moves (rows_of m)) bits (row_of m n) low)
         ∙ sym (answer_in (rows_of m) false (λ r x. move_rule x) (kept_ordered sound.book) n (rw rows_length h) ∙ ap (λ (x : Row ℕ). move_rule (map_row (moves (rows_of m)) x)) (row_at_lem m n h))))
 
   pub moves_put_alike : Alike m (moves_put m)
@@ -248,11 +256,11 @@ module _ {m : List ℕ} (sound : Sound m) where
   pub values_count : (n : ℕ) {m' : List ℕ} → m' ≡ filled_from VALUES value_word m n → row_count m' ≡ row_count m
   values_count n e = rw e (filled_from_before VALUES value_word m 0 n 0 (omega arith))
 
-  pub values_more : (n : ℕ) {m' : List ℕ} → m' ≡ filled_from VALUES value_word m n → {v : Bool} → v ≡ value_of m' n → {d w : ℕ} → d ≡ bit_of v → w ≡ d
+  pub values_more : (n : ℕ) {m' : List ℕ} → m' ≡ filled_from VALUES value_word m n → {v : Bool} → v ≡ value_of m' n → {w : ℕ} → w ≡ bool_byte v
       → set m' (VALUES + n) w ≡ filled_from VALUES value_word m (n + 1)
-  values_more n {m'} e ev ed ew =
+  values_more n {m'} e {v} ev ew =
       filled_from_more VALUES value_word m e
-      (ew ∙ ed ∙ ap bit_of (ev ∙ ap (λ (x : List ℕ). value_of x n) e ∙ answer_same sound (alike_filled m VALUES value_word n (omega arith)) value n))
+      (ew ∙ byte_bit v ∙ ap bit_of (ev ∙ ap (λ (x : List ℕ). value_of x n) e ∙ answer_same sound (alike_filled m VALUES value_word n (omega arith)) value n))
 
   -- and what they then say
   pub values_alike : Alike m (values_put m)
@@ -306,6 +314,26 @@ told_still m (suc j) e =
     (λ (t : eqb (told_at m j) (standing_at m j) ≡ false). absurd (let z : owner_at m j + 1 ≡ 0 = rw t at e in omega arith))
     (either (eqb (told_at m j) (standing_at m j)))
 
+-- between which rows something new is told, or that it is nowhere
+pub news_some : (m : List ℕ) (n : ℕ) {news : News} → Some news ≡ news_told m n → (news.first ≡ news_from m n) × (news.end ≡ news_end m n)
+unfolding news_told
+news_some m n {news} e =
+    ⊎_elim
+    (λ (z : eqb (news_end m n) 0 ≡ true). let none : Some news ≡ None = e ∙ rw z in absurd (cc))
+    (λ (z : eqb (news_end m n) 0 ≡ false).
+    let is : Some news ≡ Some (record { first = news_from m n; end = news_end m n }) = e ∙ rw z in
+    let same : news ≡ record { first = news_from m n; end = news_end m n } = cc in
+    (ap (λ (w : News). w.first) same, ap (λ (w : News). w.end) same))
+    (either (eqb (news_end m n) 0))
+
+pub news_none : (m : List ℕ) (n : ℕ) → None ≡ news_told m n → news_end m n ≡ 0
+unfolding news_told
+news_none m n e =
+    ⊎_elim
+    (λ (z : eqb (news_end m n) 0 ≡ true). eqb-true _ _ z)
+    (λ (z : eqb (news_end m n) 0 ≡ false). let is : None ≡ Some (record { first = news_from m n; end = news_end m n }) = e ∙ rw z in absurd (cc))
+    (either (eqb (news_end m n) 0))
+
 module _ {m : List ℕ} (sound : Sound m) where
   module _ {n : ℕ} {m' : List ℕ} {first end most : ℕ} (t : Telling m n m' first end most) where
     alike : Alike m m'
@@ -323,8 +351,8 @@ module _ {m : List ℕ} (sound : Sound m) where
         omega arith
 
     -- what is so of one more set, and how many runs it has
-    module _ (h : n < temporals m) {words again : List ℕ} {clock old new most' : ℕ} (ec : clock ≡ clock_of m) (ew : words ≡ slot_words m' n) (en : new ≡ standing clock (ringed words))
-        (ea : again ≡ slot_words m' n) (em : most' ≡ max most (length (ringed again))) (eo : old ≡ told_at m' n)
+    module _ (h : n < temporals m) {words : List ℕ} {clock old new most' : ℕ} (ec : clock ≡ clock_of m) (ew : words ≡ slot_words m' n) (en : new ≡ standing clock (ringed words))
+        (em : most' ≡ max most (length (ringed words))) (eo : old ≡ told_at m' n)
       where
         small : n < 32
         small = let f = few_sets sound in omega arith
@@ -336,7 +364,7 @@ module _ {m : List ℕ} (sound : Sound m) where
         is = en ∙ ap₂ (λ (c : ℕ) (ws : List ℕ). standing c (ringed ws)) ec (ew ∙ alike_set sound alike n small)
 
         count_is : most' ≡ most_to m (n + 1)
-        count_is = em ∙ ap₂ (λ (a : ℕ) (ws : List ℕ). max a (length (ringed ws))) t.counted (ea ∙ alike_set sound alike n small) ∙ sym (most_more m n)
+        count_is = em ∙ ap₂ (λ (a : ℕ) (ws : List ℕ). max a (length (ringed ws))) t.counted (ew ∙ alike_set sound alike n small) ∙ sym (most_more m n)
 
         -- it was told so before
         pub telling_same : old ≡ new → Telling m (n + 1) m' first end most'
@@ -364,6 +392,17 @@ module _ {m : List ℕ} (sound : Sound m) where
             }
 
     -- once all are told
+    pub telling_news : n ≡ temporals m → end ≡ 0 → None ≡ news_told m (temporals m)
+    unfolding news_told
+    telling_news e z = let none : news_end m (temporals m) ≡ 0 = ap (news_end m) (sym e) ∙ sym t.up_to ∙ z in sym (rw (eq-eqb _ _ none))
+
+    pub telling_some : n ≡ temporals m → (end ≡ 0 → ⊥) → Some (record { first = first; end = end }) ≡ news_told m (temporals m)
+    unfolding news_told
+    telling_some e z =
+        let from : first ≡ news_from m (temporals m) = t.from ∙ ap (news_from m) e in
+        let up : end ≡ news_end m (temporals m) = t.up_to ∙ ap (news_end m) e in
+        ap₂ (λ (a b : ℕ). Some (record { first = a; end = b })) from up ∙ sym (rw (ne_eqb (news_end m (temporals m)) 0 (λ q. z (up ∙ q))))
+
     pub telling_counted : n ≡ temporals m → set m' FULLEST most ≡ count_put (told_put m)
     telling_counted e =
         let put : m' ≡ told_put m = t.put ∙ ap (filled_from TOLD (standing_at m) m) e in
@@ -464,60 +503,6 @@ module _ {m : List ℕ} (sound : Sound m) (a : ℕ) (f : ℕ → ℕ) (n : ℕ) 
 
   pub digits_lowest : a ≤ SETTLED → n < 33 → (r : ℕ) → lowest_at (filled_from a f m n) r ≡ lowest_at m r
   digits_lowest near few r = filled_from_after a f m 0 n (LOWEST + r) (omega arith)
-
--- as a loop puts them: with any answer that tables leave as it is, of the properties that are reached
-module _ {m : List ℕ} (sound : Sound m) (a : ℕ) (far : EARLY ≤ a) (near : a ≤ SETTLED) (ask : List ℕ → ℕ → Answer)
-    (stays : (f : ℕ → ℕ) (n r : ℕ) → ask (filled_from a f m n) r ≡ ask m r) (first end : ℕ)
-  where
-    abbrev digit_word_lem : ℕ → ℕ
-    digit_word_lem i = cond (reaches m first end i) (digit_of (ask m (property_row m i))) (get_or m (a + i) 0)
-
-    module _ (n : ℕ) {m' : List ℕ} (e : m' ≡ filled_from a digit_word_lem m n) where
-      pub digits_sound : Sound m'
-      digits_sound = rw e (alike_sound sound (digits_alike sound a digit_word_lem n far))
-
-      module _ (h : n < property_count m) {row : ℕ} (er : row ≡ property_row m' n) where
-        few_here : n < 32
-        few_here = let f = few_properties sound in omega arith
-
-        row_is : row ≡ property_row m n
-        row_is = er ∙ ap (λ (l : List ℕ). property_row l n) e ∙ digits_row sound a digit_word_lem n far n few_here
-
-        pub digits_inside : row < row_count m'
-        digits_inside = rw (row_is, e, same_rows sound (digits_alike sound a digit_word_lem n far)) (sound.book.properties n h)
-
-        pub digits_few : row < 128
-        digits_few = let l = digits_inside in let f = few_rows digits_sound in omega arith
-
-        module _ {b : Bool} (eb : b ≡ (leb first row && ltb (lowest_at m' row) end)) where
-          reach_is : b ≡ reaches m first end n
-          reach_is =
-              eb ∙ ap₂ (λ (x : List ℕ) (r : ℕ). leb first r && ltb (lowest_at x r) end) e row_is
-              ∙ ap (λ (low : ℕ). leb first (property_row m n) && ltb low end) (digits_lowest sound a digit_word_lem n far near (omega (arith, few_here)) (property_row m n))
-
-          -- one more is asked
-          pub digits_more : b ≡ true → {x : Answer} → x ≡ ask m' row → {d w : ℕ} → d ≡ digit_of x → w ≡ d → set m' (a + n) w ≡ filled_from a digit_word_lem m (n + 1)
-          digits_more yes-it-is ex ed ew =
-              filled_from_more a digit_word_lem m e
-              (ew ∙ ed ∙ ap digit_of (ex ∙ ap₂ ask e row_is ∙ stays digit_word_lem n (property_row m n))
-              ∙ ap (λ (c : Bool). cond c (digit_of (ask m (property_row m n))) (get_or m (a + n) 0)) (sym yes-it-is ∙ reach_is))
-
-          -- one more keeps its digit
-          pub digits_kept : b ≡ false → m' ≡ filled_from a digit_word_lem m (n + 1)
-          digits_kept no-it-is =
-              sym (set-get_or m' (a + n) 0)
-              ∙ filled_from_more a digit_word_lem m e
-              (ap (λ (x : List ℕ). get_or x (a + n) 0) e ∙ filled_from_after a digit_word_lem m 0 n (a + n) (omega arith)
-              ∙ ap (λ (c : Bool). cond c (digit_of (ask m (property_row m n))) (get_or m (a + n) 0)) (sym no-it-is ∙ reach_is))
-
-pub early_stays : {m : List ℕ} → Sound m → (f : ℕ → ℕ) (n r : ℕ) → early_told (filled_from EARLY f m n) r ≡ early_told m r
-early_stays sound f n = digits_early sound EARLY f n (omega arith)
-
-pub settled_stays : {m : List ℕ} → Sound m → (f : ℕ → ℕ) (n r : ℕ) → settled_now (filled_from SETTLED f m n) r ≡ settled_now m r
-settled_stays sound f n = digits_settled sound SETTLED f n (omega arith)
-
-pub early_sound : {m : List ℕ} → Sound m → (first end : ℕ) → Sound (early_renewed m first end)
-early_sound {m} sound first end = alike_sound sound (digits_alike sound EARLY (early_asked m first end) (property_count m) (omega arith))
 
 -- ---- the tables are right once the digits are put where values and what was told are
 module _ {m : List ℕ} (sound : Sound m) (valued : Valued m) (told : Told m) (moving : Moving m) (founded : Founded m) (counts : Counts m) (unused : Unused m) where

@@ -50,7 +50,7 @@ news_between {m} kept (suc n) few j h new =
     (lt_or_ge j n)
 
 -- ---- digits that are right need not be asked for
-same_filled : (a : ℕ) (f g : ℕ → ℕ) (xs : List ℕ) (n : ℕ) → ((i : ℕ) → i < n → f i ≡ g i) → filled_from a f xs n ≡ filled_from a g xs n
+pub same_filled : (a : ℕ) (f g : ℕ → ℕ) (xs : List ℕ) (n : ℕ) → ((i : ℕ) → i < n → f i ≡ g i) → filled_from a f xs n ≡ filled_from a g xs n
 same_filled a f g xs zero e = refl
 same_filled a f g xs (suc n) e = ap₂ (λ (l : List ℕ) (x : ℕ). set l (a + n) x) (same_filled a f g xs n (λ i h. e i (omega arith))) (e n (omega arith))
 

@@ -1,5 +1,5 @@
 -- A memory with one of its tables worked out anew from the words before the tables, and the digits by what was told. Definitions only.
-use Rattle.std.specs.Prelude.{ℕ, zero, suc, ◌+◌, min, Bool, cond, ◌&&◌, List, get_or, set, eqb, leb, ltb}
+use Rattle.std.specs.Prelude.{Option, None, Some, ℕ, zero, suc, ◌+◌, min, Bool, cond, ◌&&◌, List, get_or, set, eqb, leb, ltb}
 use Rattle.numbers.specs.Limits.{MOST_ROWS}
 use Rattle.lists.specs.Lists.{filled_from}
 use Rattle.numset.specs.Runs.{Runs}
@@ -12,6 +12,7 @@ use Rattle.memory.specs.Memory.{row_count, begun_word, clock_of, temporals, rang
 use Rattle.pmtl.specs.Monitor.{fullest}
 use Rattle.pmtl.specs.Book.{moves, lowest}
 use Rattle.pmtl.specs.Quiet.{until_set, quiet_until}
+use Rattle.tables.specs.declared.News.{News}
 use Rattle.memory.specs.Tables.{standing, value_of, property_count}
 use Rattle.row_answers.specs.Told.{early_told, settled_told}
 
@@ -54,6 +55,10 @@ news_from m (suc j) = cond (eqb (told_at m j) (standing_at m j)) (news_from m j)
 unfoldable pub news_end : List ℕ → ℕ → ℕ
 news_end m zero = 0
 news_end m (suc j) = cond (eqb (told_at m j) (standing_at m j)) (news_end m j) (owner_at m j + 1)
+
+-- and both, if there is such a set
+unfoldable pub news_told : List ℕ → ℕ → Option News
+news_told m n = cond (eqb (news_end m n) 0) None (Some (record { first = news_from m n; end = news_end m n }))
 
 -- up to when a set stays as it is, by the words of its row's range
 abbrev pub until_of : ℕ → ℕ → ℕ → Runs → ℕ

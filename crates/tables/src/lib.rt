@@ -10,16 +10,14 @@ ghost use Rattle.pmtl.specs.Quiet.{quiet_until};
 ghost use Rattle.memory.specs.Layout.{MOVES, LOWEST, SIZE};
 ghost use Rattle.memory.specs.Memory.{row_count, begun_word, temporals, operands_from, row_of, rows_of, state_of, is_one, lowest_at};
 ghost use Rattle.memory.specs.Tables.{standing, Founded, Unused, Tables};
+ghost use Rattle.memory.specs.Words.{word_of_standing};
 ghost use Rattle.memory.specs.Kept.{BookKept, Span, Sound, Awaited};
 ghost use Rattle.memory.specs.Alike.{Alike, SameLedger};
 ghost use Rattle.row_answers.specs.Told.{settled_told};
 ghost use Rattle.row_answers.specs.Private.{joined};
-ghost use Rattle.tables.specs.Puts.{bit_in, word_in, moves_put, lowest_put, values_put, told_put, count_put, news_from, news_end, early_renewed, settled_renewed, early_put, settled_put, until_of, until_at, until_put};
+ghost use Rattle.tables.specs.Puts.{bit_in, word_in, moves_put, lowest_put, values_put, told_put, count_put, news_told, early_renewed, settled_renewed, early_put, settled_put, until_of, until_at, until_put};
 
-use book::HISTORICALLY;
-use memory::{
-    COVERS, EARLY, FULLEST, GONE, LOWEST, MOVES, NEITHER, SETTLED, SIZE, TOLD, UNTIL, VALUES,
-};
+use memory::{EARLY, FULLEST, LOWEST, MOVES, SETTLED, SIZE, Standing, TOLD, UNTIL, VALUES};
 use numbers::{MAX, MOST_ROWS};
 use pmtl::Answer;
 
@@ -29,14 +27,10 @@ pub fn joined_at(monitor: &[u64; SIZE], table: usize, place: usize, left: usize,
     requires span { Span monitor.now (row_count monitor.now) place left }
     ensures { result ≡ joined stop (map (bit_in monitor.now table) (operands_from monitor.now place left)) }
 {
-    let mut at = place;
-    let mut rest = left;
-    while rest != 0 {
+    for at in place..place + left {
         if (memory::word(monitor, table + memory::operand_at(monitor, at)) == 1) == stop {
             return stop;
         }
-        at += 1;
-        rest -= 1;
     }
     !stop
 }
@@ -47,32 +41,24 @@ fn moves_here(monitor: &[u64; SIZE], row: usize) -> bool
     requires row_bound { row < row_count monitor.now }
     ensures { result ≡ move_rule (map_row (bit_in monitor.now MOVES) (row_of monitor.now row)) }
 {
-    let words = memory::row_at(monitor, row);
-    if words.kind < HISTORICALLY {
-        let count = book::check::taken_by(words.kind, words.arg as u64);
-        return joined_at(monitor, MOVES, words.start, count, true);
+    let words = memory::read_row(monitor, row);
+    if words.kind.is_temporal() {
+        return true;
     }
-    true
+    let count = book::check::taken_by(words.kind.word(), words.arg as u64);
+    joined_at(monitor, MOVES, words.start, count, true)
 }
 
-// Of each row, from row 0 upward, whether it moves with the clock.
+// Of each row, from row 0 upward, whether it moves with the clock. This, `fill_lowest` and `fill_values` stay three: one fill that takes a
+// closure would keep all three for their contracts, and be a fourth with a contract over calls.
 fn fill_moves(monitor: &mut [u64; SIZE])
     requires { Sound monitor.old }
     ensures { monitor.new ≡ moves_put monitor.old }
 {
-    let count = memory::row_count(monitor);
-    let mut row = 0;
-    while row < count {
+    for row in 0..memory::row_count(monitor) {
         let moves = moves_here(monitor, row);
-        monitor[MOVES + row] = lists::wide(pmtl::bit(moves));
-        row += 1;
+        monitor[MOVES + row] = u64::from(moves);
     }
-}
-
-fn lesser(a: u64, b: u64) -> u64
-    ensures { result ≡ min a b }
-{
-    if a < b { a } else { b }
 }
 
 // The least of a number and of the lowest rows below `left` operands from `place` on.
@@ -81,15 +67,8 @@ fn least_of(monitor: &[u64; SIZE], place: usize, left: usize, from: u64) -> u64
     ensures { result ≡ least_of from (map (word_in monitor.now LOWEST) (operands_from monitor.now place left)) }
 {
     let mut least = from;
-    let mut at = place;
-    let mut rest = left;
-    while rest != 0 {
-        least = lesser(
-            least,
-            memory::word(monitor, LOWEST + memory::operand_at(monitor, at)),
-        );
-        at += 1;
-        rest -= 1;
+    for at in place..place + left {
+        least = least.min(memory::word(monitor, LOWEST + memory::operand_at(monitor, at)));
     }
     least
 }
@@ -100,8 +79,8 @@ fn lowest_here(monitor: &[u64; SIZE], row: usize) -> u64
     requires row_bound { row < row_count monitor.now }
     ensures { result ≡ lowest_rule row (map_row (word_in monitor.now LOWEST) (row_of monitor.now row)) }
 {
-    let words = memory::row_at(monitor, row);
-    let count = book::check::taken_by(words.kind, words.arg as u64);
+    let words = memory::read_row(monitor, row);
+    let count = book::check::taken_by(words.kind.word(), words.arg as u64);
     least_of(monitor, words.start, count, row as u64)
 }
 
@@ -110,12 +89,9 @@ fn fill_lowest(monitor: &mut [u64; SIZE])
     requires { Sound monitor.old }
     ensures { monitor.new ≡ lowest_put monitor.old }
 {
-    let count = memory::row_count(monitor);
-    let mut row = 0;
-    while row < count {
+    for row in 0..memory::row_count(monitor) {
         let lowest = lowest_here(monitor, row);
         monitor[LOWEST + row] = lowest;
-        row += 1;
     }
 }
 
@@ -124,12 +100,9 @@ pub fn fill_values(monitor: &mut [u64; SIZE])
     requires { Sound monitor.old }
     ensures { monitor.new ≡ values_put monitor.old }
 {
-    let count = memory::row_count(monitor);
-    let mut row = 0;
-    while row < count {
+    for row in 0..memory::row_count(monitor) {
         let value = row_answers::output(monitor, row);
-        monitor[VALUES + row] = lists::wide(pmtl::bit(value));
-        row += 1;
+        monitor[VALUES + row] = u64::from(value);
     }
 }
 
@@ -138,107 +111,65 @@ fn gone(set: &[u64], clock: u64) -> bool
     requires { Rolling set.now }
     ensures { result ≡ gone clock (ringed set.now) }
 {
-    if ring::count(set) == 0 {
-        return true;
-    }
-    ring::newest_upper(set) < clock
+    ring::count(set) == 0 || ring::newest_upper(set) < clock
 }
 
 // What is so of a set.
-fn standing(set: &[u64], clock: u64) -> u64
+fn standing(set: &[u64], clock: u64) -> Standing
     requires { Rolling set.now }
-    ensures { result ≡ standing clock (ringed set.now) }
+    ensures { word_of_standing result ≡ standing clock (ringed set.now) }
 {
     if ring::covers(set, clock) {
-        return COVERS;
+        return Standing::Covers;
     }
     if gone(set, clock) {
-        return GONE;
+        return Standing::Gone;
     }
-    NEITHER
+    Standing::Neither
 }
 
-// The greater count: that of before, or how many runs this set has.
-fn fuller(most: u64, set: &[u64]) -> u64
-    requires { Rolling set.now }
-    ensures { result ≡ max most (length (ringed set.now)) }
-{
-    let count = ring::count(set);
-    if most < count { count } else { most }
-}
-
-// The lower of two rows.
-fn lower_row(a: usize, b: usize) -> usize
-    ensures { result ≡ min a b }
-{
-    if a < b { a } else { b }
-}
-
-// The rows whose sets are told something new lie from `first` up to `end`; where `end` is 0 there are none.
+// The rows whose sets are told something new lie from `first` up to `end`.
 #[derive(Clone, Copy)]
 pub struct News {
     pub first: usize,
     pub end: usize,
 }
 
-// Tells the rows anew what is so of their sets, and says between which rows that is something new. The same walk finds how many runs the
-// fullest set has.
-pub fn retell(monitor: &mut [u64; SIZE]) -> News
+// Tells the rows anew what is so of their sets, and says between which rows that is something new, if it is for any. The same walk finds
+// how many runs the fullest set has.
+pub fn retell(monitor: &mut [u64; SIZE]) -> Option<News>
     requires { Sound monitor.old }
-    ensures { (monitor.new ≡ count_put (told_put monitor.old)) × (result.first ≡ news_from monitor.old (temporals monitor.old)) × (result.end ≡ news_end monitor.old (temporals monitor.old)) }
+    ensures { (monitor.new ≡ count_put (told_put monitor.old)) × (result ≡ news_told monitor.old (temporals monitor.old)) }
 {
     let clock = memory::clock(monitor);
     let count = memory::temporal_count(monitor);
     let mut first = MOST_ROWS;
     let mut end = 0;
     let mut most = 0;
-    let mut slot = 0;
-    while slot < count {
-        let new = standing(memory::set_at(monitor, slot), clock);
-        most = fuller(most, memory::set_at(monitor, slot));
-        if memory::told_at(monitor, slot) == new {
-            slot += 1;
-        } else {
+    for slot in 0..count {
+        let set = memory::set_at(monitor, slot);
+        let new = standing(set, clock).word();
+        most = most.max(ring::count(set));
+        if memory::told_at(monitor, slot) != new {
             let row = memory::owner_at(monitor, slot);
             monitor[TOLD + slot] = new;
-            first = lower_row(first, row);
+            first = first.min(row);
             end = row + 1;
-            slot += 1;
         }
     }
     monitor[FULLEST] = most;
-    News { first, end }
+    if end == 0 {
+        return None;
+    }
+    Some(News { first, end })
 }
 
-// Whether a row may lie above one of the rows from `first` up to `end`: it is none before them, and the lowest row below it is none after
-// them.
-fn reached(monitor: &[u64; SIZE], row: usize, first: usize, end: usize) -> bool
+// Whether a row may lie above one that was told something new: it is none before them, and the lowest row below it is none after them.
+fn reached(monitor: &[u64; SIZE], row: usize, news: News) -> bool
     requires { row < MOST_ROWS }
-    ensures { result ≡ (leb first row && ltb (lowest_at monitor.now row) end) }
+    ensures { result ≡ (leb news.first row && ltb (lowest_at monitor.now row) news.end) }
 {
-    if row < first {
-        return false;
-    }
-    memory::lowest_at(monitor, row) < end
-}
-
-// Asks the properties above the rows from `first` up to `end` for their early answers, by what the rows were told.
-fn ask_early(monitor: &mut [u64; SIZE], first: usize, end: usize)
-    requires { Sound monitor.old }
-    ensures { monitor.new ≡ early_renewed monitor.old first end }
-{
-    let count = memory::property_count(monitor);
-    let mut i = 0;
-    while i < count {
-        let row = memory::property_row(monitor, i);
-        if reached(monitor, row, first, end) {
-            let answer = row_answers::valuation(monitor, row);
-            monitor[EARLY + i] = lists::wide(pmtl::digit(answer));
-            i += 1;
-        } else {
-            i += 1;
-        }
-    }
+    news.first <= row && memory::lowest_at(monitor, row) < news.end
 }
 
 // A row's settled answer: open before the first accepted call.
@@ -253,32 +184,20 @@ fn settled_now(monitor: &[u64; SIZE], row: usize) -> Answer
     Answer::Open
 }
 
-// Asks the same properties for their settled answers.
-fn ask_settled(monitor: &mut [u64; SIZE], first: usize, end: usize)
+// The digits of the properties above the rows that were told something new, by what the rows were told. The others keep theirs.
+pub fn ask(monitor: &mut [u64; SIZE], news: News)
     requires { Sound monitor.old }
-    ensures { monitor.new ≡ settled_renewed monitor.old first end }
+    ensures { monitor.new ≡ settled_renewed (early_renewed monitor.old news.first news.end) news.first news.end }
 {
-    let count = memory::property_count(monitor);
-    let mut i = 0;
-    while i < count {
+    for i in 0..memory::property_count(monitor) {
         let row = memory::property_row(monitor, i);
-        if reached(monitor, row, first, end) {
-            let answer = settled_now(monitor, row);
-            monitor[SETTLED + i] = lists::wide(pmtl::digit(answer));
-            i += 1;
-        } else {
-            i += 1;
+        if reached(monitor, row, news) {
+            let early = row_answers::valuation(monitor, row);
+            let settled = settled_now(monitor, row);
+            monitor[EARLY + i] = u64::from(early.digit());
+            monitor[SETTLED + i] = u64::from(settled.digit());
         }
     }
-}
-
-// The digits of the properties above the rows from `first` up to `end`, by what the rows were told. The others keep theirs.
-pub fn ask(monitor: &mut [u64; SIZE], first: usize, end: usize)
-    requires { Sound monitor.old }
-    ensures { monitor.new ≡ settled_renewed (early_renewed monitor.old first end) first end }
-{
-    ask_early(monitor, first, end);
-    ask_settled(monitor, first, end);
 }
 
 // The digits of every property.
@@ -286,7 +205,13 @@ pub fn ask_all(monitor: &mut [u64; SIZE])
     requires { Sound monitor.old × Founded monitor.old }
     ensures { monitor.new ≡ settled_put (early_put monitor.old) }
 {
-    ask(monitor, 0, MOST_ROWS);
+    ask(
+        monitor,
+        News {
+            first: 0,
+            end: MOST_ROWS,
+        },
+    );
 }
 
 // Up to when a set stays as it is, and the clock meets the same of it, by the range that its row adds and its newest run.
@@ -331,13 +256,11 @@ fn least_until(monitor: &[u64; SIZE]) -> u64
     let clock = memory::clock(monitor);
     let count = memory::temporal_count(monitor);
     let mut least = MAX;
-    let mut slot = 0;
-    while slot < count {
-        least = lesser(least, until_at(monitor, slot));
+    for slot in 0..count {
+        least = least.min(until_at(monitor, slot));
         if least <= clock {
             return clock;
         }
-        slot += 1;
     }
     least
 }

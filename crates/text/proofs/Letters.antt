@@ -1,12 +1,12 @@
 -- Laws of a word's letters, for the proofs of `words`. Assumes nothing.
-use Rattle.std.proofs.Common.{◌≡◌, ℕ, suc, ◌+◌, ◌-◌, ◌*◌, ◌/◌, ◌%◌, ◌^◌, ◌<◌, ◌≤◌, Bool, true, false, ◌&&◌, eqb, ltb, leb, ◌⊎◌, List, [], ◌∷◌, length, get_or, drop, sym, refl, ap, ◌∙◌, inl, inr, ⊎_elim, add-zero, add-suc, suc-add, pow-suc, zero-add, add-one, arith, lit<, drop_of_length-le, drop-cons, ltb-false, ltb-true, le-ltb, lt-ltb, ne_eqb, le-leb, leb-true}
+use Rattle.std.proofs.Common.{◌≡◌, ℕ, suc, ◌+◌, ◌-◌, ◌*◌, ◌/◌, ◌^◌, ◌<◌, ◌≤◌, Bool, true, false, Some, None, Err, ◌&&◌, eqb, ltb, leb, ◌⊎◌, List, [], ◌∷◌, length, get_or, drop, sym, refl, ap, ◌∙◌, inl, inr, ⊎_elim, add-zero, add-suc, suc-add, pow-suc, zero-add, add-one, arith, lit<, drop_of_length-le, drop-cons, ltb-false, ltb-true, le-ltb, lt-ltb, ne_eqb, le-leb, leb-true}
 use mathlib.Core.Bool.{and-false, false≢true}
 use native.Mathlib.Nat.{pow-le-pow_right}
 use borrow.Author.Tests.{lt-leb}
 use Rattle.numbers.specs.Limits.{MAX}
-use Rattle.text.specs.Words.{most_digits, pick, parts, digit, letters, all_digits, said, plain, good, word_here, next_in, next_word}
-use Rattle.text.specs.Private.{kind_of, kind_at}
-use Rattle.text.specs.declared.words.Read.TheVariants.{Word, Refused}
+use Rattle.text.specs.Words.{most_digits, pick, parts, digit, letters, all_digits, said, plain, good, read, word_here, next_in, next_word}
+use Rattle.text.specs.Private.{value_of}
+use Rattle.numbers.specs.declared.Refusal.TheVariants.{WrongLength, BadWord}
 
 either : (t : Bool) → (t ≡ true) ⊎ (t ≡ false)
 either true = inl refl
@@ -19,90 +19,53 @@ pub both_hold : (a b : Bool) → (a && b) ≡ true → (a ≡ true) × (b ≡ tr
 both_hold true b e = (refl, e)
 both_hold false b e = absurd (false≢true e)
 
--- ---- a byte's kind
+-- ---- a byte that is a digit, and one that is none
 pub no_part : (b : ℕ) → 48 ≤ b → parts b ≡ false
 unfolding parts
 no_part b h = rw (ne_eqb b 32 (λ e. omega arith), ne_eqb b 10 (λ e. omega arith))
 
-pub kind_over : (b : ℕ) → parts b ≡ true → 10 ≡ kind_of b
-unfolding kind_of pick
-kind_over b p = rw p
+pub value_is : (b : ℕ) → 48 ≤ b → b ≤ 57 → value_of b ≡ Some (b - 48)
+unfolding value_of pick digit
+value_is b h k = rw (le-leb 48 b h, le-leb b 57 k)
 
-pub kind_under : (b : ℕ) → b < 48 → parts b ≡ false → 11 ≡ kind_of b
-unfolding kind_of pick digit
-kind_under b h p = rw (p, lt-leb 48 b h)
-
-pub kind_above : (b : ℕ) → 48 ≤ b → 57 < b → 11 ≡ kind_of b
-unfolding kind_of pick digit
-kind_above b h k = rw (no_part b h, le-leb 48 b h, lt-leb b 57 k)
-
-pub kind_digit : (b : ℕ) → 48 ≤ b → b ≤ 57 → b - 48 ≡ kind_of b
-unfolding kind_of pick digit
-kind_digit b h k = rw (no_part b h, le-leb 48 b h, le-leb b 57 k)
-
--- the same, of the byte's distance from the digit 0 upwards, around 256
-pub kind_near : (b d : ℕ) → (d + 48) % 2 ^ 8 ≡ b → d < 10 → d ≡ kind_of b
-kind_near b d e h = let f : d ≡ b - 48 = omega arith in f ∙ kind_digit b (omega arith) (omega arith)
-
-pub kind_far : (b d : ℕ) → (d + 48) % 2 ^ 8 ≡ b → d < 2 ^ 8 → 10 ≤ d → parts b ≡ false → 11 ≡ kind_of b
-kind_far b d e r h p = ⊎_elim (λ k. kind_under b k p) (λ k. kind_above b k (omega arith)) (lt_or_ge b 48)
-
-pub kind_in_lem : (s : List ℕ) (i : ℕ) → i < length s → kind_of (get_or s i 0) ≡ kind_at (drop i s)
-unfolding kind_at
-kind_in_lem s i h = rw (drop-cons s i 0 h)
-
-pub kind_end : (s : List ℕ) (i : ℕ) → length s ≤ i → 10 ≡ kind_at (drop i s)
-unfolding kind_at
-kind_end s i h = rw (drop_of_length-le s h)
-
--- ---- what a byte's kind says of it
-record Digit (b : ℕ) : Type 0 where
+pub record Digit (b d : ℕ) : Type 0 where
   pub stays : parts b ≡ false
   pub says : digit b ≡ true
-  pub value : b - 48 ≡ kind_of b
+  pub value : b - 48 ≡ d
+  pub small : d < 10
 
 pub within_digits : (b : ℕ) → digit b ≡ true → (48 ≤ b) × (b ≤ 57)
 unfolding digit
 within_digits b e = let k = both_hold (leb 48 b) (leb b 57) e in (leb-true 48 b k.0, leb-true b 57 k.1)
 
-module _ (b : ℕ) where
-  is_digit : (p d : Bool) → parts b ≡ p → digit b ≡ d → kind_of b < 10 → Digit b
-  unfolding kind_of pick
-  is_digit true d e f h = let g : 10 < 10 = rw e at h in absurd (omega arith)
-  is_digit false false e f h = let g : 11 < 10 = rw (e, f) at h in absurd (omega arith)
-  is_digit false true e f h = record { stays = e; says = f; value = rw (e, f) }
+pub told : (b : ℕ) {d : ℕ} → value_of b ≡ Some d → Digit b d
+unfolding value_of pick
+told b {d} e = by_digit (digit b) refl
+  where
+    by_digit : (t : Bool) → digit b ≡ t → Digit b d
+    by_digit true f =
+        let v : Some (b - 48) ≡ Some d = rw f at e in
+        let w : b - 48 ≡ d = cc in
+        let k = within_digits b f in
+        record { stays = no_part b k.0; says = f; value = w; small = omega arith }
+    by_digit false f = let v : None ≡ Some d = rw f at e in let z : ◌≡◌ {A = ℕ} 0 1 = cc in absurd (omega arith)
 
-  is_over : (p d : Bool) → parts b ≡ p → digit b ≡ d → kind_of b ≡ 10 → parts b ≡ true
-  unfolding kind_of pick
-  is_over true d e f h = e
-  is_over false false e f h = let g : ◌≡◌ {A = ℕ} 11 10 = rw (e, f) at h in absurd (omega arith)
-  is_over false true e f h = let g : b - 48 ≡ 10 = rw (e, f) at h in absurd (omega (arith, (within_digits b f).1))
-
-  is_bad : (p d : Bool) → parts b ≡ p → digit b ≡ d → 10 < kind_of b → (parts b ≡ false) × (digit b ≡ false)
-  unfolding kind_of pick
-  is_bad true d e f h = let g : 10 < 10 = rw e at h in absurd (omega arith)
-  is_bad false false e f h = (e, f)
-  is_bad false true e f h = let g : 10 < b - 48 = rw (e, f) at h in absurd (omega (arith, (within_digits b f).1))
+untold : (b : ℕ) → value_of b ≡ None → digit b ≡ false
+unfolding value_of pick
+untold b e = by_digit (digit b) refl
+  where
+    by_digit : (t : Bool) → digit b ≡ t → digit b ≡ false
+    by_digit true f = let v : Some (b - 48) ≡ None = rw f at e in let z : ◌≡◌ {A = ℕ} 0 1 = cc in absurd (omega arith)
+    by_digit false f = f
 
 -- ---- a word that is over, goes on, or is bad
-over : (s : List ℕ) → kind_at s ≡ 10 → letters s ≡ []
-unfolding kind_at letters pick
-over [] h = refl
-over (b ∷ s) h = rw (is_over b (parts b) (digit b) refl refl h)
+pub over : (s : List ℕ) (i : ℕ) → i < length s → parts (get_or s i 0) ≡ true → letters (drop i s) ≡ []
+unfolding letters pick
+over s i h p = rw (drop-cons s i 0 h, p)
 
-not_over : (s : List ℕ) → (kind_at s ≡ 10 → ⊥) → letters s ≡ [] → ⊥
-unfolding kind_at letters pick
-not_over [] h e = h refl
-not_over (b ∷ s) h e = ⊎_elim (λ p. h (sym (kind_over b p))) (λ p. let z : b ∷ letters s ≡ [] = rw p at e in let y : ◌≡◌ {A = ℕ} 0 1 = cc in omega arith) (either (parts b))
-
-bad : (s : List ℕ) → 10 < kind_at s → all_digits (letters s) ≡ false
-unfolding kind_at letters all_digits pick
-bad [] h = absurd (omega arith)
-bad (b ∷ s) h = let w = is_bad b (parts b) (digit b) refl refl h in rw (w.0, w.1)
-
-inside : (s : List ℕ) (i : ℕ) → kind_at (drop i s) < 10 → i < length s
-unfolding kind_at
-inside s i h = ⊎_elim (λ p. p) (λ q. let g : 10 < 10 = rw (drop_of_length-le s q) at h in absurd (omega arith)) (lt_or_ge i (length s))
+pub over_end : (s : List ℕ) (i : ℕ) → length s ≤ i → letters (drop i s) ≡ []
+unfolding letters
+over_end s i h = rw (drop_of_length-le s h)
 
 -- the letters from a byte on that parts nothing
 pub begins : (s : List ℕ) (i : ℕ) → i < length s → parts (get_or s i 0) ≡ false → letters (drop i s) ≡ get_or s i 0 ∷ letters (drop (i + 1) s)
@@ -119,23 +82,17 @@ pub record Going (s : List ℕ) (at i n : ℕ) : Type 0 where
 pub start : (s : List ℕ) (at : ℕ) → Going s at at 0
 start s at = record { low = omega arith; digs = refl; says = refl; size = omega arith }
 
-module _ (s : List ℕ) (at i n d : ℕ) (g : Going s at i n) (e : d ≡ kind_at (drop i s)) where
-  pub within : d < 10 → i < length s
-  within h = inside s i (rw e at h)
-
-  pub more : d < 10 → Going s at (i + 1) (n * 10 + d)
-  unfolding all_digits said
-  more h =
-      let r : i < length s = within h in
-      let k : d ≡ kind_of (get_or s i 0) = e ∙ sym (kind_in_lem s i r) in
-      let w : Digit (get_or s i 0) = is_digit (get_or s i 0) (parts (get_or s i 0)) (digit (get_or s i 0)) refl refl (omega arith) in
-      let ls = begins s i r w.stays in
-      record {
-        low = omega (arith, g.low);
-        digs = g.digs ∙ rw (ls, w.says);
-        says = g.says ∙ ap (said n) ls ∙ ap (λ (x : ℕ). said (n * 10 + x) (letters (drop (i + 1) s))) (w.value ∙ sym k);
-        size = omega (arith, g.low, g.size ∙ ap (λ (x : List ℕ). (i - at) + length x) ls);
-      }
+pub more : (s : List ℕ) (at i n : ℕ) {d : ℕ} → Going s at i n → i < length s → value_of (get_or s i 0) ≡ Some d → Going s at (i + 1) (n * 10 + d)
+unfolding all_digits said
+more s at i n {d} g h e =
+    let w : Digit (get_or s i 0) d = told (get_or s i 0) e in
+    let ls = begins s i h w.stays in
+    record {
+      low = omega (arith, g.low);
+      digs = g.digs ∙ rw (ls, w.says);
+      says = g.says ∙ ap (said n) ls ∙ ap (λ (x : ℕ). said (n * 10 + x) (letters (drop (i + 1) s))) w.value;
+      size = omega (arith, g.low, g.size ∙ ap (λ (x : List ℕ). (i - at) + length x) ls);
+    }
 
 -- one more digit fits, or passes MAX
 pub fits : (n d : ℕ) → d < 10 → n ≤ (MAX - d) / 10 → n * 10 + d ≤ MAX
@@ -168,11 +125,11 @@ too_large : (w : List ℕ) → MAX < said 0 w → good w ≡ false
 unfolding good
 too_large w h = rw (lt-leb (said 0 w) MAX h, and-false (plain w), and-false (leb (length w) most_digits), and-false (all_digits w))
 
-refused : (l : List ℕ) (at : ℕ) → good (letters l) ≡ false → Refused 13 ≡ word_here l at
+refused : (l : List ℕ) (at : ℕ) → good (letters l) ≡ false → Err BadWord ≡ word_here l at
 unfolding word_here pick
 refused l at e = rw e
 
-accepted : (l : List ℕ) (at n k : ℕ) → good (letters l) ≡ true → said 0 (letters l) ≡ n → length (letters l) ≡ k → Word n (at + k) ≡ word_here l at
+accepted : (l : List ℕ) (at n k : ℕ) → good (letters l) ≡ true → said 0 (letters l) ≡ n → length (letters l) ≡ k → read n (at + k) ≡ word_here l at
 unfolding word_here pick
 accepted l at n k e f h = rw (e, f, h)
 
@@ -181,19 +138,15 @@ module _ (s : List ℕ) (at : ℕ) (h : at < length s) (z : get_or s at 0 ≡ 48
   zero_begins : letters (drop at s) ≡ 48 ∷ letters (drop (at + 1) s)
   zero_begins = rw (← z) (begins s at h (no_part (get_or s at 0) (omega arith)))
 
-  pub is_zero : kind_at (drop (at + 1) s) ≡ 10 → Word 0 (at + 1) ≡ word_here (drop at s) at
+  pub is_zero : letters (drop (at + 1) s) ≡ [] → read 0 (at + 1) ≡ word_here (drop at s) at
   unfolding good all_digits digit plain said pick
-  is_zero k =
-      let ls : letters (drop at s) ≡ 48 ∷ [] = zero_begins ∙ ap (λ (l : List ℕ). 48 ∷ l) (over (drop (at + 1) s) k) in
+  is_zero e =
+      let ls : letters (drop at s) ≡ 48 ∷ [] = zero_begins ∙ ap (λ (l : List ℕ). 48 ∷ l) e in
       accepted (drop at s) at 0 1 (rw ls) (rw ls) (rw ls)
 
-  pub zero_first : (kind_at (drop (at + 1) s) ≡ 10 → ⊥) → Refused 13 ≡ word_here (drop at s) at
+  pub zero_first : at + 1 < length s → parts (get_or s (at + 1) 0) ≡ false → Err BadWord ≡ word_here (drop at s) at
   unfolding plain pick
-  zero_first k = refused (drop at s) at (not_plain (letters (drop at s)) (rw zero_begins (ne_eqb (length (letters (drop (at + 1) s))) 0 (λ e. not_over (drop (at + 1) s) k (none (letters (drop (at + 1) s)) e)))))
-    where
-      none : (l : List ℕ) → length l ≡ 0 → l ≡ []
-      none [] e = refl
-      none (b ∷ l) e = absurd (omega arith)
+  zero_first k p = refused (drop at s) at (not_plain (letters (drop at s)) (rw (zero_begins, begins s (at + 1) k p) (ne_eqb (length (get_or s (at + 1) 0 ∷ letters (drop (at + 1 + 1) s))) 0 (λ e. omega arith))))
 
 -- ---- a word that begins with another letter
 -- each letter makes the number ten times as large, or more
@@ -218,19 +171,17 @@ unfolding said
 grows [] n = omega arith
 grows (b ∷ w) n = let r = grows w (n * 10 + (b - 48)) in omega arith
 
-module _ (s : List ℕ) (at i n d : ℕ) (g : Going s at i n) (e : d ≡ kind_at (drop i s)) where
-  pub too_big : d < 10 → MAX < n * 10 + d → Refused 13 ≡ word_here (drop at s) at
-  too_big h k =
-      let m = more s at i n d g e h in
-      refused (drop at s) at (too_large (letters (drop at s)) (omega (arith, m.says, grows (letters (drop (i + 1) s)) (n * 10 + d))))
+pub too_big : (s : List ℕ) (at i n : ℕ) {d : ℕ} → Going s at i n → i < length s → value_of (get_or s i 0) ≡ Some d → MAX < n * 10 + d → Err BadWord ≡ word_here (drop at s) at
+too_big s at i n {d} g h e k =
+    let m = more s at i n g h e in
+    refused (drop at s) at (too_large (letters (drop at s)) (omega (arith, m.says, grows (letters (drop (i + 1) s)) (n * 10 + d))))
 
-  pub bad_letter : 10 ≤ d → (d ≡ 10 → ⊥) → Refused 13 ≡ word_here (drop at s) at
-  bad_letter h k = let j : 10 < d = omega arith in refused (drop at s) at (not_digits (letters (drop at s)) (g.digs ∙ bad (drop i s) (rw e at j)))
+pub bad_letter : (s : List ℕ) (at i n : ℕ) → Going s at i n → i < length s → value_of (get_or s i 0) ≡ None → parts (get_or s i 0) ≡ false → Err BadWord ≡ word_here (drop at s) at
+unfolding all_digits
+bad_letter s at i n g h e p = refused (drop at s) at (not_digits (letters (drop at s)) (g.digs ∙ rw (begins s i h p, untold (get_or s i 0) e)))
 
-  module _ (h : at < length s) (p : parts (get_or s at 0) ≡ false) (z : get_or s at 0 ≡ 48 → ⊥) (o : d ≡ 10) (f : n ≤ MAX) where
-    ends : letters (drop i s) ≡ []
-    ends = over (drop i s) (sym e ∙ o)
-
+module _ (s : List ℕ) (at i n : ℕ) (g : Going s at i n) where
+  module _ (h : at < length s) (p : parts (get_or s at 0) ≡ false) (z : get_or s at 0 ≡ 48 → ⊥) (ends : letters (drop i s) ≡ []) (f : n ≤ MAX) where
     sized : length (letters (drop at s)) ≡ i - at
     sized = omega (arith, g.size ∙ ap (λ (x : List ℕ). (i - at) + length x) ends)
 
@@ -251,13 +202,13 @@ module _ (s : List ℕ) (at i n d : ℕ) (g : Going s at i n) (e : d ≡ kind_at
         let k : length (b ∷ w) ≤ most_digits = few b w l (rw ls at v) in
         rw (all_digits_lem, says_n, le-leb n MAX f, ls, le-leb (length (b ∷ w)) most_digits k, ne_eqb b 48 y)
 
-    pub is_word : Word n i ≡ word_here (drop at s) at
+    pub is_word : read n i ≡ word_here (drop at s) at
     is_word =
         let j : at + (i - at) ≡ i = omega (arith, g.low) in
         rw (← j) (accepted (drop at s) at n (i - at) (is_good (get_or s at 0) (letters (drop (at + 1) s)) (begins s at h p) z) says_n sized)
 
 -- ---- the next word
-pub next_end : (s : List ℕ) (i : ℕ) → length s ≤ i → Refused 1 ≡ next_word s i
+pub next_end : (s : List ℕ) (i : ℕ) → length s ≤ i → Err WrongLength ≡ next_word s i
 unfolding next_word next_in
 next_end s i h = rw (drop_of_length-le s h)
 
@@ -278,54 +229,52 @@ one_letter d = by_zero (eqb d 48) refl
     by_zero true e = rw e
     by_zero false e = rw e
 
-short_good : (b : ℕ) → Digit b → good (b ∷ []) ≡ true
+short_good : (b : ℕ) {d : ℕ} → Digit b d → good (b ∷ []) ≡ true
 unfolding good all_digits said
 short_good b w =
     let k = within_digits b w.says in
     rw (w.says, one_letter b, le-leb (0 * 10 + (b - 48)) MAX (omega arith))
 
 -- between two parting bytes it is told from these three
-pub next_is_short : (s : List ℕ) (at d : ℕ) → at + 2 < length s → parts (get_or s at 0) ≡ true → parts (get_or s (at + 2) 0) ≡ true → d ≡ kind_of (get_or s (at + 1) 0) → d < 10 → Word d (at + 2) ≡ next_word s at
+pub next_is_short : (s : List ℕ) (at : ℕ) {d : ℕ} → at + 2 < length s → parts (get_or s at 0) ≡ true → parts (get_or s (at + 2) 0) ≡ true → value_of (get_or s (at + 1) 0) ≡ Some d → read d (at + 2) ≡ next_word s at
 unfolding said
-next_is_short s at d h p q e f =
+next_is_short s at {d} h p q e =
     let b = get_or s (at + 1) 0 in
-    let w : Digit b = is_digit b (parts b) (digit b) refl refl (omega arith) in
+    let w : Digit b d = told b e in
     let a : at + 1 + 1 ≡ at + 2 = omega arith in
-    let o : kind_at (drop (at + 1 + 1) s) ≡ 10 = rw a (sym (kind_in_lem s (at + 2) h) ∙ sym (kind_over (get_or s (at + 2) 0) q)) in
-    let ls : letters (drop (at + 1) s) ≡ b ∷ [] = begins s (at + 1) (omega arith) w.stays ∙ ap (λ (l : List ℕ). b ∷ l) (over (drop (at + 1 + 1) s) o) in
+    let o : letters (drop (at + 1 + 1) s) ≡ [] = rw a (over s (at + 2) h q) in
+    let ls : letters (drop (at + 1) s) ≡ b ∷ [] = begins s (at + 1) (omega arith) w.stays ∙ ap (λ (l : List ℕ). b ∷ l) o in
     let v : 0 * 10 + (b - 48) ≡ d = omega (arith, w.value) in
     rw (← a) (accepted (drop (at + 1) s) (at + 1) d 1 (rw ls (short_good b w)) (rw ls v) (rw ls))
     ∙ next_here s (at + 1) (omega arith) w.stays
     ∙ sym (next_more s at (omega arith) p)
 
 -- a digit below 2 by its byte alone
-pub next_is_bit : (s : List ℕ) (at : ℕ) → at + 2 < length s → parts (get_or s at 0) ≡ true → 48 ≤ get_or s (at + 1) 0 → get_or s (at + 1) 0 ≤ 49 → parts (get_or s (at + 2) 0) ≡ true → next_word s at ≡ Word (get_or s (at + 1) 0 - 48) (at + 2)
+pub next_is_bit : (s : List ℕ) (at : ℕ) → at + 2 < length s → parts (get_or s at 0) ≡ true → 48 ≤ get_or s (at + 1) 0 → get_or s (at + 1) 0 ≤ 49 → parts (get_or s (at + 2) 0) ≡ true → next_word s at ≡ read (get_or s (at + 1) 0 - 48) (at + 2)
 next_is_bit s at h p low high q =
     let b = get_or s (at + 1) 0 in
-    sym (next_is_short s at (b - 48) h p q (kind_digit b low (omega arith)) (omega arith))
+    sym (next_is_short s at h p q (value_is b low (omega arith)))
 
 -- ---- a word of fewer than 20 digits, the first of which is not 0: n is what those before i say, which are too few to pass MAX
 pub record Counting (s : List ℕ) (at i n : ℕ) : Type 0 where
   pub going : Going s (at + 1) i n
   pub small : n < 10 ^ (i - (at + 1))
 
-module _ (s : List ℕ) (at first : ℕ) (h : at + 1 < length s) (e : first ≡ kind_of (get_or s (at + 1) 0)) (f : first < 10) where
+module _ (s : List ℕ) (at first : ℕ) (h : at + 1 < length s) (e : value_of (get_or s (at + 1) 0) ≡ Some first) where
   pub count_start : Counting s at (at + 2) first
   count_start =
       let a : at + 1 + 1 ≡ at + 2 = omega arith in
       let v : 0 * 10 + first ≡ first = omega arith in
       let k : at + 2 - (at + 1) ≡ 1 = omega arith in
       record {
-        going = rw (a, v) at (more s (at + 1) (at + 1) 0 first (start s (at + 1)) (e ∙ kind_in_lem s (at + 1) h) f);
-        small = rw k f;
+        going = rw (a, v) at (more s (at + 1) (at + 1) 0 (start s (at + 1)) h e);
+        small = rw k (told (get_or s (at + 1) 0) e).small;
       }
 
-  pub count_ends : (i n : ℕ) → Counting s at i n → 0 < first → n ≤ MAX → i < length s → parts (get_or s at 0) ≡ true → parts (get_or s i 0) ≡ true → Word n i ≡ next_word s at
+  pub count_ends : (i n : ℕ) → Counting s at i n → 0 < first → n ≤ MAX → i < length s → parts (get_or s at 0) ≡ true → parts (get_or s i 0) ≡ true → read n i ≡ next_word s at
   count_ends i n g z few within p q =
-      let b = get_or s (at + 1) 0 in
-      let w : Digit b = is_digit b (parts b) (digit b) refl refl (omega arith) in
-      let o : 10 ≡ kind_at (drop i s) = kind_over (get_or s i 0) q ∙ kind_in_lem s i within in
-      is_word s (at + 1) i n 10 g.going o h w.stays (λ x. omega (arith, w.value)) refl few
+      let w : Digit (get_or s (at + 1) 0) first = told (get_or s (at + 1) 0) e in
+      is_word s (at + 1) i n g.going h w.stays (λ x. omega (arith, w.value)) (over s i within q) few
       ∙ next_here s (at + 1) h w.stays
       ∙ sym (next_more s at (omega arith) p)
 
@@ -336,10 +285,10 @@ module _ {s : List ℕ} {at i n : ℕ} (g : Counting s at i n) where
       clash : {x y z : ℕ} → x < y → y ≤ z → x < z
       clash p q = omega arith
 
-  pub count_more : {d : ℕ} → i < length s → d ≡ kind_of (get_or s i 0) → d < 10 → Counting s at (i + 1) (n * 10 + d)
-  count_more {d} within e h =
+  pub count_more : {d : ℕ} → i < length s → value_of (get_or s i 0) ≡ Some d → Counting s at (i + 1) (n * 10 + d)
+  count_more {d} within e =
       let k : i + 1 - (at + 1) ≡ suc (i - (at + 1)) = omega (arith, g.going.low) in
       record {
-        going = more s (at + 1) i n d g.going (e ∙ kind_in_lem s i within) h;
-        small = rw k (omega (arith, pow-suc 10 (i - (at + 1)), g.small));
+        going = more s (at + 1) i n g.going within e;
+        small = rw k (omega (arith, pow-suc 10 (i - (at + 1)), g.small, (told (get_or s i 0) e).small));
       }

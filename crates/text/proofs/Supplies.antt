@@ -1,10 +1,12 @@
 -- Laws of what a text gives its reader, word by word, for whoever reads words. Assumes nothing.
-use Rattle.std.proofs.Common.{◌≡◌, ℕ, zero, suc, ◌+◌, ◌<◌, ◌≤◌, Bool, true, false, leb, List, [], ◌∷◌, length, get_or, drop, sym, refl, ap, ◌∙◌, arith, length-drop, drop-drop, leb-true}
+use Rattle.std.proofs.Common.{◌≡◌, ℕ, zero, suc, ◌+◌, ◌<◌, ◌≤◌, Bool, true, false, Ok, Err, leb, List, [], ◌∷◌, length, get_or, drop, sym, refl, ap, ◌∙◌, arith, length-drop, drop-drop, leb-true}
 use Rattle.numbers.specs.Limits.{MAX}
-use Rattle.text.specs.Words.{most_digits, pick, parts, letters, all_digits, said, plain, good, word_here, next_in, next_word, ends, gives, begun, written_words, supplied, supply, supply_from}
-use Rattle.numbers.specs.Refusals.{WRONG_LENGTH, BAD_WORD}
+use Rattle.text.specs.Words.{most_digits, pick, parts, letters, all_digits, said, plain, good, read, word_here, next_in, next_word, ends, gives, begun, written_words, supplied, supply, supply_from}
+use Rattle.numbers.specs.Refusals.{number_of, BAD_WORD}
 use Rattle.text.proofs.Letters.{both_hold}
-use Rattle.text.specs.declared.words.Read.TheVariants.{Word, Refused}
+use Rattle.text.specs.declared.words.Word.{Word}
+use Rattle.numbers.specs.declared.Refusal.{Refusal}
+use Rattle.numbers.specs.declared.Refusal.TheVariants.{WrongLength, BadWord}
 
 -- after a word's letters the next one begins anew
 after : (s : List ℕ) → written_words true s ≡ written_words false (drop (length (letters s)) s)
@@ -66,27 +68,33 @@ record TakenIn (l : List ℕ) (at w next : ℕ) : Type 0 where
   pub fits : w ≤ MAX
   pub gave : supply l ≡ gives w (supply (drop size l))
 
-word_here_lem : (b : ℕ) (s : List ℕ) (at w next : ℕ) → parts b ≡ false → (t : Bool) → good (letters (b ∷ s)) ≡ t → word_here (b ∷ s) at ≡ Word w next → TakenIn (b ∷ s) at w next
+-- what was read is one number and one place
+pub same : {n w at next : ℕ} → read n at ≡ read w next → (n ≡ w) × (at ≡ next)
+same {n} {w} {at} {next} e =
+    let r : ◌≡◌ {A = Word} (record { number = n; next = at }) (record { number = w; next = next }) = cc in
+    (ap (λ (x : Word). x.number) r, ap (λ (x : Word). x.next) r)
+
+word_here_lem : (b : ℕ) (s : List ℕ) (at w next : ℕ) → parts b ≡ false → (t : Bool) → good (letters (b ∷ s)) ≡ t → word_here (b ∷ s) at ≡ read w next → TakenIn (b ∷ s) at w next
 unfolding word_here pick
 word_here_lem b s at w next p true e f =
-    let g : Word (said 0 (letters (b ∷ s))) (at + length (letters (b ∷ s))) ≡ Word w next = rw e at f in
-    let v : said 0 (letters (b ∷ s)) ≡ w = cc in
+    let g : read (said 0 (letters (b ∷ s))) (at + length (letters (b ∷ s))) ≡ read w next = rw e at f in
+    let v : said 0 (letters (b ∷ s)) ≡ w = (same g).0 in
     record {
       size = length (letters (b ∷ s));
-      place = cc;
+      place = sym (same g).1;
       some = rw (begins b s p) (omega arith);
       within = letters_within (b ∷ s);
       fits = rw (← v) (good_fits (letters (b ∷ s)) e);
       gave = rw (← v) (taken b s p e);
     }
-word_here_lem b s at w next p false e f = let g : Refused BAD_WORD ≡ Word w next = rw e at f in let z : ◌≡◌ {A = ℕ} 0 1 = cc in absurd (omega arith)
+word_here_lem b s at w next p false e f = let g : Err BadWord ≡ read w next = rw e at f in let z : ◌≡◌ {A = ℕ} 0 1 = cc in absurd (omega arith)
 
-word_in : (l : List ℕ) (at w next : ℕ) → next_in l at ≡ Word w next → TakenIn l at w next
+word_in : (l : List ℕ) (at w next : ℕ) → next_in l at ≡ read w next → TakenIn l at w next
 unfolding next_in pick
 word_in [] at w next e = let z : ◌≡◌ {A = ℕ} 0 1 = cc in absurd (omega arith)
 word_in (b ∷ s) at w next e = by_part (parts b) refl (λ h. word_in s (suc at) w next h)
   where
-    by_part : (t : Bool) → parts b ≡ t → (next_in s (suc at) ≡ Word w next → TakenIn s (suc at) w next) → TakenIn (b ∷ s) at w next
+    by_part : (t : Bool) → parts b ≡ t → (next_in s (suc at) ≡ read w next → TakenIn s (suc at) w next) → TakenIn (b ∷ s) at w next
     by_part true p r =
         let k = r (rw p at e) in
         record {
@@ -99,23 +107,23 @@ word_in (b ∷ s) at w next e = by_part (parts b) refl (λ h. word_in s (suc at)
         }
     by_part false p r = word_here_lem b s at w next p (good (letters (b ∷ s))) refl (rw p at e)
 
-refused_here : (b : ℕ) (s : List ℕ) (at r : ℕ) → parts b ≡ false → (t : Bool) → good (letters (b ∷ s)) ≡ t → word_here (b ∷ s) at ≡ Refused r → supply (b ∷ s) ≡ ends r
+refused_here : (b : ℕ) (s : List ℕ) (at : ℕ) (r : Refusal) → parts b ≡ false → (t : Bool) → good (letters (b ∷ s)) ≡ t → word_here (b ∷ s) at ≡ Err r → supply (b ∷ s) ≡ ends (number_of r)
 unfolding word_here pick
 refused_here b s at r p true e f =
-    let g : Word (said 0 (letters (b ∷ s))) (at + length (letters (b ∷ s))) ≡ Refused r = rw e at f in
+    let g : read (said 0 (letters (b ∷ s))) (at + length (letters (b ∷ s))) ≡ Err r = rw e at f in
     let z : ◌≡◌ {A = ℕ} 0 1 = cc in
     absurd (omega arith)
 refused_here b s at r p false e f =
-    let g : Refused BAD_WORD ≡ Refused r = rw e at f in
-    let v : BAD_WORD ≡ r = cc in
-    bad b s p e ∙ ap ends v
+    let g : Err BadWord ≡ Err r = rw e at f in
+    let v : BadWord ≡ r = cc in
+    bad b s p e ∙ ap (λ (x : Refusal). ends (number_of x)) v
 
-refused_in : (l : List ℕ) (at r : ℕ) → next_in l at ≡ Refused r → supply l ≡ ends r
+refused_in : (l : List ℕ) (at : ℕ) (r : Refusal) → next_in l at ≡ Err r → supply l ≡ ends (number_of r)
 unfolding next_in pick supply supplied written_words
-refused_in [] at r e = let v : WRONG_LENGTH ≡ r = cc in ap ends v
+refused_in [] at r e = let v : WrongLength ≡ r = cc in ap (λ (x : Refusal). ends (number_of x)) v
 refused_in (b ∷ s) at r e = by_part (parts b) refl (λ h. refused_in s (suc at) r h)
   where
-    by_part : (t : Bool) → parts b ≡ t → (next_in s (suc at) ≡ Refused r → supply s ≡ ends r) → supply (b ∷ s) ≡ ends r
+    by_part : (t : Bool) → parts b ≡ t → (next_in s (suc at) ≡ Err r → supply s ≡ ends (number_of r)) → supply (b ∷ s) ≡ ends (number_of r)
     by_part true p h = passed b s p ∙ h (rw p at e)
     by_part false p h = refused_here b s at r p (good (letters (b ∷ s))) refl (rw p at e)
 
@@ -127,21 +135,21 @@ pub record Taken (s : List ℕ) (at w next : ℕ) : Type 0 where
   pub within : next ≤ length s
   pub fits : w ≤ MAX
 
-pub word : (s : List ℕ) (at : ℕ) {w next : ℕ} → next_word s at ≡ Word w next → Taken s at w next
+pub word : (s : List ℕ) (at : ℕ) {w : Word} → next_word s at ≡ Ok w → Taken s at w.number w.next
 unfolding next_word
-word s at {w} {next} e =
-    let k = word_in (drop at s) at w next e in
-    let d : drop k.size (drop at s) ≡ drop next s = drop-drop k.size at s ∙ ap (λ (i : ℕ). drop i s) (sym k.place) in
+word s at {w} e =
+    let k = word_in (drop at s) at w.number w.next e in
+    let d : drop k.size (drop at s) ≡ drop w.next s = drop-drop k.size at s ∙ ap (λ (i : ℕ). drop i s) (sym k.place) in
     let l = length-drop at s in
     record {
-      gave = k.gave ∙ ap (λ (x : List ℕ). gives w (supply x)) d;
+      gave = k.gave ∙ ap (λ (x : List ℕ). gives w.number (supply x)) d;
       further = omega (arith, k.place, k.some);
       within = omega (arith, k.place, k.some, k.within);
       fits = k.fits;
     }
 
 -- a refusal ends the reading: no word is left
-pub refused : (s : List ℕ) (at : ℕ) {r : ℕ} → next_word s at ≡ Refused r → supply_from s at ≡ ends r
+pub refused : (s : List ℕ) (at : ℕ) {r : Refusal} → next_word s at ≡ Err r → supply_from s at ≡ ends (number_of r)
 unfolding next_word
 refused s at {r} e = refused_in (drop at s) at r e
 

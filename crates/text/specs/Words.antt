@@ -1,9 +1,10 @@
 -- REFERENCE 7.1 and 7.2: words in text. Definitions only.
-use Rattle.std.specs.Prelude.{ℕ, suc, ◌+◌, ◌-◌, ◌*◌, Bool, true, false, not, ◌&&◌, ◌||◌, List, [], ◌∷◌, length, drop, ◌==◌, nat_le}
+use Rattle.std.specs.Prelude.{ℕ, Result, Ok, Err, suc, ◌+◌, ◌-◌, ◌*◌, Bool, true, false, not, ◌&&◌, ◌||◌, List, [], ◌∷◌, length, drop, ◌==◌, nat_le}
 use Rattle.numbers.specs.Limits.{MAX}
 use Rattle.numbers.specs.Refusals.{WRONG_LENGTH, BAD_WORD}
-use Rattle.text.specs.declared.words.Read.{Read}
-use Rattle.text.specs.declared.words.Read.TheVariants.{Word, Refused}
+use Rattle.numbers.specs.declared.Refusal.{Refusal}
+use Rattle.numbers.specs.declared.Refusal.TheVariants.{WrongLength, BadWord}
+use Rattle.text.specs.declared.words.Word.{Word}
 
 -- the bytes that part words
 abbrev pub space : ℕ
@@ -60,17 +61,21 @@ plain (b ∷ w) = pick (b == digit0) (length w == 0) true
 unfoldable pub good : List ℕ → Bool
 good w = all_digits w && (nat_le (length w) most_digits && (plain w && nat_le (said 0 w) MAX))
 
+-- a word that was read, and the place after it
+abbrev pub read : ℕ → ℕ → Result Word Refusal
+read number next = Ok (record { number = number; next = next })
+
 -- what the word reads as that begins here, at the place given
-unfoldable pub word_here : List ℕ → ℕ → Read
-word_here s at = pick (good (letters s)) (Word (said 0 (letters s)) (at + length (letters s))) (Refused BAD_WORD)
+unfoldable pub word_here : List ℕ → ℕ → Result Word Refusal
+word_here s at = pick (good (letters s)) (read (said 0 (letters s)) (at + length (letters s))) (Err BadWord)
 
 -- the next word of the bytes that are left, the first of which stands at the place given
-unfoldable pub next_in : List ℕ → ℕ → Read
-next_in [] at = Refused WRONG_LENGTH
+unfoldable pub next_in : List ℕ → ℕ → Result Word Refusal
+next_in [] at = Err WrongLength
 next_in (b ∷ s) at = pick (parts b) (next_in s (suc at)) (word_here (b ∷ s) at)
 
 -- the next word of a text from a place on
-unfoldable pub next_word : List ℕ → ℕ → Read
+unfoldable pub next_word : List ℕ → ℕ → Result Word Refusal
 next_word s at = next_in (drop at s) at
 
 -- what a reader of words gets: good words, and the number that ends the reading after them

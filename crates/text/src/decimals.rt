@@ -26,17 +26,17 @@ fn glyph(d: u64) -> u8
     ZERO + d as u8
 }
 
-// How many digits `n` has.
+// How many digits `n` has. What is left of `n` ends the loop: a `for` would count to a limit that is never met.
 fn places(n: u64) -> usize
     ensures { result ≡ length (decimals_decimal n) }
 {
-    let mut k: usize = 1;
+    let mut count = 1;
     let mut rest = n / TEN;
     while 0 < rest {
-        rest = rest / TEN;
-        k += 1;
+        rest /= TEN;
+        count += 1;
     }
-    k
+    count
 }
 
 // Whether `size` bytes are too few for the digits of `n`. They are counted only where their number can matter.
@@ -50,7 +50,8 @@ fn too_few(size: usize, n: u64) -> bool
 }
 
 // Writes the digits of `n` as the last bytes of `scratch`, where they fit, and answers where they begin; the length of
-// `scratch` where they do not.
+// `scratch` where they do not. The number ends the loop and not the scratch: a `for` over its places would want an answer after it
+// that is never given.
 pub fn write_last(n: u64, scratch: &mut [u8]) -> usize
     ensures { (result ≡ length scratch.old - length (shown n (length scratch.old))) × (scratch.new ≡ lastly n scratch.old) }
 {
@@ -80,12 +81,10 @@ pub fn count_up(n: u64, scratch: &mut [u8], first: usize) -> usize
         scratch[LAST] += 1;
         return first;
     }
-    if first < LAST {
-        if scratch[TENS] < NINE {
-            scratch[TENS] += 1;
-            scratch[LAST] = ZERO;
-            return first;
-        }
+    if first < LAST && scratch[TENS] < NINE {
+        scratch[TENS] += 1;
+        scratch[LAST] = ZERO;
+        return first;
     }
     write_last(n + 1, scratch)
 }

@@ -5,4 +5,4 @@ mod decimals;
 mod words;
 
 pub use decimals::{MOST_DIGITS, count_up, decimal, write_last};
-pub use words::{Read, before_last, next_number, next_short, next_word, parts};
+pub use words::{Word, before_last, next_number, next_short, next_word, parts};

@@ -1,32 +1,17 @@
 -- Laws of reading words into lent memory. Assumes nothing.
-use Rattle.std.proofs.Common.{◌≡◌, ℕ, suc, ◌+◌, ◌-◌, ◌*◌, ◌%◌, ◌^◌, ◌<◌, ◌≤◌, min, max, true, List, [], ◌∷◌, ◌++◌, map, length, get_or, take, drop, set, sym, refl, ap, ◌∙◌, subst, ⊎_elim, append_assoc, append-nil, add-one, arith, length-append, length-drop, length-set, length-take-le, drop-cons, take-suc, take-suc-set, take_at, drop_at, le-ltb, lt-ltb}
+use Rattle.std.proofs.Common.{◌≡◌, ℕ, suc, ◌+◌, ◌-◌, ◌*◌, ◌%◌, ◌^◌, ◌<◌, ◌≤◌, min, max, true, Result, Ok, Err, List, [], ◌∷◌, ◌++◌, map, length, get_or, take, drop, set, sym, refl, ap, ◌∙◌, subst, ⊎_elim, append_assoc, append-nil, add-one, arith, length-append, length-drop, length-set, length-take-le, drop-cons, take-suc, take-suc-set, take_at, drop_at, le-ltb, lt-ltb}
 use mathlib.Core.List.{map-append}
 use Rattle.lists.proofs.Tests.{lt_or_ge}
 use Rattle.text.specs.Words.{Supply, parts, next_word, supply_from}
-use Rattle.text.specs.declared.words.Read as text
+use Rattle.text.specs.declared.words.Word.{Word}
 use Rattle.text.proofs.Letters.{next_is_bit}
 use Rattle.text.proofs.Supplies.{word, refused as ended}
 use Rattle.numbers.specs.Limits.{MOST_ATOMS, ROW_WORDS}
 use Rattle.book.specs.Reading.{section, next as andNext, sections, got, refused}
-use Rattle.text_reader.specs.Reads.{number_of, part_number, byte_of, Bit, BitIn, Took, Ended, WordsTook, WordsRead, SectionTook, SectionRead, BitsTook, BytesTook, BytesRead, StateTook, StateRead, BookTook, BookRead}
+use Rattle.text_reader.specs.Reads.{byte_of, Bit, BitIn, Took, Ended, WordsTook, WordsRead, SectionTook, SectionRead, BitsTook, BytesTook, BytesRead, StateTook, StateRead, BookTook, BookRead}
 use Rattle.text_reader.specs.declared.Part.{Part}
-use Rattle.text_reader.specs.declared.Part.TheVariants.{Words, Refused}
-
-pub number : {r : text.Read} {n : ℕ} → r ≡ text.TheVariants.Refused n → n ≡ number_of r
-unfolding number_of
-number e = rw e
-
-pub no_number : {r : text.Read} {w next : ℕ} → r ≡ text.TheVariants.Word w next → 0 ≡ number_of r
-unfolding number_of
-no_number e = rw e
-
-pub part_refused : {p : Part} {n : ℕ} → p ≡ Refused n → n ≡ part_number p
-unfolding part_number
-part_refused e = rw e
-
-pub part_read : {p : Part} {end next : ℕ} → p ≡ Words end next → 0 ≡ part_number p
-unfolding part_number
-part_read e = rw e
+use Rattle.numbers.specs.declared.Refusal.{Refusal}
+use Rattle.numbers.specs.Refusals.{number_of}
 
 -- ---- one word more
 record Next (ws : List ℕ) (i w : ℕ) (rest : List ℕ) : Type 0 where
@@ -50,22 +35,22 @@ pub take_start : (input : List ℕ) (cursor count : ℕ) → Taking input cursor
 take_start input cursor count = record { low = omega arith; took = record { enough = omega arith; rest = refl } }
 
 module _ {input : List ℕ} {cursor count i from : ℕ} (g : Taking input cursor count i from) where
-  ahead : {w next : ℕ} → next_word input from ≡ text.TheVariants.Word w next → Next (supply_from input cursor).words i w (supply_from input next).words
-  ahead {w} {next} e =
+  ahead : {w : Word} → next_word input from ≡ Ok w → Next (supply_from input cursor).words i w.number (supply_from input w.next).words
+  ahead {w} e =
       let k = word input from e in
-      next_of (supply_from input cursor).words i w (supply_from input next).words (sym (ap (λ (s : Supply). s.words) g.took.rest) ∙ ap (λ (s : Supply). s.words) k.gave)
+      next_of (supply_from input cursor).words i w.number (supply_from input w.next).words (sym (ap (λ (s : Supply). s.words) g.took.rest) ∙ ap (λ (s : Supply). s.words) k.gave)
 
-  pub take_more : {w next : ℕ} → next_word input from ≡ text.TheVariants.Word w next → i < count → Taking input cursor count (i + 1) next
-  take_more {w} {next} e h =
+  pub take_more : {w : Word} → next_word input from ≡ Ok w → i < count → Taking input cursor count (i + 1) w.next
+  take_more {w} e h =
       let k = word input from e in
       let n = ahead e in
-      let z : (supply_from input next).ending ≡ (supply_from input cursor).ending = sym (ap (λ (s : Supply). s.ending) k.gave) ∙ ap (λ (s : Supply). s.ending) g.took.rest in
+      let z : (supply_from input w.next).ending ≡ (supply_from input cursor).ending = sym (ap (λ (s : Supply). s.ending) k.gave) ∙ ap (λ (s : Supply). s.ending) g.took.rest in
       record {
         low = omega arith;
         took = record { enough = omega (arith, n.there); rest = rw (n.left, ← z) };
       }
 
-  pub take_stop : {r : ℕ} → next_word input from ≡ text.TheVariants.Refused r → i < count → Ended input cursor count r
+  pub take_stop : {r : Refusal} → next_word input from ≡ Err r → i < count → Ended input cursor count (number_of r)
   take_stop {r} e h =
       let k = ended input from e in
       let l : drop i (supply_from input cursor).words ≡ [] = sym (ap (λ (s : Supply). s.words) g.took.rest) ∙ ap (λ (s : Supply). s.words) k in
@@ -89,19 +74,19 @@ stand_start input cursor count m at =
     record { taking = take_start input cursor count; size = refl; stand = rw (e, append-nil) }
 
 module _ {input : List ℕ} {cursor count : ℕ} {m₀ : List ℕ} {at : ℕ} {m : List ℕ} {i from : ℕ} (g : Standing input cursor count m₀ at m i from) where
-  pub stand_more : {w next : ℕ} → next_word input from ≡ text.TheVariants.Word w next → i < count → at + count ≤ length m₀ → Standing input cursor count m₀ at (set m (at + i) w) (i + 1) next
+  pub stand_more : {w : Word} → next_word input from ≡ Ok w → i < count → at + count ≤ length m₀ → Standing input cursor count m₀ at (set m (at + i) w.number) (i + 1) w.next
   stand_more {w} e h room =
       let n = ahead g.taking e in
       let k : at + i < length m = omega (arith, g.size) in
       let p : at + (i + 1) ≡ suc (at + i) = omega arith in
       record {
         taking = take_more g.taking e h;
-        size = length-set m (at + i) w ∙ g.size;
-        stand = rw p (take-suc-set m (at + i) w k ∙ rw (g.stand, n.taken, append_assoc));
+        size = length-set m (at + i) w.number ∙ g.size;
+        stand = rw p (take-suc-set m (at + i) w.number k ∙ rw (g.stand, n.taken, append_assoc));
       }
 
-  pub stand_stop : {r n : ℕ} → next_word input from ≡ text.TheVariants.Refused r → i < count → n ≡ r → Ended input cursor count n
-  stand_stop e h f = rw f (take_stop g.taking e h)
+  pub stand_stop : {r : Refusal} → next_word input from ≡ Err r → i < count → Ended input cursor count (number_of r)
+  stand_stop e h = take_stop g.taking e h
 
   pub stand_done : count ≤ i → WordsTook input cursor count m₀ at m (at + count) from
   stand_done h =
@@ -118,18 +103,18 @@ pub turn_start : (input : List ℕ) (cursor count : ℕ) (m : List ℕ) → Turn
 turn_start input cursor count m = record { taking = take_start input cursor count; size = refl; stand = refl }
 
 module _ {input : List ℕ} {cursor count : ℕ} {m₀ m : List ℕ} {i from : ℕ} (g : Turning input cursor count m₀ m i from) where
-  pub turn_more : {w v next : ℕ} → next_word input from ≡ text.TheVariants.Word w next → v ≡ byte_of w → i < count → count ≤ length m₀ → Turning input cursor count m₀ (set m i v) (i + 1) next
+  pub turn_more : {w : Word} {v : ℕ} → next_word input from ≡ Ok w → v ≡ byte_of w.number → i < count → count ≤ length m₀ → Turning input cursor count m₀ (set m i v) (i + 1) w.next
   turn_more {w} {v} e f h room =
       let n = ahead g.taking e in
       let k : i < length m = omega (arith, g.size) in
       record {
         taking = take_more g.taking e h;
         size = length-set m i v ∙ g.size;
-        stand = ap (λ (j : ℕ). take j (set m i v)) (add-one i) ∙ take-suc-set m i v k ∙ rw (g.stand, f, n.taken) (sym (map-append byte_of (take i (supply_from input cursor).words) (w ∷ [])));
+        stand = ap (λ (j : ℕ). take j (set m i v)) (add-one i) ∙ take-suc-set m i v k ∙ rw (g.stand, f, n.taken) (sym (map-append byte_of (take i (supply_from input cursor).words) (w.number ∷ [])));
       }
 
-  pub turn_stop : {r n : ℕ} → next_word input from ≡ text.TheVariants.Refused r → i < count → n ≡ r → Ended input cursor count n
-  turn_stop e h f = rw f (take_stop g.taking e h)
+  pub turn_stop : {r : Refusal} → next_word input from ≡ Err r → i < count → Ended input cursor count (number_of r)
+  turn_stop e h = take_stop g.taking e h
 
   pub turn_done : count ≤ i → BytesTook input cursor count m count from
   turn_done h =
@@ -242,68 +227,68 @@ room_kept h e = rw e h
 
 -- ---- a section
 module _ (input : List ℕ) (cursor limit size : ℕ) where
-  pub section_none : {r n : ℕ} → next_word input cursor ≡ text.TheVariants.Refused r → n ≡ r → section (supply_from input cursor).ending limit size (supply_from input cursor).words ≡ refused n
+  pub section_none : {r : Refusal} → next_word input cursor ≡ Err r → section (supply_from input cursor).ending limit size (supply_from input cursor).words ≡ refused (number_of r)
   unfolding section
-  section_none e f = rw (ended input cursor e, f)
+  section_none e = rw (ended input cursor e)
 
-  module _ {count from : ℕ} (e : next_word input cursor ≡ text.TheVariants.Word count from) where
-    pub section_over : limit < count → section (supply_from input cursor).ending limit size (supply_from input cursor).words ≡ refused 2
+  module _ {count : Word} (e : next_word input cursor ≡ Ok count) where
+    pub section_over : limit < count.number → section (supply_from input cursor).ending limit size (supply_from input cursor).words ≡ refused 2
     unfolding section
-    section_over h = rw ((word input cursor e).gave, lt-ltb limit count h)
+    section_over h = rw ((word input cursor e).gave, lt-ltb limit count.number h)
 
-    pub section_short : {r : ℕ} → count ≤ limit → Ended input from (size * count) r → section (supply_from input cursor).ending limit size (supply_from input cursor).words ≡ refused r
+    pub section_short : {r : ℕ} → count.number ≤ limit → Ended input count.next (size * count.number) r → section (supply_from input cursor).ending limit size (supply_from input cursor).words ≡ refused r
     unfolding section
-    section_short h k = rw ((word input cursor e).gave, le-ltb limit count h, lt-ltb (length (supply_from input from).words) (size * count) k.short, k.ending)
+    section_short h k = rw ((word input cursor e).gave, le-ltb limit count.number h, lt-ltb (length (supply_from input count.next).words) (size * count.number) k.short, k.ending)
 
-    pub section_whole : {next : ℕ} → count ≤ limit → Took input from (size * count) next → section (supply_from input cursor).ending limit size (supply_from input cursor).words ≡ got (take (size * count) (supply_from input from).words) (supply_from input next).words
+    pub section_whole : {next : ℕ} → count.number ≤ limit → Took input count.next (size * count.number) next → section (supply_from input cursor).ending limit size (supply_from input cursor).words ≡ got (take (size * count.number) (supply_from input count.next).words) (supply_from input next).words
     unfolding section
-    section_whole h k = rw ((word input cursor e).gave, le-ltb limit count h, le-ltb (length (supply_from input from).words) (size * count) k.enough, k.rest)
+    section_whole h k = rw ((word input cursor e).gave, le-ltb limit count.number h, le-ltb (length (supply_from input count.next).words) (size * count.number) k.enough, k.rest)
 
-    pub section_on : {next : ℕ} → Took input from (size * count) next → (supply_from input next).ending ≡ (supply_from input cursor).ending
+    pub section_on : {next : ℕ} → Took input count.next (size * count.number) next → (supply_from input next).ending ≡ (supply_from input cursor).ending
     section_on k = rw ((word input cursor e).gave, k.rest)
 
-    pub section_took : {m m' : List ℕ} {at end next : ℕ} → count ≤ limit → at < length m → WordsTook input from (size * count) (set m at count) (at + 1) m' end next → SectionTook input cursor limit size m at m' end next
+    pub section_took : {m m' : List ℕ} {at end next : ℕ} → count.number ≤ limit → at < length m → WordsTook input count.next (size * count.number) (set m at count.number) (at + 1) m' end next → SectionTook input cursor limit size m at m' end next
     section_took {m} {m'} {at} h room k =
         record {
-          count = count;
-          items = take (size * count) (supply_from input from).words;
+          count = count.number;
+          items = take (size * count.number) (supply_from input count.next).words;
           read = section_whole h k.took;
           ending = section_on k.took;
           few = h;
-          counted = length-take-le (size * count) (supply_from input from).words k.took.enough;
+          counted = length-take-le (size * count.number) (supply_from input count.next).words k.took.enough;
           place = k.place;
-          stand = k.stand ∙ rw (add-one, take-suc-set m at count room, append_assoc);
+          stand = k.stand ∙ rw (add-one, take-suc-set m at count.number room, append_assoc);
         }
 
 -- ---- a state
-module _ (input : List ℕ) (cursor : ℕ) {count from : ℕ} (e : next_word input cursor ≡ text.TheVariants.Word count from) (few : count ≤ MOST_ATOMS) where
-  one : 1 * count ≡ count
+module _ (input : List ℕ) (cursor : ℕ) {count : Word} (e : next_word input cursor ≡ Ok count) (few : count.number ≤ MOST_ATOMS) where
+  one : 1 * count.number ≡ count.number
   one = omega arith
 
-  pub state_took : {m' : List ℕ} {end next : ℕ} → BytesTook input from count m' end next → StateTook input cursor m' end next
+  pub state_took : {m' : List ℕ} {end next : ℕ} → BytesTook input count.next count.number m' end next → StateTook input cursor m' end next
   state_took {m'} {end} {next} k =
-      let t : Took input from (1 * count) next = rw one k.took in
+      let t : Took input count.next (1 * count.number) next = rw one k.took in
       record {
-        words = take count (supply_from input from).words;
+        words = take count.number (supply_from input count.next).words;
         read = section_whole input cursor MOST_ATOMS 1 e few t ∙ rw one;
         ending = section_on input cursor MOST_ATOMS 1 e t;
         place = omega (arith, k.place);
         stand = rw k.place k.stand;
       }
 
-  pub state_short : {r : ℕ} → Ended input from count r → section (supply_from input cursor).ending MOST_ATOMS 1 (supply_from input cursor).words ≡ refused r
+  pub state_short : {r : ℕ} → Ended input count.next count.number r → section (supply_from input cursor).ending MOST_ATOMS 1 (supply_from input cursor).words ≡ refused r
   state_short k = section_short input cursor MOST_ATOMS 1 e few (rw one k)
 
 -- ---- by what was read
-pub section_read : (input : List ℕ) (cursor limit size : ℕ) (m : List ℕ) (at : ℕ) (m' : List ℕ) (r : Part) {count from : ℕ} → next_word input cursor ≡ text.TheVariants.Word count from → count ≤ limit → at < length m → WordsRead input from (size * count) (set m at count) (at + 1) m' r → SectionRead input cursor limit size m at m' r
+pub section_read : (input : List ℕ) (cursor limit size : ℕ) (m : List ℕ) (at : ℕ) (m' : List ℕ) (r : Result Part Refusal) {count : Word} → next_word input cursor ≡ Ok count → count.number ≤ limit → at < length m → WordsRead input count.next (size * count.number) (set m at count.number) (at + 1) m' r → SectionRead input cursor limit size m at m' r
 unfolding WordsRead SectionRead
-section_read input cursor limit size m at m' (Words end next) e h room k = section_took input cursor limit size e h room k
-section_read input cursor limit size m at m' (Refused n) e h room k = section_short input cursor limit size e h k
+section_read input cursor limit size m at m' (Ok p) e h room k = section_took input cursor limit size e h room k
+section_read input cursor limit size m at m' (Err n) e h room k = section_short input cursor limit size e h k
 
-pub state_read : (input : List ℕ) (cursor : ℕ) (m' : List ℕ) (r : Part) {count from : ℕ} → next_word input cursor ≡ text.TheVariants.Word count from → count ≤ MOST_ATOMS → BytesRead input from count m' r → StateRead input cursor m' r
+pub state_read : (input : List ℕ) (cursor : ℕ) (m' : List ℕ) (r : Result Part Refusal) {count : Word} → next_word input cursor ≡ Ok count → count.number ≤ MOST_ATOMS → BytesRead input count.next count.number m' r → StateRead input cursor m' r
 unfolding BytesRead StateRead
-state_read input cursor m' (Words end next) e h k = state_took input cursor e h k
-state_read input cursor m' (Refused n) e h k = state_short input cursor e h k
+state_read input cursor m' (Ok p) e h k = state_took input cursor e h k
+state_read input cursor m' (Err n) e h k = state_short input cursor e h k
 
 -- ---- the book
 -- a section that stands in words is read from them again
@@ -313,24 +298,24 @@ section_back limit size count items rest h e =
     let k : size * count ≤ length (items ++ rest) = omega (arith, length-append items rest) in
     rw (le-ltb limit count h, le-ltb (length (items ++ rest)) (size * count) k, take_at items rest (size * count) e, drop_at items rest (size * count) e)
 
-pub section_is : (input : List ℕ) (cursor limit size : ℕ) (m : List ℕ) (at : ℕ) (m' : List ℕ) {r : Part} {end next : ℕ} → SectionRead input cursor limit size m at m' r → r ≡ Words end next → SectionTook input cursor limit size m at m' end next
+pub section_is : (input : List ℕ) (cursor limit size : ℕ) (m : List ℕ) (at : ℕ) (m' : List ℕ) {r : Result Part Refusal} {p : Part} → SectionRead input cursor limit size m at m' r → r ≡ Ok p → SectionTook input cursor limit size m at m' p.end p.next
 unfolding SectionRead
 section_is input cursor limit size m at m' k e = rw e at k
 
-section_not : (input : List ℕ) (cursor limit size : ℕ) (m : List ℕ) (at : ℕ) (m' : List ℕ) {r : Part} {n : ℕ} → SectionRead input cursor limit size m at m' r → r ≡ Refused n → section (supply_from input cursor).ending limit size (supply_from input cursor).words ≡ refused n
+section_not : (input : List ℕ) (cursor limit size : ℕ) (m : List ℕ) (at : ℕ) (m' : List ℕ) {r : Result Part Refusal} {n : Refusal} → SectionRead input cursor limit size m at m' r → r ≡ Err n → section (supply_from input cursor).ending limit size (supply_from input cursor).words ≡ refused (number_of n)
 unfolding SectionRead
 section_not input cursor limit size m at m' k e = rw e at k
 
-book_not : (input m' : List ℕ) {r : Part} {n : ℕ} → r ≡ Refused n → sections (supply_from input 0).ending (supply_from input 0).words ≡ refused n → BookRead input m' r
+book_not : (input m' : List ℕ) {r : Result Part Refusal} {n : Refusal} → r ≡ Err n → sections (supply_from input 0).ending (supply_from input 0).words ≡ refused (number_of n) → BookRead input m' r
 unfolding BookRead
 book_not input m' e k = rw e k
 
-pub no_rows : (input m m₁ : List ℕ) {r : Part} {n : ℕ} → SectionRead input 0 128 ROW_WORDS m 0 m₁ r → r ≡ Refused n → BookRead input m₁ r
+pub no_rows : (input m m₁ : List ℕ) {r : Result Part Refusal} {n : Refusal} → SectionRead input 0 128 ROW_WORDS m 0 m₁ r → r ≡ Err n → BookRead input m₁ r
 unfolding sections andNext
 no_rows input m m₁ k e = book_not input m₁ e (rw (section_not input 0 128 ROW_WORDS m 0 m₁ k e))
 
 module _ {input m m₁ : List ℕ} {a i : ℕ} (rows : SectionTook input 0 128 ROW_WORDS m 0 m₁ a i) where
-  pub no_operands : (m₂ : List ℕ) {r : Part} {n : ℕ} → SectionRead input i 128 1 m₁ a m₂ r → r ≡ Refused n → BookRead input m₂ r
+  pub no_operands : (m₂ : List ℕ) {r : Result Part Refusal} {n : Refusal} → SectionRead input i 128 1 m₁ a m₂ r → r ≡ Err n → BookRead input m₂ r
   unfolding sections andNext
   no_operands m₂ k e =
       let s = rw rows.ending at (section_not input i 128 1 m₁ a m₂ k e) in
@@ -340,7 +325,7 @@ module _ {input m m₁ : List ℕ} {a i : ℕ} (rows : SectionTook input 0 128 R
     second : section (supply_from input 0).ending 128 1 (supply_from input i).words ≡ got operands.items (supply_from input j).words
     second = rw rows.ending at operands.read
 
-    pub no_assumes : (m₃ : List ℕ) {r : Part} {n : ℕ} → SectionRead input j 16 1 m₂ b m₃ r → r ≡ Refused n → BookRead input m₃ r
+    pub no_assumes : (m₃ : List ℕ) {r : Result Part Refusal} {n : Refusal} → SectionRead input j 16 1 m₂ b m₃ r → r ≡ Err n → BookRead input m₃ r
     unfolding sections andNext
     no_assumes m₃ k e =
         let s = rw (operands.ending, rows.ending) at (section_not input j 16 1 m₂ b m₃ k e) in
@@ -350,7 +335,7 @@ module _ {input m m₁ : List ℕ} {a i : ℕ} (rows : SectionTook input 0 128 R
       third : section (supply_from input 0).ending 16 1 (supply_from input j).words ≡ got assumes.items (supply_from input k).words
       third = rw (operands.ending, rows.ending) at assumes.read
 
-      no_guarantees : (m₄ : List ℕ) (n : ℕ) → SectionRead input k 16 1 m₃ c m₄ (Refused n) → BookRead input m₄ (Refused n)
+      no_guarantees : (m₄ : List ℕ) (n : Refusal) → SectionRead input k 16 1 m₃ c m₄ (Err n) → BookRead input m₄ (Err n)
       unfolding sections andNext
       no_guarantees m₄ n q =
           let s = rw (assumes.ending, operands.ending, rows.ending) at (section_not input k 16 1 m₃ c m₄ q refl) in
@@ -395,7 +380,7 @@ module _ {input m m₁ : List ℕ} {a i : ℕ} (rows : SectionTook input 0 128 R
               );
             }
 
-      pub book_read : (m₄ : List ℕ) (r : Part) → 676 ≤ length m₄ → SectionRead input k 16 1 m₃ c m₄ r → BookRead input m₄ r
+      pub book_read : (m₄ : List ℕ) (r : Result Part Refusal) → 676 ≤ length m₄ → SectionRead input k 16 1 m₃ c m₄ r → BookRead input m₄ r
       unfolding SectionRead BookRead
-      book_read m₄ (Words end next) room q = book_took q room
-      book_read m₄ (Refused n) room q = no_guarantees m₄ n q
+      book_read m₄ (Ok p) room q = book_took q room
+      book_read m₄ (Err n) room q = no_guarantees m₄ n q

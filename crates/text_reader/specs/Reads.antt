@@ -1,21 +1,11 @@
 -- Steps of reading a text's words into lent memory. No public contract cites these. Definitions only.
-use Rattle.std.specs.Prelude.{◌≡◌, ℕ, ◌+◌, ◌-◌, ◌*◌, ◌<◌, ◌≤◌, true, cond, List, [], ◌∷◌, ◌++◌, map, length, take, drop, ◌==◌, nat_lt}
+use Rattle.std.specs.Prelude.{◌≡◌, ℕ, Result, Ok, Err, ◌+◌, ◌-◌, ◌*◌, ◌<◌, ◌≤◌, true, cond, List, [], ◌∷◌, ◌++◌, map, length, take, drop, ◌==◌, nat_lt}
 use Rattle.text.specs.Words.{parts, Supply, supply_from}
-use Rattle.text.specs.declared.words.Read as text
 use Rattle.numbers.specs.Limits.{MOST_ATOMS}
 use Rattle.book.specs.Reading.{got, refused, section, Sections, sections}
 use Rattle.text_reader.specs.declared.Part.{Part}
-use Rattle.text_reader.specs.declared.Part.TheVariants.{Words, Refused}
-use Rattle.numbers.specs.Refusals.{ACCEPTED, WRONG_LENGTH, BAD_WORD}
-
--- the number that ended a reading; 0 where something was read
-unfoldable pub number_of : text.Read → ℕ
-number_of (text.TheVariants.Word w next) = 0
-number_of (text.TheVariants.Refused n) = n
-
-unfoldable pub part_number : Part → ℕ
-part_number (Words end next) = 0
-part_number (Refused n) = n
+use Rattle.numbers.specs.declared.Refusal.{Refusal}
+use Rattle.numbers.specs.Refusals.{number_of, ACCEPTED, WRONG_LENGTH, BAD_WORD}
 
 -- what is left of a supply past so many words
 abbrev pub past : ℕ → Supply → Supply
@@ -37,9 +27,9 @@ pub record WordsTook (input : List ℕ) (cursor count : ℕ) (m : List ℕ) (at 
   pub place : end ≡ at + count
   pub stand : take end m' ≡ take at m ++ take count (supply_from input cursor).words
 
-unfoldable pub WordsRead : List ℕ → ℕ → ℕ → List ℕ → ℕ → List ℕ → Part → Type 0
-WordsRead input cursor count m at m' (Words end next) = WordsTook input cursor count m at m' end next
-WordsRead input cursor count m at m' (Refused number) = Ended input cursor count number
+unfoldable pub WordsRead : List ℕ → ℕ → ℕ → List ℕ → ℕ → List ℕ → Result Part Refusal → Type 0
+WordsRead input cursor count m at m' (Ok part) = WordsTook input cursor count m at m' part.end part.next
+WordsRead input cursor count m at m' (Err refusal) = Ended input cursor count (number_of refusal)
 
 -- a section was read: its count and its items stand in a memory, past what stood there
 pub record SectionTook (input : List ℕ) (cursor limit size : ℕ) (m : List ℕ) (at : ℕ) (m' : List ℕ) (end next : ℕ) : Type 0 where
@@ -52,10 +42,10 @@ pub record SectionTook (input : List ℕ) (cursor limit size : ℕ) (m : List �
   pub place : end ≡ at + 1 + size * count
   pub stand : take end m' ≡ take at m ++ count ∷ items
 
-unfoldable pub SectionRead : List ℕ → ℕ → ℕ → ℕ → List ℕ → ℕ → List ℕ → Part → Type 0
-SectionRead input cursor limit size m at m' (Words end next) = SectionTook input cursor limit size m at m' end next
-SectionRead input cursor limit size m at m' (Refused number) =
-    section (supply_from input cursor).ending limit size (supply_from input cursor).words ≡ refused number
+unfoldable pub SectionRead : List ℕ → ℕ → ℕ → ℕ → List ℕ → ℕ → List ℕ → Result Part Refusal → Type 0
+SectionRead input cursor limit size m at m' (Ok part) = SectionTook input cursor limit size m at m' part.end part.next
+SectionRead input cursor limit size m at m' (Err refusal) =
+    section (supply_from input cursor).ending limit size (supply_from input cursor).words ≡ refused (number_of refusal)
 
 -- the four sections were read: they stand in a memory as a book handed over in words
 pub record BookTook (input m' : List ℕ) (end next : ℕ) : Type 0 where
@@ -65,9 +55,9 @@ pub record BookTook (input m' : List ℕ) (end next : ℕ) : Type 0 where
   pub place : end ≤ length m'
   pub stand : sections WRONG_LENGTH (take end m') ≡ got given []
 
-unfoldable pub BookRead : List ℕ → List ℕ → Part → Type 0
-BookRead input m' (Words end next) = BookTook input m' end next
-BookRead input m' (Refused number) = sections (supply_from input 0).ending (supply_from input 0).words ≡ refused number
+unfoldable pub BookRead : List ℕ → List ℕ → Result Part Refusal → Type 0
+BookRead input m' (Ok part) = BookTook input m' part.end part.next
+BookRead input m' (Err refusal) = sections (supply_from input 0).ending (supply_from input 0).words ≡ refused (number_of refusal)
 
 -- a state's word as a byte: a word over 1 as 2, which is refused as any other is
 abbrev pub byte_of : ℕ → ℕ
@@ -96,9 +86,9 @@ pub record BytesTook (input : List ℕ) (cursor count : ℕ) (m' : List ℕ) (en
   pub place : end ≡ count
   pub stand : take count m' ≡ map byte_of (take count (supply_from input cursor).words)
 
-unfoldable pub BytesRead : List ℕ → ℕ → ℕ → List ℕ → Part → Type 0
-BytesRead input cursor count m' (Words end next) = BytesTook input cursor count m' end next
-BytesRead input cursor count m' (Refused number) = Ended input cursor count number
+unfoldable pub BytesRead : List ℕ → ℕ → ℕ → List ℕ → Result Part Refusal → Type 0
+BytesRead input cursor count m' (Ok part) = BytesTook input cursor count m' part.end part.next
+BytesRead input cursor count m' (Err refusal) = Ended input cursor count (number_of refusal)
 
 -- a state was read: its words stand in a memory, as bytes
 pub record StateTook (input : List ℕ) (cursor : ℕ) (m' : List ℕ) (end next : ℕ) : Type 0 where
@@ -108,9 +98,9 @@ pub record StateTook (input : List ℕ) (cursor : ℕ) (m' : List ℕ) (end next
   pub place : end ≤ MOST_ATOMS
   pub stand : take end m' ≡ map byte_of words
 
-unfoldable pub StateRead : List ℕ → ℕ → List ℕ → Part → Type 0
-StateRead input cursor m' (Words end next) = StateTook input cursor m' end next
-StateRead input cursor m' (Refused number) = section (supply_from input cursor).ending MOST_ATOMS 1 (supply_from input cursor).words ≡ refused number
+unfoldable pub StateRead : List ℕ → ℕ → List ℕ → Result Part Refusal → Type 0
+StateRead input cursor m' (Ok part) = StateTook input cursor m' part.end part.next
+StateRead input cursor m' (Err refusal) = section (supply_from input cursor).ending MOST_ATOMS 1 (supply_from input cursor).words ≡ refused (number_of refusal)
 
 -- what follows what takes up all of a text: nothing, or a word too many, or a bad one
 unfoldable pub left_in : List ℕ → ℕ → ℕ

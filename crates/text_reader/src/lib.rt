@@ -4,13 +4,12 @@
 ghost use Rattle.std.specs.Prelude.{◌≡◌, ◌+◌, ◌*◌, ◌%◌, ◌<◌, ◌≤◌, min, max, true, length, slice_index};
 ghost use Rattle.numbers.specs.Limits.{MOST_ATOMS};
 ghost use Rattle.text.specs.Words.{parts, supply_from};
-ghost use Rattle.text_reader.specs.Reads.{number_of, part_number, left_over, byte_of, BitIn, WordsRead, SectionRead, BookRead, BitsTook, BytesRead, StateRead};
+ghost use Rattle.numbers.specs.Refusals.{refused_with};
+ghost use Rattle.text_reader.specs.Reads.{left_over, byte_of, BitIn, WordsRead, SectionRead, BookRead, BitsTook, BytesRead, StateRead};
 
 use numbers::{
-    ACCEPTED, BAD_WORD, MOST_ASSUMES, MOST_ATOMS, MOST_GUARANTEES, MOST_OPERANDS, MOST_ROWS,
-    PAST_LIMIT, ROW_WORDS, WRONG_LENGTH,
+    MOST_ASSUMES, MOST_ATOMS, MOST_GUARANTEES, MOST_OPERANDS, MOST_ROWS, ROW_WORDS, Refusal,
 };
-use text::Read;
 
 // All sections at their limits, each after its count.
 pub const BOOK_WORDS: usize = 1
@@ -40,50 +39,34 @@ const BIT_BYTES: usize = 2;
 // So many words the compiler takes at a time. Of a state that has fewer, one word after the other is read sooner.
 const NARROW: usize = 16;
 
-// What was read: the words stand in the memory up to a place, and the next word is looked for from another in the text; or
-// the number that ends the reading.
-#[derive(Clone, Copy)]
-pub enum Part {
-    Words(usize, usize),
-    Refused(u64),
-}
-
-// The number that ended a reading, of a word and of a part.
-pub fn number_of(r: Read) -> u64
-    ensures { result ≡ number_of r }
-{
-    match r {
-        Read::Word(_, _) => 0,
-        Read::Refused(n) => n,
-    }
-}
-
-pub fn part_number(p: Part) -> u64
-    ensures { result ≡ part_number p }
-{
-    match p {
-        Part::Words(_, _) => 0,
-        Part::Refused(n) => n,
-    }
+// What was read: the words stand in the memory up to `end`, and the next word is looked for from `next` in the text.
+#[derive(Clone, Copy, Debug, PartialEq, Eq)]
+pub struct Part {
+    pub end: usize,
+    pub next: usize,
 }
 
 // The next `count` words, into `words` from `at` on.
-pub fn words_into(input: &[u8], cursor: usize, count: usize, words: &mut [u64], at: usize) -> Part
+pub fn words_into(
+    input: &[u8],
+    cursor: usize,
+    count: usize,
+    words: &mut [u64],
+    at: usize,
+) -> Result<Part, Refusal>
     requires { at + count ≤ length words.old }
     ensures { WordsRead input.now cursor count words.old at words.new result }
 {
-    let mut from = cursor;
-    let mut i = 0;
-    while i < count {
-        let r = text::next_word(input, from);
-        let Read::Word(w, next) = r else {
-            return Part::Refused(number_of(r));
-        };
-        words[at + i] = w;
-        from = next;
-        i += 1;
+    let mut next = cursor;
+    for i in 0..count {
+        let word = text::next_word(input, next)?;
+        words[at + i] = word.number;
+        next = word.next;
     }
-    Part::Words(at + count, from)
+    Ok(Part {
+        end: at + count,
+        next,
+    })
 }
 
 // A section of up to `limit` items of `size` words, into `words` from `at` on: its count, and then its items.
@@ -94,60 +77,39 @@ fn section(
     size: usize,
     words: &mut [u64],
     at: usize,
-) -> Part
+) -> Result<Part, Refusal>
     requires { at + 1 + size * limit ≤ length words.old }
     ensures { SectionRead input.now cursor limit size words.old at words.new result }
 {
-    let r = text::next_word(input, cursor);
-    let Read::Word(count, from) = r else {
-        return Part::Refused(number_of(r));
-    };
-    if count > limit as u64 {
-        return Part::Refused(PAST_LIMIT);
+    let count = text::next_word(input, cursor)?;
+    if count.number > limit as u64 {
+        return Err(Refusal::PastLimit);
     }
-    words[at] = count;
-    words_into(input, from, size * count as usize, words, at + 1)
+    words[at] = count.number;
+    words_into(
+        input,
+        count.next,
+        size * count.number as usize,
+        words,
+        at + 1,
+    )
 }
 
 // The book that a text begins with, as the words that loading takes.
-pub fn book(input: &[u8], words: &mut [u64; BOOK_WORDS]) -> Part
+pub fn book(input: &[u8], words: &mut [u64; BOOK_WORDS]) -> Result<Part, Refusal>
     ensures { BookRead input.now words.new result }
 {
-    let rows = section(input, 0, MOST_ROWS, ROW_WORDS, words, 0);
-    let Part::Words(a, i) = rows else {
-        return rows;
-    };
-    let operands = section(input, i, MOST_OPERANDS, 1, words, a);
-    let Part::Words(b, j) = operands else {
-        return operands;
-    };
-    let assumes = section(input, j, MOST_ASSUMES, 1, words, b);
-    let Part::Words(c, k) = assumes else {
-        return assumes;
-    };
-    section(input, k, MOST_GUARANTEES, 1, words, c)
+    let rows = section(input, 0, MOST_ROWS, ROW_WORDS, words, 0)?;
+    let operands = section(input, rows.next, MOST_OPERANDS, 1, words, rows.end)?;
+    let assumes = section(input, operands.next, MOST_ASSUMES, 1, words, operands.end)?;
+    section(input, assumes.next, MOST_GUARANTEES, 1, words, assumes.end)
 }
 
 // A state's word as a byte. Any word over 1 is refused, so that it need not be kept as it is.
 fn byte_of(w: u64) -> u8
     ensures { result ≡ byte_of w }
 {
-    if 1 < w {
-        return 2;
-    }
-    w as u8
-}
-
-fn lesser(a: u16, b: u16) -> u16
-    ensures { result ≡ min a b }
-{
-    if a < b { a } else { b }
-}
-
-fn greater(a: u16, b: u16) -> u16
-    ensures { result ≡ max a b }
-{
-    if a < b { b } else { a }
+    w.min(2) as u8
 }
 
 // Two bytes as one number, which the compiler then reads at once. Not part of `bit_in`, where it would take ZERO from the lower byte alone
@@ -155,7 +117,7 @@ fn greater(a: u16, b: u16) -> u16
 fn pair(low: u8, high: u8) -> u16
     ensures { result ≡ low + 256 * high }
 {
-    low as u16 + HIGH * high as u16
+    u16::from(low) + HIGH * u16::from(high)
 }
 
 // The lower byte of a number.
@@ -171,11 +133,8 @@ fn low_byte(n: u16) -> u8
 fn bit_in(both: u16) -> u16
     ensures { BitIn both result }
 {
-    let near = lesser(std::num::wrapping_sub_u16(both, ZERO), SPACED + NO_BIT);
-    lesser(
-        std::num::wrapping_sub_u16(near, FED),
-        std::num::wrapping_sub_u16(near, SPACED),
-    )
+    let near = std::num::wrapping_sub_u16(both, ZERO).min(SPACED + NO_BIT);
+    std::num::wrapping_sub_u16(near, FED).min(std::num::wrapping_sub_u16(near, SPACED))
 }
 
 // The `count` words from the parting byte at `cursor` on as a state's bytes, if each is 0 or 1 between two such bytes: `count`, or 0
@@ -185,13 +144,11 @@ fn bits_into(input: &[u8], cursor: usize, count: usize, bytes: &mut [u8]) -> usi
     ensures { BitsTook input.now cursor count bytes.new result }
 {
     let mut most: u16 = 0;
-    let mut i = 0;
-    while i < count {
+    for i in 0..count {
         let from = cursor + BIT_BYTES * i;
-        let b = bit_in(pair(input[from + 1], input[from + BIT_BYTES]));
-        bytes[i] = low_byte(b);
-        most = greater(most, b);
-        i += 1;
+        let bit = bit_in(pair(input[from + 1], input[from + BIT_BYTES]));
+        bytes[i] = low_byte(bit);
+        most = most.max(bit);
     }
     if most < NO_BIT {
         return count;
@@ -218,49 +175,39 @@ fn bits(input: &[u8], cursor: usize, count: usize, bytes: &mut [u8]) -> usize
 }
 
 // The next `count` words, as a state's bytes.
-fn bytes_into(input: &[u8], cursor: usize, count: usize, bytes: &mut [u8]) -> Part
+fn bytes_into(input: &[u8], cursor: usize, count: usize, bytes: &mut [u8]) -> Result<Part, Refusal>
     requires { count ≤ length bytes.old }
     ensures { BytesRead input.now cursor count bytes.new result }
 {
-    let mut i = bits(input, cursor, count, bytes);
-    let mut from = cursor + BIT_BYTES * i;
-    while i < count {
-        let r = text::next_short(input, from);
-        let Read::Word(w, next) = r else {
-            return Part::Refused(number_of(r));
-        };
-        bytes[i] = byte_of(w);
-        from = next;
-        i += 1;
+    let told = bits(input, cursor, count, bytes);
+    let mut next = cursor + BIT_BYTES * told;
+    for i in told..count {
+        let word = text::next_short(input, next)?;
+        bytes[i] = byte_of(word.number);
+        next = word.next;
     }
-    Part::Words(count, from)
+    Ok(Part { end: count, next })
 }
 
 // A state, after its width: so many bytes at the start of `bytes`.
-pub fn state(input: &[u8], cursor: usize, bytes: &mut [u8]) -> Part
+pub fn state(input: &[u8], cursor: usize, bytes: &mut [u8]) -> Result<Part, Refusal>
     requires { MOST_ATOMS ≤ length bytes.old }
     ensures { StateRead input.now cursor bytes.new result }
 {
-    let r = text::next_short(input, cursor);
-    let Read::Word(width, from) = r else {
-        return Part::Refused(number_of(r));
-    };
-    if width > MOST_ATOMS as u64 {
-        return Part::Refused(PAST_LIMIT);
+    let width = text::next_short(input, cursor)?;
+    if width.number > MOST_ATOMS as u64 {
+        return Err(Refusal::PastLimit);
     }
-    bytes_into(input, from, width as usize, bytes)
+    bytes_into(input, width.next, width.number as usize, bytes)
 }
 
-// What a text is refused with of which nothing is wanted from `cursor` on: 0 where nothing follows.
-pub fn left_over(input: &[u8], cursor: usize) -> u64
-    ensures { result ≡ left_over (supply_from input.now cursor) }
+// What a text is refused with of which nothing is wanted from `cursor` on.
+pub fn left_over(input: &[u8], cursor: usize) -> Result<(), Refusal>
+    ensures { refused_with result ≡ left_over (supply_from input.now cursor) }
 {
-    let r = text::next_word(input, cursor);
-    let Read::Refused(n) = r else {
-        return WRONG_LENGTH;
-    };
-    if n == BAD_WORD {
-        return BAD_WORD;
+    match text::next_word(input, cursor) {
+        Ok(_) => Err(Refusal::WrongLength),
+        Err(refusal) if refusal == Refusal::BadWord => Err(refusal),
+        Err(_) => Ok(()),
     }
-    ACCEPTED
 }

@@ -1,35 +1,34 @@
 // Shows what the reader of words gives and what the writer of numbers leaves, for texts and scratches at the limits.
 #![tactic(auto)]
 
-use numbers::MAX;
+use numbers::{MAX, Refusal};
 use show::number;
-use text::Read;
+use text::Word;
 
-fn show_word(rt: &(impl Print + Eprint), w: u64, next: usize) {
-    number(rt, w);
+fn show_word(rt: &(impl Print + Eprint), word: Word) {
+    number(rt, word.number);
     show::text(rt, b" to ");
-    number(rt, next as u64);
+    number(rt, word.next as u64);
     show::text(rt, b", ");
 }
 
-fn show_end(rt: &(impl Print + Eprint), refusal: u64) {
+fn show_end(rt: &(impl Print + Eprint), refusal: Refusal) {
     show::text(rt, b"ends ");
-    number(rt, refusal);
+    number(rt, refusal.number());
     show::text(rt, b"\n");
 }
 
-// Each word with the place after it, and then the number that ends the reading.
+// Each word with the place after it, and then the number that ends the reading, which alone ends the loop.
 fn show_words(rt: &(impl Print + Eprint), input: &[u8]) {
     let mut at = 0;
     loop {
-        let r = text::next_word(input, at);
-        match r {
-            Read::Word(w, next) => {
-                show_word(rt, w, next);
-                at = next;
+        match text::next_word(input, at) {
+            Ok(word) => {
+                show_word(rt, word);
+                at = word.next;
             }
-            Read::Refused(number) => {
-                show_end(rt, number);
+            Err(refusal) => {
+                show_end(rt, refusal);
                 return;
             }
         }

@@ -11,12 +11,13 @@ use borrow.Author.Tests.{lt-ltb, le-ltb, ltb-false}
 use Rattle.numbers.specs.Limits.{LONGEST_INPUT, MOST_ROWS, MOST_OPERANDS, MOST_ASSUMES, MOST_GUARANTEES, ROW_WORDS}
 use Rattle.numbers.specs.Refusals.{PAST_LIMIT}
 use Rattle.text.specs.Words.{next_word, supply_from}
-use Rattle.text.specs.declared.words.Read as text
+use Rattle.text.specs.declared.words.Word.{Word}
+use Rattle.std.specs.Prelude.{Result, Ok, Err}
+use Rattle.numbers.specs.declared.Refusal.{Refusal}
 use Rattle.text.proofs.Supplies.{word, refused as ended}
 use Rattle.text.proofs.Few.{few_words}
 use Rattle.text_reader.specs.Reads.{Ended, WordsTook, WordsRead}
 use Rattle.text_reader.specs.declared.Part.{Part}
-use Rattle.text_reader.specs.declared.Part.TheVariants.{Words, Refused}
 use Rattle.book.specs.Reading.{Read, got, refused, section, next, Sections, sections}
 use Rattle.tidied.specs.Answers.{STEP_WORDS, steps_in, words_in}
 use Rattle.tidied.specs.Private.{STEPS_ROOM, StepsTook, StepsRead}
@@ -26,33 +27,33 @@ module _ (input : List ℕ) (cursor : ℕ) where
   abbrev supplied : Read (List ℕ)
   supplied = steps_in (supply_from input cursor).ending (supply_from input cursor).words
 
-  pub steps_none : {r n : ℕ} (m : List ℕ) → next_word input cursor ≡ text.TheVariants.Refused r → n ≡ r → StepsRead input cursor m (Refused n)
+  pub steps_none : {r : Refusal} (m : List ℕ) → next_word input cursor ≡ Err r → StepsRead input cursor m (Err r)
   unfolding StepsRead steps_in
-  steps_none m e f = rw (ended input cursor e, f)
+  steps_none m e = rw (ended input cursor e)
 
-  module _ {count from : ℕ} (e : next_word input cursor ≡ text.TheVariants.Word count from) where
-    steps_short : {r n : ℕ} → n ≤ STEP_WORDS * count → Ended input from n r → supplied ≡ refused r
+  module _ {count : Word} (e : next_word input cursor ≡ Ok count) where
+    steps_short : {r n : ℕ} → n ≤ STEP_WORDS * count.number → Ended input count.next n r → supplied ≡ refused r
     unfolding steps_in
-    steps_short h k = rw ((word input cursor e).gave, lt-ltb (length (supply_from input from).words) (STEP_WORDS * count) (omega (arith, k.short, h)), k.ending)
+    steps_short h k = rw ((word input cursor e).gave, lt-ltb (length (supply_from input count.next).words) (STEP_WORDS * count.number) (omega (arith, k.short, h)), k.ending)
 
-    steps_whole : {m m' : List ℕ} {end next : ℕ} → STEP_WORDS * count ≤ length m' → WordsTook input from (STEP_WORDS * count) m 0 m' end next → StepsTook input cursor m' end next
+    steps_whole : {m m' : List ℕ} {end next : ℕ} → STEP_WORDS * count.number ≤ length m' → WordsTook input count.next (STEP_WORDS * count.number) m 0 m' end next → StepsTook input cursor m' end next
     unfolding steps_in
     steps_whole h k = record {
-      read = rw ((word input cursor e).gave, le-ltb (length (supply_from input from).words) (STEP_WORDS * count) k.took.enough, k.took.rest, k.stand);
+      read = rw ((word input cursor e).gave, le-ltb (length (supply_from input count.next).words) (STEP_WORDS * count.number) k.took.enough, k.took.rest, k.stand);
       ending = rw ((word input cursor e).gave, k.took.rest);
       inside = omega (arith, k.place, h);
     }
 
-    pub steps_read : (m m' : List ℕ) (r : Part) → STEP_WORDS * count ≤ length m' → WordsRead input from (STEP_WORDS * count) m 0 m' r → StepsRead input cursor m' r
+    pub steps_read : (m m' : List ℕ) (r : Result Part Refusal) → STEP_WORDS * count.number ≤ length m' → WordsRead input count.next (STEP_WORDS * count.number) m 0 m' r → StepsRead input cursor m' r
     unfolding WordsRead StepsRead
-    steps_read m m' (Words end next) h k = steps_whole h k
-    steps_read m m' (Refused n) h k = steps_short (omega arith) k
+    steps_read m m' (Ok part) h k = steps_whole h k
+    steps_read m m' (Err r) h k = steps_short (omega arith) k
 
     -- more than any input holds
-    pub steps_over : (m m' : List ℕ) (r : Part) → length input ≤ LONGEST_INPUT → STEPS_ROOM ≤ STEP_WORDS * count → WordsRead input from STEPS_ROOM m 0 m' r → StepsRead input cursor m' r
+    pub steps_over : (m m' : List ℕ) (r : Result Part Refusal) → length input ≤ LONGEST_INPUT → STEPS_ROOM ≤ STEP_WORDS * count.number → WordsRead input count.next STEPS_ROOM m 0 m' r → StepsRead input cursor m' r
     unfolding WordsRead StepsRead
-    steps_over m m' (Words end next) l h k = absurd (omega (arith, k.took.enough, few_words (drop from input), length-drop from input))
-    steps_over m m' (Refused n) l h k = steps_short h k
+    steps_over m m' (Ok part) l h k = absurd (omega (arith, k.took.enough, few_words (drop count.next input), length-drop count.next input))
+    steps_over m m' (Err r) l h k = steps_short h k
 
 -- ---- the words of sections
 section_words : (limit size : ℕ) (ws items rest : List ℕ) → section 1 limit size ws ≡ got items rest → (n : ℕ) × (length items ≡ size * n) × (ws ≡ n ∷ items ++ rest) × (n ≤ limit)

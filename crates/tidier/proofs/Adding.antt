@@ -11,7 +11,7 @@ use Rattle.numbers.specs.Limits.{MOST_ROWS}
 use Rattle.trees.specs.Forest.{head_of, Forest, one, ◌then◌, count, size}
 use Rattle.trees.specs.Building.{Rooms, RoomFor, Emitted}
 use Rattle.trees.specs.declared.rows.RowWords.{RowWords}
-use Rattle.trees.specs.declared.Word.TheVariants.{Not}
+use Rattle.book.specs.declared.kind.Kind.TheVariants.{Not}
 use Rattle.trees.proofs.Numbered.{roots_length}
 use Rattle.trees.proofs.Built.{count_then, size_more, count_more}
 use Rattle.tidying.specs.declared.Form.{Form}

@@ -15,7 +15,7 @@ use Rattle.pmtl.specs.Book.{Rows, Book}
 use Rattle.book.specs.Reading.{Sections}
 use Rattle.book.specs.Rows.{count_of}
 use Rattle.book.specs.Judging.{kind_in, arg_in, Loaded, book_in, loaded}
-use Rattle.book.specs.Placing.{parts_of, Placed}
+use Rattle.book.specs.Placing.{parts_of, Placed, Counted}
 use Rattle.book.proofs.Placing.{accepted_book}
 use Rattle.trees.specs.Forest.{Forest, none, ◌then◌, count, size, roots, entries}
 use Rattle.trees.specs.Building.{all_rows, all_operands, Rooms}
@@ -33,6 +33,10 @@ use Rattle.tidier.proofs.Adding.{kept_none, kept_then, layable_after}
 use Rattle.tidier.proofs.Walked.{map_at, good_rows, Target, target_is}
 
 -- ---- a book by its places
+-- the places of an accepted book
+pub placed_as : {words : List ℕ} {n o a g : ℕ} → (loaded words).number ≡ ACCEPTED → Counted words n o a g → Placed words ACCEPTED n o a g
+placed_as ok c = record { number_is = sym ok; counted = λ _. c; none = λ z. absurd (z refl) }
+
 module _ {words : List ℕ} {number n o a g : ℕ} (p : Placed words number n o a g) (ok : number ≡ ACCEPTED) where
   abbrev parts : Sections
   parts = parts_of words n o a g

@@ -13,11 +13,11 @@ use Rattle.pmtl.specs.Book.{Row, Rows}
 use Rattle.pmtl.specs.Book.Row.{neg}
 use Rattle.book.specs.Rows.{count_of}
 use Rattle.book.specs.Judging.{kind_in, arg_in, start_in}
-use Rattle.trees.specs.Building.{kind_of}
+use Rattle.book.specs.Kinds.{word_of_kind}
 use Rattle.trees.specs.Books.{parts_in}
 use Rattle.trees.specs.Walking.{Held, HeldRow, Walk, rows_said}
-use Rattle.trees.specs.declared.Word.{Word}
-use Rattle.trees.specs.declared.Word.TheVariants.{And, Or, Not, Implies, Hist}
+use Rattle.book.specs.declared.kind.Kind.{Kind}
+use Rattle.book.specs.declared.kind.Kind.TheVariants.{And, Or, Not, Implies, Historically}
 use Rattle.trees.proofs.Renumbered.{kind_is}
 use Rattle.trees.proofs.Walking.{all, part_walk, said_is, said_ordered, said_long, said_count, said_part}
 use Rattle.tidying.specs.declared.Form.{Form}
@@ -41,9 +41,9 @@ module _ {rows operands : List ℕ} {row : ℕ} (x : HeldAt rows operands row) w
   row_there : row < length b
   row_there = omega (arith, said_long x.held, x.inside)
 
-  begins_said : (w : Word) → begins w b row ≡ eqb (kind_in rows row) (kind_of w)
+  begins_said : (w : Kind) → begins w b row ≡ eqb (kind_in rows row) (word_of_kind w)
   unfolding begins
-  begins_said w = ap (λ (k : ℕ). eqb k (kind_of w)) (rw (said_is x.held) (kind_is (all x.held) x.held.ok row x.inside))
+  begins_said w = ap (λ (k : ℕ). eqb k (word_of_kind w)) (rw (said_is x.held) (kind_is (all x.held) x.held.ok row x.inside))
 
   -- its one operand
   pub first_walk : length (parts_at b row) ≡ 1 → Walk rows operands row 1
@@ -106,7 +106,7 @@ module _ {rows operands : List ℕ} {row : ℕ} (x : HeldAt rows operands row) w
 
   pub history_is : {z : Bool} → z ≡ eqb (kind_in rows row) 7 → z ≡ fits_at History b row
   unfolding fits_at
-  history_is e = e ∙ sym (begins_said Hist)
+  history_is e = e ∙ sym (begins_said Historically)
 
 pub not_second : {rows operands : List ℕ} {row k : ℕ} {z : Bool} (x : HeldAt rows operands row) (o : ℕ) → k ≡ kind_in rows row → k ≡ 5
     → o ≡ get_or operands (start_in rows row + (count_of (kind_in rows row) (arg_in rows row) - 1)) 0 → z ≡ eqb (kind_in rows o) 5 → z ≡ fits_at Nots (rows_said rows operands) row

@@ -14,13 +14,13 @@ use Rattle.numbers.specs.Refusals.{ACCEPTED, PAST_LIMIT, DOES_NOT_FIT}
 use Rattle.lists.proofs.Tests.{lt_or_ge, or_left, or_no}
 use Rattle.pmtl.specs.Book.{Book}
 use Rattle.book.specs.Judging.{book_in, loaded}
-use Rattle.book.specs.Placing.{parts_of, Placed}
+use Rattle.book.specs.Placing.{parts_of, Counted}
 use Rattle.book.proofs.Placing.{accepted, rows_counted, operands_counted, assumes_counted, guarantees_counted}
 use Rattle.trees.proofs.Sums.{uses_many}
 use Rattle.trees.specs.Forest.{Forest, ◌then◌, count, size, entries}
 use Rattle.trees.specs.Building.{all_operands}
 use Rattle.trees.specs.Putting.{MOST_WORDS, Lined, SectionsPut}
-use Rattle.trees.specs.declared.book_words.Counts.{Counts}
+use Rattle.book.specs.declared.check.Places.{Places}
 use Rattle.trees.proofs.Numbered.{size_then}
 use Rattle.lists.specs.Lists.{part, put}
 use Rattle.trees.proofs.Built.{count_then, take_sets, copied}
@@ -32,10 +32,9 @@ use Rattle.tidying.specs.Tidied.{step_number, Tidying, done, refused, tidied_fro
 use Rattle.tidying.proofs.Accepted.{count_a, count_g}
 use Rattle.tidying.proofs.Theorems.{step_gives, of_accepted, of_refused}
 use Rattle.tidier.specs.Laying.{Small, LaysAll}
-use Rattle.tidier.specs.Tidies.{handed_back, new_book, zeros, lent_words, TidiedAs, step_at, refused_step, Standing, Fitting, Counting, Makes, Steps}
+use Rattle.tidier.proofs.Booked.{placed_as}
+use Rattle.tidier.specs.Tidies.{HandedBack, handed_back, new_book, zeros, lent_words, TidiedAs, step_at, Stepped, Standing, Fitting, Counting, Makes, Steps}
 use Rattle.tidier.specs.declared.lay.Laid.{Laid}
-use Rattle.tidier.specs.declared.tidy.Stepped.{Stepped}
-use Rattle.tidier.specs.declared.tidy.Tidied.{Tidied}
 
 -- ---- one step that fits
 module _ (ws : List ℕ) (s : Step) (ok : (loaded ws).number ≡ ACCEPTED) (fit : fits (loaded ws).book.rows s ≡ true) where
@@ -85,7 +84,7 @@ module _ (ws : List ℕ) (s : Step) (ok : (loaded ws).number ≡ ACCEPTED) (fit 
           sym (number_past false (or_no (ltb MOST_ROWS (size (fs then gs))) (ltb MOST_OPERANDS (length (all_operands (entries 0 (fs then gs)))))
           (le-ltb MOST_ROWS (size (fs then gs)) few) (le-ltb MOST_OPERANDS (length (all_operands (entries 0 (fs then gs)))) (omega (arith, o, small.balance, few)))))
 
-      module _ {c : Counts} (k : Counting ws l c) where
+      module _ {c : Places} (k : Counting ws l c) where
         both : count fs + count gs ≡ l.height
         both = sym (small.height ∙ count_then fs gs)
 
@@ -107,8 +106,8 @@ module _ (ws : List ℕ) (s : Step) (ok : (loaded ws).number ≡ ACCEPTED) (fit 
             p.are ∙ rw (k.rows, k.operands, ea, eg) (words_built fs gs small.mem (omega (arith, both, small.balance, few, m.rooms.tops_long)) operands_fit l.rows (small.rows ∙ size_then fs gs))
 
 -- ---- a step made, or refused
-pub makes_not : {words : List ℕ} {end : ℕ} {s : Step} {r : Stepped} {n : ℕ} → r ≡ refused_step n → n ≡ step_number (loaded (take end words)).book s → (n ≡ ACCEPTED → ⊥) → Makes words end s r words
-makes_not e k z = rw e (record { number_is = k; words_are = λ y. absurd (z y); inside = omega arith; size = refl })
+pub makes_not : {words : List ℕ} {end : ℕ} {s : Step} {n : ℕ} → n ≡ step_number (loaded (take end words)).book s → (n ≡ ACCEPTED → ⊥) → Makes words end s (record { number = n; length = 0 }) words
+makes_not k z = record { number_is = k; words_are = λ y. absurd (z y); inside = omega arith; size = refl }
 
 pub misfit : (words : List ℕ) (end : ℕ) (s : Step) → fits (loaded (take end words)).book.rows s ≡ false → DOES_NOT_FIT ≡ step_number (loaded (take end words)).book s
 unfolding step_number
@@ -119,10 +118,10 @@ module _ {words ws rs os ts : List ℕ} {end : ℕ} {s : Step} {l : Laid} (x : F
   here : LaysAll (take end words) s l rs os ts
   here = rw ew at m
 
-  pub makes_past : {r : Stepped} → r ≡ refused_step PAST_LIMIT → MOST_ROWS < l.rows → Makes words end s r words
-  makes_past e h = makes_not e (sym (too_many (take end words) s x.standing.ok x.fit here h)) (λ z. omega arith)
+  pub makes_past : MOST_ROWS < l.rows → Makes words end s (record { number = PAST_LIMIT; length = 0 }) words
+  makes_past h = makes_not (sym (too_many (take end words) s x.standing.ok x.fit here h)) (λ z. omega arith)
 
-  module _ (h : l.rows ≤ MOST_ROWS) {c : Counts} {ws₂ : List ℕ} (ew₂ : ws₂ ≡ take end words) (k : Counting ws₂ l c) where
+  module _ (h : l.rows ≤ MOST_ROWS) {c : Places} {ws₂ : List ℕ} (ew₂ : ws₂ ≡ take end words) (k : Counting ws₂ l c) where
     counted : Counting (take end words) l c
     counted = rw ew₂ at k
 
@@ -215,7 +214,7 @@ module _ (m ws : List ℕ) {m' : List ℕ} (e : m' ≡ put m 0 ws) (h : length w
   pub stands : (loaded ws).number ≡ ACCEPTED → MOST_WORDS ≤ length m → Standing m' (length ws)
   stands ok long = record { inside = omega (arith, same); long = omega (arith, same); ok = rw (ap (take (length ws)) e, copied_book m ws h) ok }
 
-  pub all_made : {steps words : List ℕ} {r : Tidied} → Steps m' (length ws) steps r words → TidiedAs (tidied ws (steps_of steps)) r words
+  pub all_made : {steps words : List ℕ} {r : HandedBack} → Steps m' (length ws) steps r words → TidiedAs (tidied ws (steps_of steps)) r words
   all_made x = rw (ap (take (length ws)) e, copied_book m ws h) at x.made
 
 -- ---- any words
@@ -238,10 +237,10 @@ as_zeros n e = e
 pub cleared : {x : List ℕ} (m : List ℕ) → length m ≡ MOST_WORDS → x ≡ replicate (length m) 0 → x ≡ zeros MOST_WORDS
 cleared m h e = as_zeros (length m) e ∙ ap zeros h
 
-same_tidied : (r : Tidied) {n s l : ℕ} → r.number ≡ n → r.step ≡ s → r.length ≡ l → r ≡ record { number = n; step = s; length = l }
+same_tidied : (r : HandedBack) {n s l : ℕ} → r.number ≡ n → r.step ≡ s → r.length ≡ l → r ≡ record { number = n; step = s; length = l }
 same_tidied r e f g = rw (← e, ← f, ← g) refl
 
-pub made_inside : (t : Tidying) (r : Tidied) (words : List ℕ) → TidiedAs t r words → r.length ≤ length words
+pub made_inside : (t : Tidying) (r : HandedBack) (words : List ℕ) → TidiedAs t r words → r.length ≤ length words
 unfolding TidiedAs
 made_inside (done ws) r words y = y.3
 made_inside (refused n k) r words y = let z = y.2 in omega arith
@@ -249,7 +248,7 @@ made_inside (refused n k) r words y = let z = y.2 in omega arith
 pub part_long : {x : List ℕ} {n : ℕ} (words : List ℕ) → n ≤ length words → x ≡ part 0 n words → length x ≡ n
 part_long {x} {n} words h e = part_count words x 0 n (omega arith) e
 
-pub handed_made : (t : Tidying) (r : Tidied) (words : List ℕ) {m x out : List ℕ} → TidiedAs t r words → x ≡ part 0 r.length words → m ≡ zeros MOST_WORDS → out ≡ put m 0 x → (r ≡ handed_back t) × (out ≡ lent_words t)
+pub handed_made : (t : Tidying) (r : HandedBack) (words : List ℕ) {m x out : List ℕ} → TidiedAs t r words → x ≡ part 0 r.length words → m ≡ zeros MOST_WORDS → out ≡ put m 0 x → (r ≡ handed_back t) × (out ≡ lent_words t)
 unfolding TidiedAs handed_back new_book
 handed_made (done ws) r words {x = x} y e c f =
     let n : r.length ≡ length ws = sym (ap length (sym y.2) ∙ length-take-le r.length words y.3) in
@@ -259,27 +258,34 @@ handed_made (refused n k) r words {x = x} y e c f =
     (same_tidied r y.0 y.1 z, f ∙ ap (λ (z : List ℕ). put z 0 x) c ∙ ap (λ (z : List ℕ). put (zeros MOST_WORDS) 0 z) (e ∙ ap (λ (m : ℕ). part 0 m words) z) ∙ over_zeros MOST_WORDS [])
 
 -- and the other way, for a caller
-pub handed_as : (t : Tidying) (r : Tidied) (out : List ℕ) → (r ≡ handed_back t) × (out ≡ lent_words t) → TidiedAs t r out
+pub handed_as : (t : Tidying) (r : HandedBack) (out : List ℕ) → (r ≡ handed_back t) × (out ≡ lent_words t) → TidiedAs t r out
 unfolding TidiedAs handed_back new_book
 handed_as (done ws) r out e =
     rw (e.0, e.1) (refl, refl, take_at ws (zeros (MOST_WORDS - length ws)) (length ws) refl, omega (arith, length-append ws (zeros (MOST_WORDS - length ws))))
 handed_as (refused n k) r out e = rw e.0 (refl, refl, refl)
 
-pub not_made : {words : List ℕ} {number n o a g : ℕ} (steps : List Step) {out : List ℕ} → Placed words number n o a g → (number ≡ ACCEPTED → ⊥) → out ≡ zeros MOST_WORDS
-    → (record { number = number; step = 0; length = 0 } ≡ handed_back (tidied words steps)) × (out ≡ lent_words (tidied words steps))
-unfolding handed_back new_book
-not_made {words} steps p bad e = rw (of_refused words steps (λ z. bad (p.number_is ∙ z)), ← p.number_is) (refl, e)
+-- a list of steps that is refused hands no words back
+pub handed_none : (t : Tidying) (r : HandedBack) (words : List ℕ) {out : List ℕ} → TidiedAs t r words → (r.number ≡ ACCEPTED → ⊥) → out ≡ zeros MOST_WORDS → (r ≡ handed_back t) × (out ≡ lent_words t)
+unfolding TidiedAs handed_back new_book
+handed_none (done ws) r words y bad e = absurd (bad y.0)
+handed_none (refused n k) r words y bad e = (same_tidied r y.0 y.1 y.2, e ∙ over_none)
+  where
+    over_none : zeros MOST_WORDS ≡ [] ++ zeros (MOST_WORDS - 0)
+    over_none = refl
+
+pub not_made : (words : List ℕ) {number : ℕ} (steps : List Step) (out : List ℕ) → number ≡ (loaded words).number → (number ≡ ACCEPTED → ⊥) → TidiedAs (tidied words steps) (record { number = number; step = 0; length = 0 }) out
+unfolding TidiedAs
+not_made words steps out k bad = rw (of_refused words steps (λ z. bad (k ∙ z))) (k, refl, refl)
 
 -- an accepted book has room where any that is built has
-pub short_book : {words : List ℕ} {number n o a g : ℕ} → Placed words number n o a g → number ≡ ACCEPTED → length words ≤ MOST_WORDS
-short_book {words} {number} {n} {o} {a} {g} p ok =
-    let c = p.counted ok in
+pub short_book : {words : List ℕ} {n o a g : ℕ} → Counted words n o a g → (loaded words).number ≡ ACCEPTED → length words ≤ MOST_WORDS
+short_book {words} {n} {o} {a} {g} c ok =
     let s = parts_of words n o a g in
     omega (
       arith,
       c.long,
       c.rows_few,
-      uses_many s (accepted words number n o a g p ok),
+      uses_many s (accepted words ACCEPTED n o a g (placed_as ok c) refl),
       length-append (s.operands ++ s.assumes) s.guarantees,
       length-append s.operands s.assumes,
       rows_counted words n o a g c,

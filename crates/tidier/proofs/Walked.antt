@@ -15,10 +15,11 @@ use Rattle.book.specs.Rows.{count_of}
 use Rattle.book.specs.Judging.{kind_in, arg_in, lower_in, upper_in, start_in, book_in}
 use Rattle.book.proofs.Accepted.{form, form_arg}
 use Rattle.trees.specs.Forest.{head_of, Forest, none, one, ◌then◌, count, size, roots}
-use Rattle.trees.specs.Building.{kind_of, row_words}
+use Rattle.book.specs.Kinds.{word_of_kind}
+use Rattle.trees.specs.Building.{row_words}
 use Rattle.trees.specs.Books.{head_in, parts_in, joined}
 use Rattle.trees.specs.Walking.{Held, HeldRow, rows_said}
-use Rattle.trees.specs.declared.Word.TheVariants.{Or, Once}
+use Rattle.book.specs.declared.kind.Kind.TheVariants.{Or, Once}
 use Rattle.trees.proofs.Numbered.{size_then, roots_length}
 use Rattle.trees.proofs.Built.{then_none, then_assoc}
 use Rattle.trees.proofs.Books.{below_up, parts_below}
@@ -169,8 +170,8 @@ module _ {rows operands : List ℕ} (x : Held rows operands) where
     named_words f y (not_not i j) = absurd y
     named_words f y (and_one i) = absurd y
     named_words f y (or_one i) = absurd y
-    named_words f y (implication i) = ap (λ (z : List ℕ). kind_of Or ∷ tail_of z) (rw i.is at plain_words)
-    named_words f y (history i) = rw i.is (ap (λ (z : List ℕ). kind_of Once ∷ tail_of z) (rw i.is at plain_words))
+    named_words f y (implication i) = ap (λ (z : List ℕ). word_of_kind Or ∷ tail_of z) (rw i.is at plain_words)
+    named_words f y (history i) = rw i.is (ap (λ (z : List ℕ). word_of_kind Once ∷ tail_of z) (rw i.is at plain_words))
 
   words_said_lem : (s : Step) → fits b s ≡ true → (r : ℕ) → r < length rows / ROW_WORDS → Stays (form_at s r) → (os : List ℕ) → length os ≡ length (parts_at b r)
       → four_of rows (form_at s r) r ≡ row_words (record { head = head_after (form_at s r) (head_in (row_at b r)); operands = os })

@@ -5,11 +5,12 @@ use Rattle.numbers.specs.Refusals.{ACCEPTED}
 use Rattle.pmtl.specs.Book.{Rows}
 use Rattle.book.specs.Judging.{kind_in, arg_in, lower_in, upper_in, loaded}
 use Rattle.trees.specs.Forest.{Head, head_of, Forest, none, one, ◌then◌, count, size, roots}
-use Rattle.trees.specs.Building.{kind_of, row_words, Mem, Rooms}
+use Rattle.book.specs.Kinds.{word_of_kind}
+use Rattle.trees.specs.Building.{row_words, Mem, Rooms}
 use Rattle.trees.specs.Books.{joined}
 use Rattle.trees.specs.Walking.{Held, Walk, rows_said}
 use Rattle.trees.specs.declared.rows.RowWords.{RowWords}
-use Rattle.trees.specs.declared.Word.TheVariants.{Or, Once}
+use Rattle.book.specs.declared.kind.Kind.TheVariants.{Or, Once}
 use Rattle.tidying.specs.declared.Form.{Form}
 use Rattle.tidying.specs.declared.Form.TheVariants.{Nots, Single, Implication, History, Unknown}
 use Rattle.tidying.specs.declared.Step.{Step}
@@ -73,8 +74,8 @@ head_after Unknown h = h
 abbrev pub kind_after : Form → ℕ → ℕ
 kind_after Nots k = k
 kind_after Single k = k
-kind_after Implication k = kind_of Or
-kind_after History k = kind_of Once
+kind_after Implication k = word_of_kind Or
+kind_after History k = word_of_kind Once
 kind_after Unknown k = k
 
 -- a Not stands over all of it

@@ -7,10 +7,10 @@ ghost use Rattle.tidier.specs.Laying.{full_laid, kind_after, over_part, Layable,
 
 use crate::fit::{form_here, stand_in};
 use book::check::{
-    arg_in, assumes_part, guarantees_part, kind_in, lower_in, operands_part, place, rows_part,
-    upper_in,
+    arg_in, assumes_part, guarantees_part, kind_in, lower_in, operands_part, place_accepted,
+    rows_part, upper_in,
 };
-use book::{NOT, ONCE, OR};
+use book::kind::Kind;
 use numbers::MOST_ROWS;
 use tidying::{Form, Step};
 use trees::rows::{RowWords, Spot, emit};
@@ -91,7 +91,7 @@ fn lay_not(laid: Laid, rows: &mut [u64], operands: &mut [u64], tops: &mut [u64])
         return full();
     }
     let words = RowWords {
-        kind: NOT,
+        kind: Kind::Not.word(),
         arg: 1,
         lower: 0,
         upper: 0,
@@ -117,15 +117,13 @@ fn lay_not_if(
 }
 
 // A Not stands over the first part of an Implies or a Historically that is remade.
+#[tactic(auto, unfolding(crate::specs::Laying::over_part))]
 fn over_part(form: Form, left: usize, count: usize) -> bool
     ensures { result ≡ over_part form left count }
 {
     match form {
-        Form::Nots => false,
-        Form::Single => false,
-        Form::Implication => left == count,
-        Form::History => left == count,
-        Form::Unknown => false,
+        Form::Implication | Form::History => left == count,
+        Form::Nots | Form::Single | Form::Unknown => false,
     }
 }
 
@@ -134,11 +132,9 @@ fn kind_after(form: Form, kind: u64) -> u64
     ensures { result ≡ kind_after form kind }
 {
     match form {
-        Form::Nots => kind,
-        Form::Single => kind,
-        Form::Implication => OR,
-        Form::History => ONCE,
-        Form::Unknown => kind,
+        Form::Implication => Kind::Or.word(),
+        Form::History => Kind::Once.word(),
+        Form::Nots | Form::Single | Form::Unknown => kind,
     }
 }
 
@@ -146,13 +142,7 @@ fn kind_after(form: Form, kind: u64) -> u64
 fn over_all(form: Form) -> bool
     ensures { result ≡ over_all form }
 {
-    match form {
-        Form::Nots => false,
-        Form::Single => false,
-        Form::Implication => false,
-        Form::History => true,
-        Form::Unknown => false,
-    }
+    matches!(form, Form::History)
 }
 
 // A row's words after the step.
@@ -179,10 +169,8 @@ fn lay_end(
     requires { Endable source.now site (length rows.old) (length operands.old) (length tops.old) }
     ensures { Ends source.now site rows.old operands.old tops.old result rows.new operands.new tops.new }
 {
-    let row = site.row;
-    let step = site.step;
-    let form = form_here(step, row);
-    let words = words_after(source, form, row);
+    let form = form_here(site.step, site.row);
+    let words = words_after(source, form, site.row);
     let laid = lay_row(site.laid, site.base, words, rows, operands, tops);
     lay_not_if(over_all(form), laid, rows, operands, tops)
 }
@@ -250,7 +238,7 @@ pub fn lay_all(
     requires { Steppable book.now step (length rows.old) (length operands.old) (length tops.old) }
     ensures { LaysAll book.now step result rows.new operands.new tops.new }
 {
-    let places = place(book);
+    let places = place_accepted(book);
     let source = rows_part(book, places);
     let links = operands_part(book, places);
     let assumes = assumes_part(book, places);
@@ -260,8 +248,7 @@ pub fn lay_all(
         operands: 0,
         height: 0,
     };
-    let mut i = 0;
-    while i < assumes.len() + guarantees.len() {
+    for i in 0..assumes.len() + guarantees.len() {
         let row = stand_in(source, links, step, property_at(assumes, guarantees, i));
         let site = Site {
             step,
@@ -271,7 +258,6 @@ pub fn lay_all(
             laid,
         };
         laid = lay_rest(source, links, site, rows, operands, tops);
-        i += 1;
     }
     laid
 }

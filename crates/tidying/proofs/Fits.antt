@@ -13,10 +13,10 @@ use Rattle.pmtl.specs.Book.{Range, Row, Rows, row_at, Ordered}
 use Rattle.pmtl.specs.Book.Row.{conj, disj, neg, implies, historically}
 use Rattle.trees.specs.Forest.{Head, head_of}
 use Rattle.trees.specs.Numbered.{row_with}
-use Rattle.trees.specs.Building.{kind_of, word_of}
+use Rattle.book.specs.Kinds.{word_of_kind, kind_of_word}
 use Rattle.trees.specs.Books.{head_in, parts_in}
-use Rattle.trees.specs.declared.Word.{Word}
-use Rattle.trees.specs.declared.Word.TheVariants.{False, True, Atom, And, Or, Not, Implies, Hist, Once, Since}
+use Rattle.book.specs.declared.kind.Kind.{Kind}
+use Rattle.book.specs.declared.kind.Kind.TheVariants.{False, True, Atom, And, Or, Not, Implies, Historically, Once, Since}
 use Rattle.trees.proofs.Books.{with_itself}
 use Rattle.trees.proofs.Back.{one_part}
 use Rattle.tidying.specs.declared.Form.{Form}
@@ -30,8 +30,8 @@ pub record In (b : Rows) (r : ℕ) (row : Row ℕ) : Type 0 where
   pub is : row_at b r ≡ row
 
 -- ---- words by their kinds
-word_back : (w : Word) → word_of (kind_of w) ≡ w
-unfolding word_of
+word_back : (w : Kind) → kind_of_word (word_of_kind w) ≡ w
+unfolding kind_of_word
 word_back False = refl
 word_back True = refl
 word_back Atom = refl
@@ -39,20 +39,20 @@ word_back And = refl
 word_back Or = refl
 word_back Not = refl
 word_back Implies = refl
-word_back Hist = refl
+word_back Historically = refl
 word_back Once = refl
 word_back Since = refl
 
-begins_with : (w : Word) (b : Rows) (r : ℕ) → begins w b r ≡ true → word_at b r ≡ w
+begins_with : (w : Kind) (b : Rows) (r : ℕ) → begins w b r ≡ true → word_at b r ≡ w
 unfolding begins
-begins_with w b r e = sym (word_back (word_at b r)) ∙ ap word_of (eqb-true (kind_of (word_at b r)) (kind_of w) e) ∙ word_back w
+begins_with w b r e = sym (word_back (word_at b r)) ∙ ap kind_of_word (eqb-true (word_of_kind (word_at b r)) (word_of_kind w) e) ∙ word_back w
 
 -- a row by its head
 pub row_of : (row : Row ℕ) (h : Head) → head_in row ≡ h → row ≡ row_with 0 h (parts_in row)
 row_of row h e = sym (with_itself 0 row) ∙ ap (λ (z : Head). row_with 0 z (parts_in row)) e
 
-row_by : (w : Word) (b : Rows) (r : ℕ) → begins w b r ≡ true → row_at b r ≡ row_with 0 (head_of w (head_in (row_at b r)).atom (head_in (row_at b r)).lower (head_in (row_at b r)).upper) (parts_at b r)
-row_by w b r e = let h = head_in (row_at b r) in row_of (row_at b r) (head_of w h.atom h.lower h.upper) (ap (λ (z : Word). head_of z h.atom h.lower h.upper) (begins_with w b r e))
+row_by : (w : Kind) (b : Rows) (r : ℕ) → begins w b r ≡ true → row_at b r ≡ row_with 0 (head_of w (head_in (row_at b r)).atom (head_in (row_at b r)).lower (head_in (row_at b r)).upper) (parts_at b r)
+row_by w b r e = let h = head_in (row_at b r) in row_of (row_at b r) (head_of w h.atom h.lower h.upper) (ap (λ (z : Kind). head_of z h.atom h.lower h.upper) (begins_with w b r e))
 
 -- ---- what the row of a step that fits is
 pub data Fitting (b : Rows) (r : ℕ) : Form → Type 0 where
@@ -94,7 +94,7 @@ module _ (b : Rows) (w : Ordered b) (r : ℕ) (l : r < length b) where
       single_row (either (begins And b r) (begins Or b r) (and_left (begins And b r || begins Or b r) (eqb (length (parts_at b r)) 1) e))
       (eqb-true (length (parts_at b r)) 1 (and_right (begins And b r || begins Or b r) (eqb (length (parts_at b r)) 1) e))
   fitting_at Implication e = implication (record { there = l; is = row_by Implies b r e })
-  fitting_at History e = history (record { there = l; is = row_by Hist b r e })
+  fitting_at History e = history (record { there = l; is = row_by Historically b r e })
   fitting_at Unknown e = absurd (false≢true e)
 
 module _ (b : Rows) (w : Ordered b) (s : Step) (e : fits b s ≡ true) where

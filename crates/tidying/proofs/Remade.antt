@@ -13,7 +13,7 @@ use Rattle.pmtl.proofs.Table.{by_rows, answer_in}
 use Rattle.book.specs.Judging.{arg_good, form_good, range_good}
 use Rattle.trees.specs.Forest.{Head, head_of, Forest, none, tree, one, ◌then◌, count, Fit, Good}
 use Rattle.trees.specs.Books.{head_in, parts_in, joined}
-use Rattle.trees.specs.declared.Word.TheVariants.{Or, Not, Hist, Once}
+use Rattle.book.specs.declared.kind.Kind.TheVariants.{Or, Not, Historically, Once}
 use Rattle.trees.proofs.Numbered.{good_then}
 use Rattle.trees.proofs.Built.{then_none, then_assoc, count_then}
 use Rattle.trees.proofs.Books.{AllOf, each_below, parts_below, head_map, parts_map, fit_head}
@@ -76,7 +76,7 @@ or_good : HeadGood (head_of Or 0 0 0) 2
 unfolding form_good arg_good range_good
 or_good = (refl, refl)
 
-once_good : (l u : ℕ) → HeadGood (head_of Hist 0 l u) 1 → HeadGood (head_of Once 0 l u) 1
+once_good : (l u : ℕ) → HeadGood (head_of Historically 0 l u) 1 → HeadGood (head_of Once 0 l u) 1
 unfolding form_good arg_good
 once_good l u g = (refl, g.1)
 
@@ -178,7 +178,7 @@ module _ (b : Rows) (w : Ordered b) (s : Step) where
           rw (step_implies r e k i (below x l.0).single) (sane_one (head_of Or 0 0 0) (not_of (st x) ∷ st y ∷ []) (sane_not (st x) (below x l.0), (below y l.1, tt)) (refl, refl, refl) or_good)
       named_sane e f k (history {g} {x} i) =
           let l : x < r = rw i.is at (w r) in
-          let q : HeadGood (head_of Hist 0 g.lower g.upper) 1 = rw i.is at (good_row r h) in
+          let q : HeadGood (head_of Historically 0 g.lower g.upper) 1 = rw i.is at (good_row r h) in
           let o = sane_one (head_of Once 0 g.lower g.upper) (not_of (st x) ∷ []) (sane_not (st x) (below x l), tt) (refl, refl) (once_good g.lower g.upper q) in
           rw (step_history r e k i) (sane_not _ (rw (only (not_of (st x))) at o))
 

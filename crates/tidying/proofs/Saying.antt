@@ -14,7 +14,7 @@ use Rattle.pmtl.proofs.Table.{by_rows}
 use Rattle.trees.specs.Forest.{Head, head_of, Forest, none, tree, one, count}
 use Rattle.trees.specs.Numbered.{row_with, folded}
 use Rattle.trees.specs.Books.{head_in, parts_in, joined, tree_rule, tree_at, trees_of}
-use Rattle.trees.specs.declared.Word.TheVariants.{Or, Not, Once}
+use Rattle.book.specs.declared.kind.Kind.TheVariants.{Or, Not, Once}
 use Rattle.trees.proofs.Books.{below_up, parts_below, head_map, parts_map, with_itself, tree_in, trees_fold}
 use Rattle.trees.proofs.Judged.{HeadGood}
 use Rattle.trees.proofs.Back.{Singles, again_all}

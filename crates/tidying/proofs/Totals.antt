@@ -26,7 +26,7 @@ use Rattle.book.specs.Reading.{Sections}
 use Rattle.book.specs.Judging.{rows_in, judged, book_in}
 use Rattle.trees.specs.Forest.{Head}
 use Rattle.trees.specs.Books.{head_in, parts_in}
-use Rattle.trees.specs.declared.Word.TheVariants.{False, True, Atom, And, Or, Not, Implies, Hist, Once, Since}
+use Rattle.book.specs.declared.kind.Kind.TheVariants.{False, True, Atom, And, Or, Not, Implies, Historically, Once, Since}
 use Rattle.trees.proofs.Books.{parts_map}
 use Rattle.trees.proofs.Judged.{HeadGood}
 use Rattle.trees.proofs.Sections.{rows_there, operands_at, parts_are, book_ordered}
@@ -158,7 +158,7 @@ module _ (a a' : Sections) (ok : judged a ≡ 0) (ok' : judged a' ≡ 0) (s : St
       | Or ↦ 0
       | Not ↦ 0
       | Implies ↦ 0
-      | Hist ↦ 0
+      | Historically ↦ 0
       | Once ↦ 0
       | Since ↦ 0
     ]

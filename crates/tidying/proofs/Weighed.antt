@@ -12,7 +12,7 @@ use Rattle.book.specs.Reading.{Sections}
 use Rattle.book.specs.Judging.{rows_in, judged, book_in}
 use Rattle.trees.specs.Forest.{Head, head_of, Forest, none, one, ◌then◌}
 use Rattle.trees.specs.Books.{head_in, parts_in, joined}
-use Rattle.trees.specs.declared.Word.TheVariants.{And, Or, Not, Implies, Hist, Once}
+use Rattle.book.specs.declared.kind.Kind.TheVariants.{And, Or, Not, Implies, Historically, Once}
 use Rattle.trees.proofs.Sections.{rows_there, parts_are, book_ordered}
 use Rattle.trees.proofs.Sums.{sum_to, sum_over, weight, weight_then, weight_one, weight_joined, properties_weigh}
 use Rattle.trees.proofs.Judged.{HeadGood}
@@ -28,7 +28,7 @@ pub record Unmoved (v : Head → ℕ) : Type 0 where
   pub ands : v (head_of And 0 0 0) ≡ 0
   pub ors : v (head_of Or 0 0 0) ≡ 0
   pub implications : v (head_of Implies 0 0 0) ≡ 0
-  pub histories : (l u : ℕ) → v (head_of Hist 0 l u) ≡ v (head_of Once 0 l u)
+  pub histories : (l u : ℕ) → v (head_of Historically 0 l u) ≡ v (head_of Once 0 l u)
 
 module _ (a : Sections) (ok : judged a ≡ 0) (s : Step) (fit : fits (book_in a).rows s ≡ true)
     (good_row : (r : ℕ) → r < length (book_in a).rows → HeadGood (head_in (row_at (book_in a).rows r)) (length (parts_at (book_in a).rows r)))

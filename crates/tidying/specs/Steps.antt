@@ -3,10 +3,11 @@ use Rattle.std.specs.Prelude.{ℕ, Bool, true, false, ◌&&◌, ◌||◌, List, 
 use Rattle.numbers.specs.Limits.{MOST_ROWS, MOST_OPERANDS}
 use Rattle.pmtl.specs.Book.{Row, Rows, row_at, Book, answer}
 use Rattle.trees.specs.Forest.{Head, head_of, Forest, none, tree, one, ◌then◌, size, entries}
-use Rattle.trees.specs.Building.{kind_of, all_operands, words_of}
+use Rattle.book.specs.Kinds.{word_of_kind}
+use Rattle.trees.specs.Building.{all_operands, words_of}
 use Rattle.trees.specs.Books.{head_in, parts_in, joined, tree_rule}
-use Rattle.trees.specs.declared.Word.{Word}
-use Rattle.trees.specs.declared.Word.TheVariants.{And, Or, Not, Implies, Hist, Once}
+use Rattle.book.specs.declared.kind.Kind.{Kind}
+use Rattle.book.specs.declared.kind.Kind.TheVariants.{And, Or, Not, Implies, Historically, Once}
 use Rattle.tidying.specs.declared.Form.{Form}
 use Rattle.tidying.specs.declared.Form.TheVariants.{Nots, Single, Implication, History, Unknown}
 use Rattle.tidying.specs.declared.Step.{Step}
@@ -17,22 +18,22 @@ form_of n = get_or (Nots ∷ Single ∷ Implication ∷ History ∷ []) n Unknow
 
 -- ---- whether a step fits
 -- a row's word and its operands
-abbrev pub word_at : Rows → ℕ → Word
+abbrev pub word_at : Rows → ℕ → Kind
 word_at b r = (head_in (row_at b r)).word
 
 abbrev pub parts_at : Rows → ℕ → List ℕ
 parts_at b r = parts_in (row_at b r)
 
 -- row r begins with this word
-unfoldable pub begins : Word → Rows → ℕ → Bool
-begins w b r = eqb (kind_of (word_at b r)) (kind_of w)
+unfoldable pub begins : Kind → Rows → ℕ → Bool
+begins w b r = eqb (word_of_kind (word_at b r)) (word_of_kind w)
 
 -- row r has the form: a Not of a Not; an And or an Or of one operand; an Implies; a Historically
 unfoldable pub fits_at : Form → Rows → ℕ → Bool
 fits_at Nots b r = begins Not b r && begins Not b (get_or (parts_at b r) 0 0)
 fits_at Single b r = (begins And b r || begins Or b r) && eqb (length (parts_at b r)) 1
 fits_at Implication b r = begins Implies b r
-fits_at History b r = begins Hist b r
+fits_at History b r = begins Historically b r
 fits_at Unknown b r = false
 
 -- the row is there and has the form

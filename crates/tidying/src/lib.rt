@@ -4,9 +4,9 @@
 ghost use Rattle.std.specs.Prelude.{◌≡◌};
 ghost use Rattle.tidying.specs.Steps.{form_of};
 
-// The forms of a step: not(not(x)) to x; an and, or an or, of one part to that part; implies(x,y) to or(not(x),y); hist to
-// not, once and not; and none of these.
-#[derive(Clone, Copy)]
+// The forms of a step, each with the word that says it: not(not(x)) to x; an and, or an or, of one part to that part;
+// implies(x,y) to or(not(x),y); hist to not, once and not; and none of these.
+#[derive(Clone, Copy, Debug, PartialEq, Eq)]
 pub enum Form {
     Nots,
     Single,
@@ -16,30 +16,24 @@ pub enum Form {
 }
 
 // A step: its form, and the row that it names.
-#[derive(Clone, Copy)]
+#[derive(Clone, Copy, Debug, PartialEq, Eq)]
 pub struct Step {
     pub form: Form,
     pub row: usize,
 }
 
-// The numbers of the forms.
-pub const NOTS: u64 = 0;
-
-pub const SINGLE: u64 = 1;
-
-pub const IMPLICATION: u64 = 2;
-
-pub const HISTORY: u64 = 3;
-
-// The form of a number.
-pub fn form_of(number: u64) -> Form
-    ensures { result ≡ form_of number }
-{
-    match number {
-        NOTS => Form::Nots,
-        SINGLE => Form::Single,
-        IMPLICATION => Form::Implication,
-        HISTORY => Form::History,
-        _ => Form::Unknown,
+impl Form {
+    // The form that a word says.
+    #[tactic(auto, unfolding(crate::specs::Steps::form_of))]
+    pub fn of_word(word: u64) -> Form
+        ensures { result ≡ form_of word }
+    {
+        match word {
+            0 => Form::Nots,
+            1 => Form::Single,
+            2 => Form::Implication,
+            3 => Form::History,
+            _ => Form::Unknown,
+        }
     }
 }

@@ -7,8 +7,8 @@ use lib.ListN.{length, get_or}
 use Rattle.trees.specs.Forest.{Head, head_of, Forest, none, tree, one, ◌then◌, count, roots, Fit, Good}
 use Rattle.trees.specs.Numbered.{row_with, rows_from, folded}
 use Rattle.trees.specs.Books.{head_in, parts_in, joined, tree_rule, tree_at}
-use Rattle.trees.specs.declared.Word.{Word}
-use Rattle.trees.specs.declared.Word.TheVariants.{False, True, Atom, And, Or, Not, Implies, Hist, Once, Since}
+use Rattle.book.specs.declared.kind.Kind.{Kind}
+use Rattle.book.specs.declared.kind.Kind.TheVariants.{False, True, Atom, And, Or, Not, Implies, Historically, Once, Since}
 use Rattle.trees.proofs.Numbered.{ordered, folds}
 use Rattle.trees.proofs.Books.{folded_then}
 
@@ -29,7 +29,7 @@ two_parts d (x ∷ y ∷ []) e = refl
 two_parts d (x ∷ y ∷ z ∷ xs) e = absurd (omega arith)
 
 module _ {X : Type 0} (d : X) where
-  head_with_lem : (w : Word) (a l u : ℕ) (xs : List X) → Fit w a l u (length xs) → head_in (row_with d (head_of w a l u) xs) ≡ head_of w a l u
+  head_with_lem : (w : Kind) (a l u : ℕ) (xs : List X) → Fit w a l u (length xs) → head_in (row_with d (head_of w a l u) xs) ≡ head_of w a l u
   unfolding row_with
   head_with_lem False a l u xs f = rw (f.1, f.2, f.3)
   head_with_lem True a l u xs f = rw (f.1, f.2, f.3)
@@ -38,11 +38,11 @@ module _ {X : Type 0} (d : X) where
   head_with_lem Or a l u xs f = rw (f.0, f.1, f.2)
   head_with_lem Not a l u xs f = rw (f.1, f.2, f.3)
   head_with_lem Implies a l u xs f = rw (f.1, f.2, f.3)
-  head_with_lem Hist a l u xs f = rw f.1
+  head_with_lem Historically a l u xs f = rw f.1
   head_with_lem Once a l u xs f = rw f.1
   head_with_lem Since a l u xs f = rw f.1
 
-  parts_with : (w : Word) (a l u : ℕ) (xs : List X) → Fit w a l u (length xs) → parts_in (row_with d (head_of w a l u) xs) ≡ xs
+  parts_with : (w : Kind) (a l u : ℕ) (xs : List X) → Fit w a l u (length xs) → parts_in (row_with d (head_of w a l u) xs) ≡ xs
   unfolding row_with
   parts_with False a l u xs f = no_parts xs f.0
   parts_with True a l u xs f = no_parts xs f.0
@@ -51,7 +51,7 @@ module _ {X : Type 0} (d : X) where
   parts_with Or a l u xs f = refl
   parts_with Not a l u xs f = one_part d xs f.0
   parts_with Implies a l u xs f = two_parts d xs f.0
-  parts_with Hist a l u xs f = one_part d xs f.0
+  parts_with Historically a l u xs f = one_part d xs f.0
   parts_with Once a l u xs f = one_part d xs f.0
   parts_with Since a l u xs f = two_parts d xs f.0
 

@@ -21,7 +21,8 @@ use Rattle.book.specs.Judging.{kind_in, arg_in, lower_in, upper_in, rows_in, sta
 use Rattle.book.proofs.Placing.{number_judged}
 use Rattle.book.proofs.Uses.{times_append}
 use Rattle.trees.specs.Forest.{Head, Forest, none, tree, ◌then◌, count, size, roots, Entry, entries, Good}
-use Rattle.trees.specs.Building.{kind_of, arg_of, all_rows, all_operands, words_of}
+use Rattle.book.specs.Kinds.{word_of_kind}
+use Rattle.trees.specs.Building.{arg_of, all_rows, all_operands, words_of}
 use Rattle.trees.proofs.Numbered.{entries_length, roots_length, roots_then, roots_below, below_at, good_then}
 use Rattle.trees.proofs.Built.{rows_length, operands_append}
 use Rattle.trees.proofs.Words.{no as gap, AllFit, fit_at, entries_fit, count_fits, kind_at_lem, arg_at_lem, lower_at_lem, upper_at_lem, start_at_lem, section_got, said}
@@ -43,7 +44,7 @@ at_place P n (x ∷ xs) (suc i) h a = let e : n + suc i ≡ suc n + i = omega ar
 
 -- ---- heads that a row may have
 abbrev pub HeadGood : Head → ℕ → Type 0
-HeadGood h n = (form_good (kind_of h.word) (arg_of h.word h.atom n) h.lower h.upper ≡ true) × (range_good h.lower h.upper ≡ true)
+HeadGood h n = (form_good (word_of_kind h.word) (arg_of h.word h.atom n) h.lower h.upper ≡ true) × (range_good h.lower h.upper ≡ true)
 
 abbrev pub HeadsGood : Forest → Type 0
 HeadsGood none = Unit {0}
@@ -69,7 +70,7 @@ entries_good n (tree h p s) g =
 
 -- ---- how many are temporal
 abbrev pub temporal_head : Head → ℕ
-temporal_head h = bit_of (temporal (kind_of h.word))
+temporal_head h = bit_of (temporal (word_of_kind h.word))
 
 unfoldable heads : (Head → ℕ) → List Entry → ℕ
 heads w [] = 0

@@ -15,8 +15,8 @@ use Rattle.pmtl.specs.Meaning.{Fact, meaning_rule, meaning}
 use Rattle.pmtl.proofs.Table.{answer_in}
 use Rattle.trees.specs.Forest.{Head, Forest, none, tree, ◌then◌, count, size, roots, entries, Fit, Good}
 use Rattle.trees.specs.Numbered.{row_with, row_of, rows_from, book_of, folded, meanings}
-use Rattle.trees.specs.declared.Word.{Word}
-use Rattle.trees.specs.declared.Word.TheVariants.{False, True, Atom, And, Or, Not, Implies, Hist, Once, Since}
+use Rattle.book.specs.declared.kind.Kind.{Kind}
+use Rattle.book.specs.declared.kind.Kind.TheVariants.{False, True, Atom, And, Or, Not, Implies, Historically, Once, Since}
 
 -- ---- how many
 pub entries_length : (n : ℕ) (f : Forest) → length (entries n f) ≡ size f
@@ -70,7 +70,7 @@ roots_below n (tree h p s) =
     let e : n + suc (size p) + size s ≡ n + (size p + suc (size s)) = omega arith in
     (omega arith, rw e at (roots_below (n + suc (size p)) s))
 
-row_below : (w : Word) (a l u : ℕ) (r : ℕ) (os : List ℕ) → AllBelow r os → Fit w a l u (length os) → Below r (row_with 0 (record { word = w; atom = a; lower = l; upper = u }) os)
+row_below : (w : Kind) (a l u : ℕ) (r : ℕ) (os : List ℕ) → AllBelow r os → Fit w a l u (length os) → Below r (row_with 0 (record { word = w; atom = a; lower = l; upper = u }) os)
 unfolding row_with
 row_below False a l u r os b f = tt
 row_below True a l u r os b f = tt
@@ -79,7 +79,7 @@ row_below And a l u r os b f = b
 row_below Or a l u r os b f = b
 row_below Not a l u r os b f = below_at r os 0 b (omega arith)
 row_below Implies a l u r os b f = (below_at r os 0 b (omega arith), below_at r os 1 b (omega arith))
-row_below Hist a l u r os b f = below_at r os 0 b (omega arith)
+row_below Historically a l u r os b f = below_at r os 0 b (omega arith)
 row_below Once a l u r os b f = below_at r os 0 b (omega arith)
 row_below Since a l u r os b f = (below_at r os 0 b (omega arith), below_at r os 1 b (omega arith))
 
@@ -118,7 +118,7 @@ ordered f g r = by_place (dec_lt r (length (rows_from 0 f)))
     by_place (no h) = let l : length (rows_from 0 f) ≤ r = omega arith in rw (get_or-eq_default (rows_from 0 f) never l) tt
 
 -- ---- a row over what a function makes of its operands
-with_map : {X Y : Type 0} (f : X → Y) (d : X) (w : Word) (a l u : ℕ) (xs : List X) → map_row f (row_with d (record { word = w; atom = a; lower = l; upper = u }) xs) ≡ row_with (f d) (record { word = w; atom = a; lower = l; upper = u }) (map f xs)
+with_map : {X Y : Type 0} (f : X → Y) (d : X) (w : Kind) (a l u : ℕ) (xs : List X) → map_row f (row_with d (record { word = w; atom = a; lower = l; upper = u }) xs) ≡ row_with (f d) (record { word = w; atom = a; lower = l; upper = u }) (map f xs)
 unfolding row_with
 with_map f d False a l u xs = refl
 with_map f d True a l u xs = refl
@@ -127,7 +127,7 @@ with_map f d And a l u xs = refl
 with_map f d Or a l u xs = refl
 with_map f d Not a l u xs = rw (get_or-map f xs 0 d)
 with_map f d Implies a l u xs = rw (get_or-map f xs 0 d, get_or-map f xs 1 d)
-with_map f d Hist a l u xs = rw (get_or-map f xs 0 d)
+with_map f d Historically a l u xs = rw (get_or-map f xs 0 d)
 with_map f d Once a l u xs = rw (get_or-map f xs 0 d)
 with_map f d Since a l u xs = rw (get_or-map f xs 0 d, get_or-map f xs 1 d)
 
@@ -139,7 +139,7 @@ at_second : {X : Type 0} (d e : X) (xs : List X) → 1 < length xs → get_or xs
 at_second d e [] h = absurd (omega arith)
 at_second d e (x ∷ xs) h = at_first d e xs (omega arith)
 
-with_any : {X : Type 0} (d e : X) (w : Word) (a l u : ℕ) (xs : List X) → Fit w a l u (length xs) → row_with d (record { word = w; atom = a; lower = l; upper = u }) xs ≡ row_with e (record { word = w; atom = a; lower = l; upper = u }) xs
+with_any : {X : Type 0} (d e : X) (w : Kind) (a l u : ℕ) (xs : List X) → Fit w a l u (length xs) → row_with d (record { word = w; atom = a; lower = l; upper = u }) xs ≡ row_with e (record { word = w; atom = a; lower = l; upper = u }) xs
 unfolding row_with
 with_any d e False a l u xs f = refl
 with_any d e True a l u xs f = refl
@@ -148,7 +148,7 @@ with_any d e And a l u xs f = refl
 with_any d e Or a l u xs f = refl
 with_any d e Not a l u xs f = rw (at_first d e xs (omega arith))
 with_any d e Implies a l u xs f = rw (at_first d e xs (omega arith), at_second d e xs (omega arith))
-with_any d e Hist a l u xs f = rw (at_first d e xs (omega arith))
+with_any d e Historically a l u xs f = rw (at_first d e xs (omega arith))
 with_any d e Once a l u xs f = rw (at_first d e xs (omega arith))
 with_any d e Since a l u xs f = rw (at_first d e xs (omega arith), at_second d e xs (omega arith))
 

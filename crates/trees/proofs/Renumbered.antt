@@ -18,7 +18,8 @@ use Rattle.book.specs.Private.{Few}
 use Rattle.book.specs.Judging.{kind_in, arg_in, lower_in, upper_in, rows_in, start_in, temporals_in, arg_good, judged, book_in, loaded}
 use Rattle.book.proofs.Accepted.{form, form_arg, form_kind, range, temporals_fit, operands_there, assume_below, guarantee_below}
 use Rattle.trees.specs.Forest.{Head, Forest, ◌then◌, count, size}
-use Rattle.trees.specs.Building.{kind_of, arg_of, word_of, atom_of, words_of}
+use Rattle.book.specs.Kinds.{word_of_kind, kind_of_word}
+use Rattle.trees.specs.Building.{arg_of, atom_of, words_of}
 use Rattle.trees.specs.Books.{head_in, parts_in, joined, tree_at, trees_of}
 use Rattle.trees.proofs.Numbered.{size_then}
 use Rattle.trees.proofs.Books.{AllOf, each_below, below_up, parts_below, tree_in, trees_count, trees_good}
@@ -27,8 +28,8 @@ use Rattle.trees.proofs.Sums.{sum_to, sum_agree, sum_ones, weight, weight_then, 
 use Rattle.trees.proofs.Judged.{HeadGood, HeadsGood, heads_then, temporal_head, words_accepted}
 
 -- ---- a row's words, back from its head
-pub kind_back : (k : ℕ) → k ≤ 9 → kind_of (word_of k) ≡ k
-unfolding word_of
+pub kind_back : (k : ℕ) → k ≤ 9 → word_of_kind (kind_of_word k) ≡ k
+unfolding kind_of_word
 kind_back zero h = refl
 kind_back (suc zero) h = refl
 kind_back (suc (suc zero)) h = refl
@@ -41,8 +42,8 @@ kind_back (suc (suc (suc (suc (suc (suc (suc (suc zero)))))))) h = refl
 kind_back (suc (suc (suc (suc (suc (suc (suc (suc (suc zero))))))))) h = refl
 kind_back (suc (suc (suc (suc (suc (suc (suc (suc (suc (suc k)))))))))) h = absurd (omega arith)
 
-pub arg_back : (k a : ℕ) → k ≤ 9 → arg_good k a ≡ true → arg_of (word_of k) (atom_of (word_of k) a) (count_of k a) ≡ a
-unfolding word_of arg_good count_of
+pub arg_back : (k a : ℕ) → k ≤ 9 → arg_good k a ≡ true → arg_of (kind_of_word k) (atom_of (kind_of_word k) a) (count_of k a) ≡ a
+unfolding kind_of_word arg_good count_of
 arg_back zero a h g = sym (eqb-true a 0 g)
 arg_back (suc zero) a h g = sym (eqb-true a 0 g)
 arg_back (suc (suc zero)) a h g = refl
@@ -74,8 +75,8 @@ module _ (s : Sections) (ok : judged s ≡ 0) where
   pub low_kind : (r : ℕ) → r < rows_in s → k r ≤ 9
   low_kind r h = form_kind (k r) (a r) (lower_in s.rows r) (upper_in s.rows r) (form s ok r h)
 
-  pub kind_is : (r : ℕ) → r < rows_in s → kind_of (head_in (row_at b r)).word ≡ k r
-  kind_is r h = ap (λ (z : Head). kind_of z.word) (head_are s ok r h) ∙ kind_back (k r) (low_kind r h)
+  pub kind_is : (r : ℕ) → r < rows_in s → word_of_kind (head_in (row_at b r)).word ≡ k r
+  kind_is r h = ap (λ (z : Head). word_of_kind z.word) (head_are s ok r h) ∙ kind_back (k r) (low_kind r h)
 
   pub head_good : (r : ℕ) → r < rows_in s → (m : ℕ) → m ≡ length (parts_in (row_at b r)) → HeadGood (head_in (row_at b r)) m
   head_good r h m e =

@@ -16,7 +16,8 @@ use Rattle.book.specs.Rows.{row_from, count_of}
 use Rattle.book.specs.Judging.{kind_in, arg_in, lower_in, upper_in, rows_in, start_in, judged, row_in, book_in}
 use Rattle.book.proofs.Accepted.{form, form_kind, bounds_none, operands_there, operand_below}
 use Rattle.trees.specs.Forest.{Head, head_of}
-use Rattle.trees.specs.Building.{word_of, atom_of}
+use Rattle.book.specs.Kinds.{kind_of_word}
+use Rattle.trees.specs.Building.{atom_of}
 use Rattle.trees.specs.Books.{head_in, parts_in}
 
 -- ---- a row from its words
@@ -45,10 +46,10 @@ parts_from (suc (suc (suc (suc (suc (suc (suc (suc (suc (suc k)))))))))) a l u o
 
 -- a row's head, from its words
 abbrev pub head_with : ℕ → ℕ → ℕ → ℕ → Head
-head_with k a l u = head_of (word_of k) (atom_of (word_of k) a) l u
+head_with k a l u = head_of (kind_of_word k) (atom_of (kind_of_word k) a) l u
 
 head_from : (k a l u : ℕ) (os : List ℕ) → k ≤ 9 → (k < 7 → (l ≡ 0) × (u ≡ 0)) → head_in (row_from k a l u os) ≡ head_with k a l u
-unfolding row_from word_of
+unfolding row_from kind_of_word
 head_from zero a l u os h z = let y = z (omega arith) in rw (y.0, y.1)
 head_from (suc zero) a l u os h z = let y = z (omega arith) in rw (y.0, y.1)
 head_from (suc (suc zero)) a l u os h z = let y = z (omega arith) in rw (y.0, y.1)

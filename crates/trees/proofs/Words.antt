@@ -18,11 +18,12 @@ use Rattle.trees.specs.Building.{words_of}
 use Rattle.book.specs.Judging.{kind_in, arg_in, lower_in, upper_in, rows_in, start_in, row_in, book_in, judged, loaded_from, whole, loaded}
 use Rattle.trees.specs.Forest.{head_of, Forest, none, tree, ◌then◌, count, size, roots, Entry, entries, Fit, Good}
 use Rattle.trees.specs.Numbered.{row_with, row_of, rows_from, book_of}
-use Rattle.trees.specs.Building.{kind_of, arg_of, row_words, all_rows, all_operands}
+use Rattle.book.specs.Kinds.{word_of_kind}
+use Rattle.trees.specs.Building.{arg_of, row_words, all_rows, all_operands}
 use Rattle.trees.proofs.Numbered.{entries_length, roots_length, good_then}
 use Rattle.trees.proofs.Built.{operands_append, rows_length}
-use Rattle.trees.specs.declared.Word.{Word}
-use Rattle.trees.specs.declared.Word.TheVariants.{False, True, Atom, And, Or, Not, Implies, Hist, Once, Since}
+use Rattle.book.specs.declared.kind.Kind.{Kind}
+use Rattle.book.specs.declared.kind.Kind.TheVariants.{False, True, Atom, And, Or, Not, Implies, Historically, Once, Since}
 
 abbrev pub no : Entry
 no = record { head = head_of False 0 0 0; operands = [] }
@@ -59,7 +60,7 @@ words_at_lem (e ∷ es) (suc r) j h k =
     rw z (get_or-append-add (row_words e) (all_rows es) (4 * r + j) 0 ∙ words_at_lem es r j h (omega arith))
 
 module _ (es : List Entry) (r : ℕ) (h : r < length es) where
-  pub kind_at_lem : kind_in (all_rows es) r ≡ kind_of (get_or es r no).head.word
+  pub kind_at_lem : kind_in (all_rows es) r ≡ word_of_kind (get_or es r no).head.word
   kind_at_lem = let z : 4 * r ≡ 4 * r + 0 = omega arith in ap (λ (i : ℕ). get_or (all_rows es) i 0) z ∙ words_at_lem es r 0 (omega arith) h
 
   pub arg_at_lem : arg_in (all_rows es) r ≡ arg_of (get_or es r no).head.word (get_or es r no).head.atom (length (get_or es r no).operands)
@@ -71,7 +72,7 @@ module _ (es : List Entry) (r : ℕ) (h : r < length es) where
   pub upper_at_lem : upper_in (all_rows es) r ≡ (get_or es r no).head.upper
   upper_at_lem = words_at_lem es r 3 (omega arith) h
 
-pub count_fits : (w : Word) (a l u n : ℕ) → Fit w a l u n → count_of (kind_of w) (arg_of w a n) ≡ n
+pub count_fits : (w : Kind) (a l u n : ℕ) → Fit w a l u n → count_of (word_of_kind w) (arg_of w a n) ≡ n
 unfolding count_of
 count_fits False a l u n f = sym f.0
 count_fits True a l u n f = sym f.0
@@ -80,7 +81,7 @@ count_fits And a l u n f = refl
 count_fits Or a l u n f = refl
 count_fits Not a l u n f = sym f.0
 count_fits Implies a l u n f = sym f.0
-count_fits Hist a l u n f = sym f.0
+count_fits Historically a l u n f = sym f.0
 count_fits Once a l u n f = sym f.0
 count_fits Since a l u n f = sym f.0
 
@@ -102,7 +103,7 @@ start_at_lem es (suc r) h a =
 first_in : (xs ys : List ℕ) (i : ℕ) → i < length xs → get_or (xs ++ ys) i 0 ≡ get_or xs i 0
 first_in xs ys i h = get_or-append xs ys 0 i h
 
-row_from_lem : (w : Word) (a l u : ℕ) (xs ys : List ℕ) → Fit w a l u (length xs) → row_from (kind_of w) (arg_of w a (length xs)) l u (xs ++ ys) ≡ row_with 0 (head_of w a l u) xs
+row_from_lem : (w : Kind) (a l u : ℕ) (xs ys : List ℕ) → Fit w a l u (length xs) → row_from (word_of_kind w) (arg_of w a (length xs)) l u (xs ++ ys) ≡ row_with 0 (head_of w a l u) xs
 unfolding row_from row_with
 row_from_lem False a l u xs ys f = refl
 row_from_lem True a l u xs ys f = refl
@@ -111,7 +112,7 @@ row_from_lem And a l u xs ys f = rw (take_at xs ys (length xs) refl)
 row_from_lem Or a l u xs ys f = rw (take_at xs ys (length xs) refl)
 row_from_lem Not a l u xs ys f = rw (first_in xs ys 0 (omega arith))
 row_from_lem Implies a l u xs ys f = rw (first_in xs ys 0 (omega arith), first_in xs ys 1 (omega arith))
-row_from_lem Hist a l u xs ys f = rw (first_in xs ys 0 (omega arith))
+row_from_lem Historically a l u xs ys f = rw (first_in xs ys 0 (omega arith))
 row_from_lem Once a l u xs ys f = rw (first_in xs ys 0 (omega arith))
 row_from_lem Since a l u xs ys f = rw (first_in xs ys 0 (omega arith), first_in xs ys 1 (omega arith))
 

@@ -3,7 +3,7 @@ use Rattle.std.specs.Prelude.{ℕ, List, [], ◌∷◌, map}
 use Rattle.pmtl.specs.Book.{Row, Rows, answer}
 use Rattle.pmtl.specs.Book.Row.{never, always, atom, conj, disj, neg, implies, historically, once, since}
 use Rattle.trees.specs.Forest.{Head, head_of, Forest, none, one, ◌then◌}
-use Rattle.trees.specs.declared.Word.TheVariants.{False, True, Atom, And, Or, Not, Implies, Hist, Once, Since}
+use Rattle.book.specs.declared.kind.Kind.TheVariants.{False, True, Atom, And, Or, Not, Implies, Historically, Once, Since}
 
 -- how a row's property begins, and what stands for its parts, in order
 abbrev pub head_in : {X : Type 0} → Row X → Head
@@ -14,7 +14,7 @@ head_in (conj xs) = head_of And 0 0 0
 head_in (disj xs) = head_of Or 0 0 0
 head_in (neg x) = head_of Not 0 0 0
 head_in (implies x y) = head_of Implies 0 0 0
-head_in (historically g x) = head_of Hist 0 g.lower g.upper
+head_in (historically g x) = head_of Historically 0 g.lower g.upper
 head_in (once g x) = head_of Once 0 g.lower g.upper
 head_in (since g x y) = head_of Since 0 g.lower g.upper
 

@@ -1,30 +1,15 @@
 -- The words of a book of numbered properties, and the memory in which they are built. Definitions only.
-use Rattle.std.specs.Prelude.{ℕ, ◌+◌, ◌*◌, ◌-◌, ◌≤◌, ◌<◌, ◌≡◌, List, [], ◌∷◌, ◌++◌, length, get_or, take}
+use Rattle.std.specs.Prelude.{ℕ, ◌+◌, ◌*◌, ◌-◌, ◌≤◌, ◌<◌, ◌≡◌, List, [], ◌∷◌, ◌++◌, length, take}
 use Rattle.numbers.specs.Limits.{MOST_ROWS, ROW_WORDS}
+use Rattle.book.specs.Kinds.{word_of_kind}
 use Rattle.trees.specs.Forest.{Head, Forest, one, ◌then◌, count, size, roots, Entry, entries}
 use Rattle.trees.specs.declared.rows.RowWords.{RowWords}
 use Rattle.trees.specs.declared.rows.Spot.{Spot}
-use Rattle.trees.specs.declared.Word.{Word}
-use Rattle.trees.specs.declared.Word.TheVariants.{False, True, Atom, And, Or, Not, Implies, Hist, Once, Since}
+use Rattle.book.specs.declared.kind.Kind.{Kind}
+use Rattle.book.specs.declared.kind.Kind.TheVariants.{False, True, Atom, And, Or, Not, Implies, Historically, Once, Since}
 
--- a row's words: the table of kinds, REFERENCE 2.2
-abbrev pub kind_of : Word → ℕ
-kind_of False = 0
-kind_of True = 1
-kind_of Atom = 2
-kind_of And = 3
-kind_of Or = 4
-kind_of Not = 5
-kind_of Implies = 6
-kind_of Hist = 7
-kind_of Once = 8
-kind_of Since = 9
-
--- and back: the word of a kind, and the number of an atom, which other words do not have
-unfoldable pub word_of : ℕ → Word
-word_of kind = get_or (False ∷ True ∷ Atom ∷ And ∷ Or ∷ Not ∷ Implies ∷ Hist ∷ Once ∷ []) kind Since
-
-abbrev pub atom_of : Word → ℕ → ℕ
+-- the number of an atom, which other kinds do not have
+abbrev pub atom_of : Kind → ℕ → ℕ
 atom_of False a = 0
 atom_of True a = 0
 atom_of Atom a = a
@@ -32,12 +17,12 @@ atom_of And a = 0
 atom_of Or a = 0
 atom_of Not a = 0
 atom_of Implies a = 0
-atom_of Hist a = 0
+atom_of Historically a = 0
 atom_of Once a = 0
 atom_of Since a = 0
 
 -- an atom's number, or how many operands there are
-abbrev pub arg_of : Word → ℕ → ℕ → ℕ
+abbrev pub arg_of : Kind → ℕ → ℕ → ℕ
 arg_of False a n = n
 arg_of True a n = n
 arg_of Atom a n = a
@@ -45,12 +30,12 @@ arg_of And a n = n
 arg_of Or a n = n
 arg_of Not a n = n
 arg_of Implies a n = n
-arg_of Hist a n = n
+arg_of Historically a n = n
 arg_of Once a n = n
 arg_of Since a n = n
 
 abbrev pub row_words : Entry → List ℕ
-row_words e = kind_of e.head.word ∷ arg_of e.head.word e.head.atom (length e.operands) ∷ e.head.lower ∷ e.head.upper ∷ []
+row_words e = word_of_kind e.head.word ∷ arg_of e.head.word e.head.atom (length e.operands) ∷ e.head.lower ∷ e.head.upper ∷ []
 
 unfoldable pub all_rows : List Entry → List ℕ
 all_rows [] = []

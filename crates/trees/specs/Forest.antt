@@ -1,17 +1,17 @@
 -- Properties as trees, and how their rows are numbered: REFERENCE 11. Definitions only.
 use Rattle.std.specs.Prelude.{ℕ, suc, ◌+◌, ◌≡◌, List, [], ◌∷◌, ◌++◌}
-use Rattle.trees.specs.declared.Word.{Word}
-use Rattle.trees.specs.declared.Word.TheVariants.{False, True, Atom, And, Or, Not, Implies, Hist, Once, Since}
+use Rattle.book.specs.declared.kind.Kind.{Kind}
+use Rattle.book.specs.declared.kind.Kind.TheVariants.{False, True, Atom, And, Or, Not, Implies, Historically, Once, Since}
 
 infixl 50 ◌then◌
 -- how a property begins: its word, an atom's number, a range's bounds; 0 where its word takes none
 pub record Head : Type 0 where
-  pub word : Word
+  pub word : Kind
   pub atom : ℕ
   pub lower : ℕ
   pub upper : ℕ
 
-abbrev pub head_of : Word → ℕ → ℕ → ℕ → Head
+abbrev pub head_of : Kind → ℕ → ℕ → ℕ → Head
 head_of w a l u = record { word = w; atom = a; lower = l; upper = u }
 
 -- properties in a row: the first, by its head and its parts, and those after it
@@ -34,7 +34,7 @@ count none = 0
 count (tree h p s) = suc (count s)
 
 -- ---- well-formed: each operator has as many parts as it takes, and nothing but what its word takes
-abbrev pub Fit : Word → ℕ → ℕ → ℕ → ℕ → Type 0
+abbrev pub Fit : Kind → ℕ → ℕ → ℕ → ℕ → Type 0
 Fit False a l u n = (n ≡ 0) × (a ≡ 0) × (l ≡ 0) × (u ≡ 0)
 Fit True a l u n = (n ≡ 0) × (a ≡ 0) × (l ≡ 0) × (u ≡ 0)
 Fit Atom a l u n = (n ≡ 0) × (l ≡ 0) × (u ≡ 0)
@@ -42,7 +42,7 @@ Fit And a l u n = (a ≡ 0) × (l ≡ 0) × (u ≡ 0)
 Fit Or a l u n = (a ≡ 0) × (l ≡ 0) × (u ≡ 0)
 Fit Not a l u n = (n ≡ 1) × (a ≡ 0) × (l ≡ 0) × (u ≡ 0)
 Fit Implies a l u n = (n ≡ 2) × (a ≡ 0) × (l ≡ 0) × (u ≡ 0)
-Fit Hist a l u n = (n ≡ 1) × (a ≡ 0)
+Fit Historically a l u n = (n ≡ 1) × (a ≡ 0)
 Fit Once a l u n = (n ≡ 1) × (a ≡ 0)
 Fit Since a l u n = (n ≡ 2) × (a ≡ 0)
 

@@ -4,7 +4,7 @@ use Rattle.pmtl.specs.Book.{Range, Row, Rows, Book}
 use Rattle.pmtl.specs.Book.Row.{never, always, atom, conj, disj, neg, implies, historically, once, since}
 use Rattle.pmtl.specs.Meaning.{Fact, meaning_rule}
 use Rattle.trees.specs.Forest.{Head, Forest, none, tree, ◌then◌, size, roots, Entry, entries}
-use Rattle.trees.specs.declared.Word.TheVariants.{False, True, Atom, And, Or, Not, Implies, Hist, Once, Since}
+use Rattle.book.specs.declared.kind.Kind.TheVariants.{False, True, Atom, And, Or, Not, Implies, Historically, Once, Since}
 
 -- a row: a head over what stands for its operands; d stands for one that is not there
 module _ {X : Type 0} (d : X) where
@@ -21,7 +21,7 @@ module _ {X : Type 0} (d : X) where
         | Or ↦ disj xs
         | Not ↦ neg x
         | Implies ↦ implies x y
-        | Hist ↦ historically g x
+        | Historically ↦ historically g x
         | Once ↦ once g x
         | Since ↦ since g x y
       ]

@@ -2,19 +2,11 @@
 ghost use Rattle.std.specs.Prelude.{◌≡◌, ◌∷◌, ◌+◌, ◌≤◌, length, take};
 ghost use Rattle.trees.specs.Putting.{Joined, Lined, SectionsPut};
 
+use book::check::Places;
 use numbers::{MOST_ROWS, ROW_WORDS};
 
 // The most words that are built: each row is an operand or a property, and there are four counts.
 pub const MOST_WORDS: usize = ROW_WORDS * MOST_ROWS + MOST_ROWS + 4;
-
-// How many rows, operands, assumes and guarantees there are.
-#[derive(Clone, Copy)]
-pub struct Counts {
-    pub rows: usize,
-    pub operands: usize,
-    pub assumes: usize,
-    pub guarantees: usize,
-}
 
 // Writes a section after others, its count first, and answers with the place after it.
 fn put_section(words: &mut [u64], at: usize, count: usize, part: &[u64]) -> usize
@@ -29,7 +21,7 @@ fn put_section(words: &mut [u64], at: usize, count: usize, part: &[u64]) -> usiz
 // The four sections, of the rows, operands and properties that were built.
 pub fn put_sections<'a>(
     words: &mut [u64],
-    counts: Counts,
+    counts: Places,
     rows: &'a [u64],
     operands: &'a [u64],
     tops: &'a [u64],

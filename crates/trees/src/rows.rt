@@ -6,7 +6,7 @@ ghost use Rattle.trees.specs.Building.{Emitted, RoomFor};
 
 use numbers::ROW_WORDS;
 
-// The words of a row.
+// The words of a row. The kind is a word too: the reader of rules keeps its open operators in such words, and reads them back as words.
 #[derive(Clone, Copy)]
 pub struct RowWords {
     pub kind: u64,
@@ -31,10 +31,8 @@ pub fn put_row(rows: &mut [u64], row: usize, words: RowWords)
     ensures { rows.new ≡ sets rows.old (ROW_WORDS * row) (words.kind ∷ words.arg ∷ words.lower ∷ words.upper ∷ []) }
 {
     let at = ROW_WORDS * row;
-    rows[at] = words.kind;
-    rows[at + 1] = words.arg;
-    rows[at + 2] = words.lower;
-    rows[at + 3] = words.upper;
+    let said = [words.kind, words.arg, words.lower, words.upper];
+    rows[at..at + ROW_WORDS].copy_from_slice(&said);
 }
 
 // A row is made of the last rows that no other has taken yet, and then is such a row itself.

@@ -20,10 +20,8 @@ fn start_at(rows: &[u64], row: usize) -> usize
     ensures { result ≡ start_in rows.now row }
 {
     let mut start = 0;
-    let mut i = 0;
-    while i < row {
+    for i in 0..row {
         start += count_at(rows, i);
-        i += 1;
     }
     start
 }

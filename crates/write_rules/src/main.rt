@@ -2,16 +2,17 @@
 #![tactic(auto)]
 
 ghost use Rattle.std.specs.Prelude.{◌≡◌};
+ghost use Rattle.numbers.specs.Refusals.{number_of};
 ghost use Rattle.book.specs.Judging.{loaded};
 ghost use Rattle.buffer_writer.specs.Buffer.{handed, in_buffer};
 ghost use Rattle.write_rules.specs.Answers.{refused_line, loaded_said, answer_to};
+ghost use Rattle.write_rules.specs.Private.{AloneIn};
 
 use book::check::check;
 use buffer_writer::{finished, put_bytes};
-use console::Came;
-use numbers::{ACCEPTED, LONGEST_INPUT, PAST_LIMIT};
+use numbers::{LONGEST_INPUT, Refusal};
 use rule_printer::print::print_book;
-use text_reader::{BOOK_WORDS, Part, left_over, part_number};
+use text_reader::{BOOK_WORDS, left_over};
 
 // A byte more than the longest input that is read, so that a longer one is seen to be longer.
 const ROOM: usize = LONGEST_INPUT + 1;
@@ -20,10 +21,10 @@ const ROOM: usize = LONGEST_INPUT + 1;
 const LONGEST_TEXT: usize = 8192;
 
 // The line of a refusal.
-fn refused(out: &mut [u8], number: u64) -> u64
-    ensures { handed result out.new ≡ in_buffer out.old (refused_line number) }
+fn refused(out: &mut [u8], refusal: Refusal) -> u64
+    ensures { handed result out.new ≡ in_buffer out.old (refused_line (number_of refusal)) }
 {
-    let end = book_writer::put_book_number(out, number);
+    let end = book_writer::put_book_number(out, refusal.number());
     let next = put_bytes(out, end, b"\n");
     finished(out, next)
 }
@@ -32,11 +33,19 @@ fn refused(out: &mut [u8], number: u64) -> u64
 fn print_words(words: &[u64], out: &mut [u8]) -> u64
     ensures { handed result out.new ≡ in_buffer out.old (loaded_said (loaded words.now)) }
 {
-    let number = check(words);
-    if number != ACCEPTED {
-        return refused(out, number);
+    match check(words) {
+        Ok(()) => print_book(words, out),
+        Err(refusal) => refused(out, refusal),
     }
-    print_book(words, out)
+}
+
+// The book that an input says, with nothing after it: how many words it has.
+fn read_words(input: &[u8], words: &mut [u64; BOOK_WORDS]) -> Result<usize, Refusal>
+    ensures { AloneIn input.now words.new result }
+{
+    let read = text_reader::book(input, words)?;
+    left_over(input, read.next)?;
+    Ok(read.end)
 }
 
 // The answer to an input: its length, or zeros and MAX where it does not fit.
@@ -44,18 +53,13 @@ fn answer(input: &[u8], out: &mut [u8]) -> u64
     ensures { handed result out.new ≡ in_buffer out.old (answer_to input.now) }
 {
     if LONGEST_INPUT < input.len() {
-        return refused(out, PAST_LIMIT);
+        return refused(out, Refusal::PastLimit);
     }
     let mut words = [0u64; BOOK_WORDS];
-    let read = text_reader::book(input, &mut words);
-    let Part::Words(end, next) = read else {
-        return refused(out, part_number(read));
-    };
-    let after = left_over(input, next);
-    if after != ACCEPTED {
-        return refused(out, after);
+    match read_words(input, &mut words) {
+        Ok(end) => print_words(&words[..end], out),
+        Err(refusal) => refused(out, refusal),
     }
-    print_words(&words[..end], out)
 }
 
 fn show(rt: &(impl Print + Eprint), input: &[u8], out: &mut [u8]) {
@@ -69,8 +73,7 @@ fn show(rt: &(impl Print + Eprint), input: &[u8], out: &mut [u8]) {
 
 fn main(rt: HostRuntime) {
     let mut input = [0u8; ROOM];
-    let came = console::read_all(&rt, &mut input);
-    let Came::Bytes(n) = came else {
+    let Some(n) = console::read_all(&rt, &mut input) else {
         return;
     };
     let mut out = [0u8; LONGEST_TEXT];

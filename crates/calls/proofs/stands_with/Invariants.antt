@@ -1,12 +1,9 @@
 -- `calls::stands_with` meets its contract. The invariant: the bytes passed are the atoms that stand there. Assumes nothing.
 use mathlib.Core.Path.{◌≡◌}
-use Prim.Native.Nat.{ℕ, ◌≤◌, ◌<◌, ◌+◌, ◌-◌}
-use lib.ListN.{length, get_or}
+use Prim.Native.Nat.{ℕ, ◌<◌, ◌+◌}
+use lib.ListN.{get_or}
 use Rattle.memory.specs.Layout.{ATOMS}
 use Rattle.calls.proofs.stands_with.Given as goal
 
 abbrev pub invariant-loop-i : goal.invariant-loop-i
-invariant-loop-i l = (l.i ≤ length l.state) × ((k : ℕ) → k < l.i → get_or l.monitor (ATOMS + k) 0 ≡ get_or l.state k 0)
-
-abbrev pub decreases-loop-i : goal.decreases-loop-i
-decreases-loop-i l = length l.state - l.i
+invariant-loop-i l = (k : ℕ) → k < l.i → get_or l.monitor (ATOMS + k) 0 ≡ get_or l.state k 0

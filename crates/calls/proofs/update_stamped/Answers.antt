@@ -4,4 +4,7 @@ use Rattle.calls.proofs.Public.{done_noted}
 use Rattle.calls.proofs.update_stamped.Goals as goal
 
 pub returns : goal.returns
-returns c = let n = c.note.ensures in (done_noted c.requires c.stamped_call-number.ensures n, c.fullest-count.ensures ∙ n.kept.tables.counts.right)
+returns c =
+    let n = c.note.ensures in
+    let made = rw (← c.refused_with.ensures) at c.stamped_call-outcome.ensures in
+    (rw (← c.refused_with.ensures) (done_noted c.requires made n), c.fullest-count.ensures ∙ n.kept.tables.counts.right)

@@ -1,9 +1,18 @@
--- `desk::on_and_off` meets its contract. Assumes nothing.
+use Rattle.std.proofs.Common.{refl, ap, ◌≡◌}
+use Rattle.std.proofs.lemmas.Result.{err_from_is_err_and}
+use Rattle.numbers.specs.Refusals.{refused_with}
+use Rattle.numbers.proofs.Refused.{never_0}
 use Rattle.desk.proofs.Standing.{pulse_refused, pulse_taken}
 use Rattle.desk.proofs.on_and_off.Goals as goal
 
-pub returns-then-number-ne-ACCEPTED : goal.returns-then-number-ne-ACCEPTED
-returns-then-number-ne-ACCEPTED c = pulse_refused c.args.monitor.now c.args.time c.args.width c.args.place c.requires.ready c.requires.place_lt_width _ _ _ c.first_of.ensures c.update_stamped-number.ensures.0 c.if-number-ne-ACCEPTED.true
+pub returns-in_err-update_stamped : goal.returns-in_err-update_stamped
+returns-in_err-update_stamped c =
+    let s = c.args in
+    let p = err_from_is_err_and c.from_residual.result c.from_residual.ensures.1 in
+    let w : refused_with c.from_residual.result ≡ refused_with c.update_stamped.result.outcome = rw (p.1, p.2, c.in_err-update_stamped.was) in
+    rw w (pulse_refused s.monitor.now s.time s.width s.place c.requires.ready c.requires.place_lt_width _ _ _ refl c.update_stamped.ensures.0 (λ z. never_0 _ (rw c.in_err-update_stamped.was at z)))
 
 pub returns : goal.returns
-returns c = pulse_taken c.args.monitor.now c.args.time c.args.width c.args.place c.requires.ready c.requires.place_lt_width _ _ _ _ _ _ c.first_of.ensures c.update_stamped-number.ensures.0 c.if-number-ne-ACCEPTED.false c.first_of-2.ensures c.update_state.ensures.0
+returns c =
+    let s = c.args in
+    pulse_taken s.monitor.now s.time s.width s.place c.requires.ready c.requires.place_lt_width _ _ _ _ _ _ refl c.update_stamped.ensures.0 (ap refused_with c.in_ok-update_stamped.was) refl c.update_state.ensures.0

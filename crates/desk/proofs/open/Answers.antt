@@ -1,19 +1,28 @@
 -- `desk::open` meets its contract. Assumes nothing.
-use native.Mathlib.Omega.{arith}
-use Rattle.desk.proofs.Standing.{none_given_fine, opened_none, opened_all, all_given_fine, few_given}
+use Rattle.desk.proofs.Standing.{Takes, ok_accepted, err_refused, takes_all, takes_none, opens}
+use Rattle.desk.proofs.open.Goals.{then-is_ok, else-is_ok}
 use Rattle.desk.proofs.open.Goals as goal
 
+pub put_table-requires : goal.put_table-requires
+put_table-requires c =
+    let t : Takes c.args.kits.now c.args.count c.if-is_ok.taken = elim c.if-is_ok.branch [
+      | then-is_ok w ↦ takes_all _ _ c.judge-judged.ensures (ok_accepted c.judge-judged.result c.is_ok.ensures.value w.if-is_ok.true) w.taken-is
+      | else-is_ok w ↦ takes_none _ _ c.judge-judged.ensures (err_refused c.judge-judged.result c.is_ok.ensures.value w.if-is_ok.false) w.taken-is
+    ] in
+    (t.few, c.told-table)
+
 pub load_book-requires : goal.load_book-requires
-load_book-requires c = record { fine = none_given_fine _; count_bound = omega arith }
-
-pub returns-then-number-ne-ACCEPTED : goal.returns-then-number-ne-ACCEPTED
-returns-then-number-ne-ACCEPTED c = opened_none _ _ _ _ _ c.judge-number.ensures c.if-number-ne-ACCEPTED.true c.put_table.ensures c.load_book.ensures
-
-pub put_table-requires-2 : goal.put_table-requires-2
-put_table-requires-2 c = (few_given _ _ (all_given_fine _ _ _ c.judge-number.ensures c.if-number-ne-ACCEPTED.false), omega arith)
-
-pub load_book-requires-2 : goal.load_book-requires-2
-load_book-requires-2 c = let f = all_given_fine _ _ _ c.judge-number.ensures c.if-number-ne-ACCEPTED.false in record { fine = f; count_bound = few_given _ _ f }
+load_book-requires c =
+    let t : Takes c.args.kits.now c.args.count c.if-is_ok.taken = elim c.if-is_ok.branch [
+      | then-is_ok w ↦ takes_all _ _ c.judge-judged.ensures (ok_accepted c.judge-judged.result c.is_ok.ensures.value w.if-is_ok.true) w.taken-is
+      | else-is_ok w ↦ takes_none _ _ c.judge-judged.ensures (err_refused c.judge-judged.result c.is_ok.ensures.value w.if-is_ok.false) w.taken-is
+    ] in
+    record { fine = t.fine; count_bound = t.few }
 
 pub returns : goal.returns
-returns c = opened_all _ _ _ _ _ c.judge-number.ensures c.if-number-ne-ACCEPTED.false c.put_table-2.ensures c.load_book-2.ensures
+returns c =
+    let t : Takes c.args.kits.now c.args.count c.if-is_ok.taken = elim c.if-is_ok.branch [
+      | then-is_ok w ↦ takes_all _ _ c.judge-judged.ensures (ok_accepted c.judge-judged.result c.is_ok.ensures.value w.if-is_ok.true) w.taken-is
+      | else-is_ok w ↦ takes_none _ _ c.judge-judged.ensures (err_refused c.judge-judged.result c.is_ok.ensures.value w.if-is_ok.false) w.taken-is
+    ] in
+    opens _ _ c.judge-judged.ensures _ _ t c.put_table.ensures c.load_book.ensures

@@ -1,4 +1,3 @@
--- `desk::scan_at` meets its contract. Assumes nothing.
 use native.Mathlib.Omega.{arith}
 use Rattle.desk.proofs.Standing.{scanned_known, scanned_unknown}
 use Rattle.desk.proofs.scan_at.Goals as goal
@@ -6,5 +5,5 @@ use Rattle.desk.proofs.scan_at.Goals as goal
 pub returns-then-place-width : goal.returns-then-place-width
 returns-then-place-width c = scanned_known _ _ _ _ _ _ _ _ c.if-place-width.true c.on_and_off.ensures
 
-pub returns : goal.returns
-returns c = scanned_unknown _ _ _ _ (omega arith) c.requires.kept
+pub returns-else-place-width : goal.returns-else-place-width
+returns-else-place-width c = scanned_unknown _ _ _ _ (omega arith) c.requires.kept

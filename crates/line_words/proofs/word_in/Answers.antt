@@ -1,15 +1,19 @@
-use mathlib.Core.Path.{sym, ◌∙◌}
+use native.Mathlib.Omega.{arith}
+use mathlib.Core.Path.{◌≡◌, sym, ◌∙◌}
 use Rattle.line_words.proofs.Lines.{seek_start, seek_none, seek_found, seek_more}
 use Rattle.line_words.proofs.word_in.Goals as goal
 
-pub loop-w-init : goal.loop-w-init
-loop-w-init c = seek_start _ _
+pub loop-init : goal.loop-init
+loop-init c = seek_start _
 
 pub returns-in_default : goal.returns-in_default
-returns-in_default c = seek_none c.loop-w.invariant (sym c.next_word-r.ensures ∙ c.in_default.is)
+returns-in_default c = seek_none c.loop.invariant _ (omega arith) (sym c.next_word.ensures ∙ c.in_default.is)
 
-pub returns-then-left-eq0 : goal.returns-then-left-eq0
-returns-then-left-eq0 c = seek_found c.loop-w.invariant (sym c.next_word-r.ensures ∙ c.in-Word.is) c.if-left-eq0.true
+pub loop-preserved : goal.loop-preserved
+loop-preserved c = seek_more c.loop.invariant (sym c.next_word.ensures ∙ c.in-Ok.is)
 
-pub loop-w-preserved : goal.loop-w-preserved
-loop-w-preserved c = seek_more c.loop-w.invariant (sym c.next_word-r.ensures ∙ c.in-Word.is) c.if-left-eq0.false
+pub returns-in-Ok-next_word : goal.returns-in-Ok-next_word
+returns-in-Ok-next_word c = let z : c.loop.counter ≡ c.args.i = omega arith in rw z at (seek_found c.loop.invariant (sym c.next_word-2.ensures ∙ c.in-Ok-next_word.is))
+
+pub returns-in-Err : goal.returns-in-Err
+returns-in-Err c = seek_none c.loop.invariant _ (omega arith) (sym c.next_word-2.ensures ∙ c.in-Err.is)

@@ -1,9 +1,6 @@
--- `line_words::word_in` meets its contract. The invariant: word i is so many words further on. Assumes nothing.
+-- So many words are passed, up to the place.
 use Rattle.line_words.proofs.Lines.{Seeking}
 use Rattle.line_words.proofs.word_in.Given as goal
 
-abbrev pub invariant-loop-w : goal.invariant-loop-w
-invariant-loop-w l = Seeking l.input l.i l.at l.left
-
-abbrev pub decreases-loop-w : goal.decreases-loop-w
-decreases-loop-w l = l.left
+abbrev pub invariant-loop : goal.invariant-loop
+invariant-loop l = Seeking l.input l.at l.counter

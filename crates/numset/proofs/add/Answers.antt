@@ -4,5 +4,5 @@ use Rattle.numset.proofs.add.Goals as goal
 
 pub returns : goal.returns
 returns c =
-    let j = c.join_in-number.ensures in
+    let j = c.join_in-outcome.ensures in
     (j.0, counted _ _ _ _ j.1, j.1)

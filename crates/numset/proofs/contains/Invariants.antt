@@ -4,6 +4,3 @@ use Rattle.numset.proofs.contains.Given as goal
 
 abbrev pub invariant-loop-run : goal.invariant-loop-run
 invariant-loop-run l = Looking l.set l.t l.run
-
-abbrev pub decreases-loop-run : goal.decreases-loop-run
-decreases-loop-run l = l.run

@@ -1,10 +1,10 @@
 -- `numset::empty` meets its contract. Assumes nothing.
-use native.Mathlib.Omega.{arith}
+use borrow.Author.Rules.{rules}
 use Rattle.numset.proofs.Resets.{empties_none, empties}
 use Rattle.numset.proofs.empty.Goals as goal
 
-pub returns-then-set-eq0 : goal.returns-then-set-eq0
-returns-then-set-eq0 c = empties_none _ (omega arith)
+pub returns-then-is_empty : goal.returns-then-is_empty
+returns-then-is_empty c = empties_none _ (search rules)
 
 pub returns : goal.returns
-returns c = empties _ (λ h. omega arith) c.clear.ensures
+returns c = empties _ (λ h. search rules) c.clear.ensures

@@ -1,26 +1,20 @@
 -- `numset::lengthen` meets its contract. Assumes nothing.
-use mathlib.Core.Path.{◌∙◌}
+use mathlib.Core.Path.{sym, ◌∙◌}
 use native.Mathlib.Omega.{arith}
 use Rattle.numset.proofs.Newest.{takes_some, lengthened}
 use Rattle.numset.proofs.lengthen.Goals as goal
 
-pub overflow_sub-n : goal.overflow_sub-n
-overflow_sub-n c = omega (arith, takes_some c.args.set.now c.args.lower c.requires.lower_le_upper.1)
+pub overflow_sub-last : goal.overflow_sub-last
+overflow_sub-last c = omega (arith, takes_some c.args.set.now c.args.lower c.requires.lower_le_upper.1)
 
 pub lower_at-low-requires : goal.lower_at-low-requires
-lower_at-low-requires c = omega (arith, takes_some c.args.set.now c.args.lower c.requires.lower_le_upper.1, c.requires.good.room)
-
-pub overflow_sub-n-2 : goal.overflow_sub-n-2
-overflow_sub-n-2 c = omega (arith, takes_some c.args.set.now c.args.lower c.requires.lower_le_upper.1)
+lower_at-low-requires c = omega (arith, takes_some c.args.set.now c.args.lower c.requires.lower_le_upper.1)
 
 pub upper_at-high-requires : goal.upper_at-high-requires
-upper_at-high-requires c = omega (arith, takes_some c.args.set.now c.args.lower c.requires.lower_le_upper.1, c.requires.good.room)
-
-pub overflow_sub-n-3 : goal.overflow_sub-n-3
-overflow_sub-n-3 c = omega (arith, takes_some c.args.set.now c.args.lower c.requires.lower_le_upper.1)
+upper_at-high-requires c = omega (arith, takes_some c.args.set.now c.args.lower c.requires.lower_le_upper.1)
 
 pub store-requires : goal.store-requires
 store-requires c = omega (arith, takes_some c.args.set.now c.args.lower c.requires.lower_le_upper.1, c.requires.good.room)
 
 pub returns : goal.returns
-returns c = lengthened c.args.set.now c.args.lower c.requires.lower_le_upper.1 c.requires.good c.requires.lower_le_upper.0 (c.store.ensures ∙ rw (c.lower_at-low.ensures, c.greater.ensures, c.upper_at-high.ensures)) c.store.auto.set (omega arith)
+returns c = let a = lengthened c.args.set.now c.args.lower c.requires.lower_le_upper.1 c.requires.good c.requires.lower_le_upper.0 (c.store.ensures ∙ rw (c.lower_at-low.ensures, c.max.ensures, c.upper_at-high.ensures)) c.store.auto.set (omega arith) in (sym a.0, a.1)

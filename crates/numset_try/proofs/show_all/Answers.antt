@@ -1,6 +1,6 @@
 use Rattle.numset.proofs.Resets.{empty_good}
-use Rattle.std.proofs.Common.{arith}
+use Rattle.std.proofs.Common.{rules}
 use Rattle.numset_try.proofs.show_all.Goals as goal
 
 pub examples-requires : goal.examples-requires
-examples-requires g c = empty_good c.args.set.now c.empty.ensures.1 (omega (arith, c.empty.ensures.0))
+examples-requires g c = empty_good c.args.set.now c.empty.ensures.1 (search rules)

@@ -3,8 +3,5 @@ use mathlib.Core.Path.{sym, ◌∙◌}
 use Rattle.memory.proofs.Properties.{properties_length}
 use Rattle.oracle.proofs.property_count.Goals as goal
 
-pub property_count-requires : goal.property_count-requires
-property_count-requires c = c.requires.sound.book
-
 pub returns : goal.returns
 returns c = c.property_count.ensures ∙ sym (properties_length _ c.requires.sound.book)

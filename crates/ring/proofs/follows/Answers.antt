@@ -10,4 +10,4 @@ pub returns-then-set-eq0 : goal.returns-then-set-eq0
 returns-then-set-eq0 c = follows_none (unrolled c.args.set.now) c.args.lower (unrolled_count c.args.set.now ∙ c.if-set-eq0.true)
 
 pub returns : goal.returns
-returns c = let n = unrolled_count c.args.set.now in rw (c.gap.ensures, c.newest_upper.ensures, ← n) (follows_is (unrolled c.args.set.now) c.args.lower (omega arith))
+returns c = let n = unrolled_count c.args.set.now in rw (c.saturating_sub.ensures, c.newest_upper.ensures, ← n) (follows_is (unrolled c.args.set.now) c.args.lower (omega arith))

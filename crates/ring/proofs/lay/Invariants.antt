@@ -1,5 +1,5 @@
 -- `ring::lay` meets its contract. Assumes nothing.
-use Prim.Native.Nat.{◌+◌, ◌-◌, ◌≤◌}
+use Prim.Native.Nat.{◌+◌}
 use mathlib.Core.Path.{◌≡◌}
 use lib.ListN.{length, get_or}
 use Rattle.ring.specs.Ring.{turn_of, unrolled}
@@ -7,7 +7,4 @@ use Rattle.lists.specs.Lists.{filled_from}
 use Rattle.ring.proofs.lay.Given as goal
 
 abbrev pub invariant-loop-i : goal.invariant-loop-i
-invariant-loop-i l = (l.i ≤ 128) × (length l.set ≡ 130) × (turn_of l.set ≡ turn_of l.initial.set) × (unrolled l.set ≡ filled_from 1 (λ k. get_or l.flat (1 + k) 0) (unrolled l.initial.set) l.i)
-
-abbrev pub decreases-loop-i : goal.decreases-loop-i
-decreases-loop-i l = 128 - l.i
+invariant-loop-i l = (length l.set ≡ 130) × (turn_of l.set ≡ turn_of l.initial.set) × (unrolled l.set ≡ filled_from 1 (λ k. get_or l.flat (1 + k) 0) (unrolled l.initial.set) l.i)

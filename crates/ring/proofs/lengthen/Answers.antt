@@ -22,4 +22,4 @@ pub store-requires : goal.store-requires
 store-requires c = let h = few c.args.set.now c.requires.0 in let n = some_run c.args.set.now c.args.lower c.args.upper c.requires.0 c.requires.1 c.requires.2 in (c.requires.0, omega arith)
 
 pub returns : goal.returns
-returns c = let m = c.args.set.now in let n = get_or m 0 0 in let t = c.store in longer m c.args.lower c.args.upper c.requires.0 c.requires.1 c.requires.2 _ (t.auto.set ∙ c.requires.0.long) t.ensures.1 (omega arith) (t.ensures.0 ∙ ap₂ (λ (x y : ℕ). with_run (unrolled m) (n - 1) x y n) c.newest_lower-low.ensures (c.greater.ensures ∙ ap (max c.args.upper) c.newest_upper-high.ensures))
+returns c = let m = c.args.set.now in let n = get_or m 0 0 in let t = c.store in longer m c.args.lower c.args.upper c.requires.0 c.requires.1 c.requires.2 _ (t.auto.set ∙ c.requires.0.long) t.ensures.1 (omega arith) (t.ensures.0 ∙ ap₂ (λ (x y : ℕ). with_run (unrolled m) (n - 1) x y n) c.newest_lower-low.ensures (c.max.ensures ∙ ap (max c.args.upper) c.newest_upper-high.ensures))

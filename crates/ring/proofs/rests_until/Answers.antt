@@ -15,3 +15,6 @@ returns-then-t-lower c = let e = unrolled_count c.args.set.now in let m = unroll
 
 pub returns : goal.returns
 returns c = let e = unrolled_count c.args.set.now in let m = unrolled c.args.set.now in rw c.oldest_upper.ensures (until_ends m c.args.t (get_or m 0 0) (omega arith) (omega arith))
+
+pub oldest_upper-requires : goal.oldest_upper-requires
+oldest_upper-requires c = let e = unrolled_count c.args.set.now in omega arith

@@ -1,10 +1,6 @@
 -- Each step leaves a ring again.
-use Rattle.std.proofs.Common.{◌≤◌, ◌-◌, ◌≡◌, length}
 use Rattle.ring.specs.Ring.{Rolling}
 use Rattle.ring_try.proofs.fill.Given as goal
 
 abbrev pub invariant-loop-i : goal.invariant-loop-i
-invariant-loop-i g l = (l.i ≤ 64) × Rolling l.set × (length l.set ≡ length l.initial.set)
-
-abbrev pub decreases-loop-i : goal.decreases-loop-i
-decreases-loop-i g l = 64 - l.i
+invariant-loop-i g l = Rolling l.set

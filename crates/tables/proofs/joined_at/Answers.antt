@@ -1,32 +1,29 @@
+-- `tables::joined_at` meets its contract. Assumes nothing.
 use mathlib.Core.Path.{ap}
 use lib.Dec.{eqb}
 use native.Mathlib.Omega.{arith}
-use Rattle.tables.proofs.Joins.{joining_start, joining_more, joining_stop, joining_done, joining_inside}
+use Rattle.row_answers.specs.Private.{joined}
+use Rattle.row_answers.proofs.Answers.{walking_start, walking_below, walking_more, walking_stop, walking_done}
+use Rattle.row_answers.proofs.Values.{joined_nil, joined_stop, joined_on}
+use Rattle.tables.specs.Puts.{bit_in}
 use Rattle.tables.proofs.joined_at.Goals as goal
 
-pub loop-rest-init : goal.loop-rest-init
-loop-rest-init c = joining_start c.args.table c.args.stop c.requires.span
-
-pub operand_at-requires : goal.operand_at-requires
-operand_at-requires c = let l = c.loop-rest in (joining_inside c.requires.book_kept.0 l.invariant (omega arith)).0
+pub loop-at-init : goal.loop-at-init
+loop-at-init c = walking_start (bit_in c.args.monitor.now c.args.table) (joined c.args.stop) c.requires.span (omega arith)
 
 pub overflow_add-table : goal.overflow_add-table
-overflow_add-table c = let l = c.loop-rest in let q = (joining_inside c.requires.book_kept.0 l.invariant (omega arith)).1 in let e = c.operand_at.ensures in let t = c.requires.book_kept.1 in omega arith
+overflow_add-table c = let low = walking_below c.loop-at.invariant (omega arith) c.operand_at.ensures in let few = c.requires.book_kept.0.few in let t = c.requires.book_kept.1 in omega arith
 
 pub word-requires : goal.word-requires
-word-requires c = let l = c.loop-rest in let q = (joining_inside c.requires.book_kept.0 l.invariant (omega arith)).1 in let e = c.operand_at.ensures in let t = c.requires.book_kept.1 in omega arith
+word-requires c = let low = walking_below c.loop-at.invariant (omega arith) c.operand_at.ensures in let few = c.requires.book_kept.0.few in let t = c.requires.book_kept.1 in omega arith
 
 pub returns-then-word-stop : goal.returns-then-word-stop
-returns-then-word-stop c = let l = c.loop-rest in joining_stop c.requires.book_kept.0 l.invariant (omega arith) c.operand_at.ensures (ap (λ x. eqb x 1) c.word.ensures) c.if-word-stop.true
+returns-then-word-stop c =
+    walking_stop c.loop-at.invariant c.requires.book_kept.0.long (omega arith) c.operand_at.ensures (ap (λ x. eqb x 1) c.word.ensures) (λ vs. joined_stop c.args.stop _ vs c.if-word-stop.true)
 
-pub overflow_add-at : goal.overflow_add-at
-overflow_add-at c = let l = c.loop-rest in omega (arith, l.invariant.span.inside)
-
-pub overflow_sub-rest : goal.overflow_sub-rest
-overflow_sub-rest c = let l = c.loop-rest in omega arith
-
-pub loop-rest-preserved : goal.loop-rest-preserved
-loop-rest-preserved c = let l = c.loop-rest in joining_more c.requires.book_kept.0 l.invariant (omega arith) c.operand_at.ensures (ap (λ x. eqb x 1) c.word.ensures) c.if-word-stop.false
+pub loop-at-preserved : goal.loop-at-preserved
+loop-at-preserved c =
+    walking_more c.loop-at.invariant c.requires.book_kept.0.long (omega arith) c.operand_at.ensures (ap (λ x. eqb x 1) c.word.ensures) (joined c.args.stop) (λ vs. joined_on c.args.stop _ vs c.if-word-stop.false) (omega arith)
 
 pub returns : goal.returns
-returns c = let l = c.loop-rest in joining_done c.requires.book_kept.0 l.invariant (omega arith)
+returns c = walking_done c.loop-at.invariant (omega arith) (joined_nil c.args.stop)

@@ -1,9 +1,11 @@
 -- `tables::joined_at` meets its contract. The invariant: the operands that are left say what all say. Assumes nothing.
-use Rattle.tables.proofs.Joins.{Joining}
+use Prim.Native.Nat.{◌+◌, ◌-◌}
+use mathlib.Core.List.{map}
+use Rattle.memory.specs.Memory.{operands_from}
+use Rattle.row_answers.specs.Private.{joined}
+use Rattle.row_answers.proofs.Answers.{Walking}
+use Rattle.tables.specs.Puts.{bit_in}
 use Rattle.tables.proofs.joined_at.Given as goal
 
-abbrev pub invariant-loop-rest : goal.invariant-loop-rest
-invariant-loop-rest l = Joining l.monitor l.table l.stop l.place l.left l.at l.rest
-
-abbrev pub decreases-loop-rest : goal.decreases-loop-rest
-decreases-loop-rest l = l.rest
+abbrev pub invariant-loop-at : goal.invariant-loop-at
+invariant-loop-at l = Walking l.monitor (bit_in l.monitor l.table) (joined l.stop) (joined l.stop (map (bit_in l.monitor l.table) (operands_from l.monitor l.place l.left))) l.at (l.place + l.left - l.at)

@@ -1,4 +1,4 @@
-use Rattle.std.proofs.Common.{◌+◌, ◌*◌, arith}
+use Rattle.std.proofs.Common.{arith}
 use Rattle.text_reader.proofs.Taking.{all_start, all_more, all_done, tell_none}
 use Rattle.text_reader.proofs.bits_into.Goals as goal
 
@@ -8,9 +8,8 @@ loop-i-init c = all_start _ _ _ _ c.requires.1
 pub loop-i-preserved : goal.loop-i-preserved
 loop-i-preserved c =
     let asked = c.requires in
-    let at = c.args.cursor + 2 * c.loop-i.i + 1 in
-    let bit = c.bit_in-b.ensures.told _ _ (omega (arith, c.shared_slice_known-in-loop-i-2-1.given at)) c.pair.ensures in
-    all_more c.loop-i.invariant c.loop-i-test.true asked.2 asked.0 bit c.low_byte.ensures c.greater-most.ensures
+    let bit = c.bit_in-bit.ensures.told _ _ (omega arith) c.pair.ensures in
+    all_more c.loop-i.invariant c.loop-i-test.true asked.2 asked.0 bit c.low_byte.ensures c.max-most.ensures
 
 pub returns-then-most-lt-NO_BIT : goal.returns-then-most-lt-NO_BIT
 returns-then-most-lt-NO_BIT c = all_done c.loop-i.invariant c.if-most-lt-NO_BIT.true (omega arith) c.requires.0

@@ -1,23 +1,26 @@
-use Rattle.std.proofs.Common.{sym, ◌∙◌, arith}
+use Rattle.std.proofs.Common.{sym, arith}
+use Rattle.std.proofs.lemmas.Result.{err_from_is_err_and}
 use Rattle.text_reader.specs.Reads.{BytesRead}
-use Rattle.text_reader.proofs.Taking.{number, turn_told, room_kept, turn_more, turn_stop, turn_done}
+use Rattle.text_reader.proofs.Taking.{turn_told, room_kept, turn_more, turn_stop, turn_done}
 use Rattle.text_reader.proofs.bytes_into.Goals as goal
 
-pub overflow_mul-from : goal.overflow_mul-from
-overflow_mul-from c = let b = c.bits-i.ensures in omega (arith, b.within)
+pub overflow_mul-next : goal.overflow_mul-next
+overflow_mul-next c = let b = c.bits-told.ensures in omega (arith, b.within)
 
-pub overflow_add-from : goal.overflow_add-from
-overflow_add-from c = let b = c.bits-i.ensures in omega (arith, b.within)
+pub overflow_add-next : goal.overflow_add-next
+overflow_add-next c = let b = c.bits-told.ensures in omega (arith, b.within)
 
 pub loop-i-init : goal.loop-i-init
-loop-i-init c = turn_told c.bits-i.ensures
+loop-i-init c = turn_told c.bits-told.ensures
 
-pub returns-in_default : goal.returns-in_default
+pub returns-in_err-word : goal.returns-in_err-word
 unfolding BytesRead
-returns-in_default c = let e = c.in_default.is in turn_stop c.loop-i.invariant (sym c.next_short-r.ensures ∙ e) c.loop-i-test.true (c.number_of.ensures ∙ sym (number e))
+returns-in_err-word c =
+    let p = err_from_is_err_and c.from_residual.result c.from_residual.ensures.1 in
+    rw (p.1, p.2) (turn_stop c.loop-i.invariant (sym c.in_err-word.ensures) c.loop-i-test.true)
 
 pub loop-i-preserved : goal.loop-i-preserved
-loop-i-preserved c = turn_more c.loop-i.invariant (sym c.next_short-r.ensures ∙ c.in-Word.is) c.byte_of.ensures c.loop-i-test.true (room_kept c.requires c.bits-i.auto.bytes)
+loop-i-preserved c = turn_more c.loop-i.invariant (sym c.in_ok-word.ensures) c.byte_of.ensures c.loop-i-test.true (room_kept c.requires c.bits-told.auto.bytes)
 
 pub returns : goal.returns
 unfolding BytesRead

@@ -1,16 +1,19 @@
 -- `text_reader::state` meets its contract. Assumes nothing.
-use Rattle.std.proofs.Common.{sym, ◌∙◌}
+use Rattle.std.proofs.Common.{sym}
+use Rattle.std.proofs.lemmas.Result.{err_from_is_err_and}
 use Rattle.text_reader.specs.Reads.{StateRead}
-use Rattle.text_reader.proofs.Taking.{number, section_none, section_over, state_read}
+use Rattle.text_reader.proofs.Taking.{section_none, section_over, state_read}
 use Rattle.text_reader.proofs.state.Goals as goal
 
-pub returns-in_default : goal.returns-in_default
+pub returns-in_err-width : goal.returns-in_err-width
 unfolding StateRead
-returns-in_default c = let e = c.in_default.is in section_none _ _ _ _ (sym c.next_short-r.ensures ∙ e) (c.number_of.ensures ∙ sym (number e))
+returns-in_err-width c =
+    let p = err_from_is_err_and c.from_residual.result c.from_residual.ensures.1 in
+    rw (p.1, p.2) (section_none _ _ _ _ (sym c.in_err-width.ensures))
 
 pub returns-then-width : goal.returns-then-width
 unfolding StateRead
-returns-then-width c = section_over _ _ _ _ (sym c.next_short-r.ensures ∙ c.in-Word.is) c.if-width.true
+returns-then-width c = section_over _ _ _ _ (sym c.in_ok-width.ensures) c.if-width.true
 
 pub returns : goal.returns
-returns c = state_read _ _ _ _ (sym c.next_short-r.ensures ∙ c.in-Word.is) c.if-width.false c.bytes_into.ensures
+returns c = state_read _ _ _ _ (sym c.in_ok-width.ensures) c.if-width.false c.bytes_into.ensures

@@ -2,8 +2,8 @@
 use Rattle.std.proofs.Common.{◌≤◌, ◌-◌, length}
 use Rattle.text_try.proofs.show_words.Given as goal
 
-abbrev pub invariant-loop-w : goal.invariant-loop-w
-invariant-loop-w g l = l.at ≤ length l.input
+abbrev pub invariant-loop-word : goal.invariant-loop-word
+invariant-loop-word g l = l.at ≤ length l.input
 
-abbrev pub decreases-loop-w : goal.decreases-loop-w
-decreases-loop-w g l = length l.input - l.at
+abbrev pub decreases-loop-word : goal.decreases-loop-word
+decreases-loop-word g l = length l.input - l.at

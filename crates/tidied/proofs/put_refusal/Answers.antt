@@ -4,4 +4,4 @@ use Rattle.tidied.proofs.put_refusal.Goals as goal
 
 pub returns : goal.returns
 unfolding refusal_line
-returns c = and_then c.put_bytes-next.ensures (and_then c.put_number-middle.ensures (and_then c.put_bytes-last.ensures (and_then c.put_number-end.ensures c.put_bytes.ensures)))
+returns c = rw (← c.number.ensures) (and_then c.put_bytes-next.ensures (and_then c.put_number-middle.ensures (and_then c.put_bytes-last.ensures (and_then c.put_number-end.ensures c.put_bytes.ensures))))

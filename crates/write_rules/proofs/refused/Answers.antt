@@ -5,4 +5,4 @@ use Rattle.write_rules.proofs.refused.Goals as goal
 
 pub returns : goal.returns
 unfolding refused_line
-returns c = c.finished.ensures ∙ at_end (and_then c.put_book_number-end.ensures c.put_bytes-next.ensures) ∙ whole _ _
+returns c = rw (← c.number.ensures) (c.finished.ensures ∙ at_end (and_then c.put_book_number-end.ensures c.put_bytes-next.ensures) ∙ whole _ _)

@@ -1,15 +1,24 @@
 -- `book::check::judge` meets its contract. Assumes nothing.
-use Rattle.book.proofs.Judges.{wrong_rows, wrong_links, linked, by_uses}
+use mathlib.Core.Path.{sym, ◌∙◌}
+use Rattle.std.proofs.lemmas.Result.{err_from_is_err_and}
+use Rattle.book.proofs.Judges.{wrong_rows, wrong_links, wrong_uses, nothing_wrong}
 use Rattle.book.proofs.check.judge.Goals as goal
 
-pub returns-then-wrong-ne-ACCEPTED : goal.returns-then-wrong-ne-ACCEPTED
-returns-then-wrong-ne-ACCEPTED c = wrong_rows _ _ c.rows_number-wrong.ensures c.if-wrong-ne-ACCEPTED.true
+pub returns-in_err-judge_rows : goal.returns-in_err-judge_rows
+returns-in_err-judge_rows c =
+    let p = err_from_is_err_and c.from_residual.result c.from_residual.ensures.1 in
+    rw (p.1, p.2) (wrong_rows _ _ c.in_err-judge_rows.ensures)
 
-pub returns-then-wrong-ne-ACCEPTED-2 : goal.returns-then-wrong-ne-ACCEPTED-2
-returns-then-wrong-ne-ACCEPTED-2 c = wrong_links _ _ c.rows_number-wrong.ensures c.if-wrong-ne-ACCEPTED.false _ c.links_number-wrong.ensures c.if-wrong-ne-ACCEPTED-2.true
+pub returns-then-not-are_linked : goal.returns-then-not-are_linked
+returns-then-not-are_linked c = wrong_links _ c.in_ok-judge_rows.ensures (sym c.are_linked.ensures ∙ c.if-not-are_linked.true)
 
-pub uses_number-requires : goal.uses_number-requires
-uses_number-requires c = record { few = c.requires; links = linked _ _ c.rows_number-wrong.ensures c.if-wrong-ne-ACCEPTED.false _ c.links_number-wrong.ensures c.if-wrong-ne-ACCEPTED-2.false }
+pub are_used_once-requires : goal.are_used_once-requires
+are_used_once-requires c = record { few = c.requires; links = sym c.are_linked.ensures ∙ c.if-not-are_linked.false }
+
+pub returns-then-not-are_used_once : goal.returns-then-not-are_used_once
+returns-then-not-are_used_once c =
+    wrong_uses _ c.in_ok-judge_rows.ensures (sym c.are_linked.ensures ∙ c.if-not-are_linked.false) (sym c.are_used_once.ensures ∙ c.if-not-are_used_once.true)
 
 pub returns : goal.returns
-returns c = by_uses _ _ c.rows_number-wrong.ensures c.if-wrong-ne-ACCEPTED.false _ c.links_number-wrong.ensures c.if-wrong-ne-ACCEPTED-2.false _ c.uses_number.ensures
+returns c =
+    nothing_wrong _ c.in_ok-judge_rows.ensures (sym c.are_linked.ensures ∙ c.if-not-are_linked.false) (sym c.are_used_once.ensures ∙ c.if-not-are_used_once.false)

@@ -1,15 +1,17 @@
 -- `book::check::place` meets its contract. Assumes nothing.
-use Rattle.book.proofs.Judges.{unread, unfit, fit}
+use Rattle.std.proofs.lemmas.Result.{err_from_is_err_and}
+use Rattle.book.proofs.Judges.{unread, judged_so}
 use Rattle.book.proofs.check.place.Goals as goal
 
-pub returns-then-places-ne-ACCEPTED : goal.returns-then-places-ne-ACCEPTED
-returns-then-places-ne-ACCEPTED c = unread _ _ _ _ _ _ c.counts-places.ensures c.if-places-ne-ACCEPTED.true
+pub returns-in_err-places-clause-number : goal.returns-in_err-places-clause-number
+returns-in_err-places-clause-number c =
+    let p = err_from_is_err_and c.from_residual.result c.from_residual.ensures.1 in
+    rw (p.1, p.2) (unread _ _ c.in_err-places.ensures.err)
 
-pub judge_parts-wrong-requires : goal.judge_parts-wrong-requires
-judge_parts-wrong-requires c = c.counts-places.ensures.counted c.if-places-ne-ACCEPTED.false
+pub returns-in_err-judge_parts-clause-number : goal.returns-in_err-judge_parts-clause-number
+returns-in_err-judge_parts-clause-number c =
+    let p = err_from_is_err_and c.from_residual-in_err-judge_parts.result c.from_residual-in_err-judge_parts.ensures.1 in
+    rw (p.1, p.2) (judged_so _ _ _ _ _ _ c.in_ok-places.ensures.ok c.in_err-judge_parts.ensures)
 
-pub returns-then-wrong-ne-ACCEPTED : goal.returns-then-wrong-ne-ACCEPTED
-returns-then-wrong-ne-ACCEPTED c = unfit _ _ _ _ _ _ c.counts-places.ensures c.if-places-ne-ACCEPTED.false _ c.judge_parts-wrong.ensures c.if-wrong-ne-ACCEPTED.true _ _ _ _ _ c.refused.ensures
-
-pub returns : goal.returns
-returns c = fit _ _ _ _ _ _ c.counts-places.ensures c.if-places-ne-ACCEPTED.false _ c.judge_parts-wrong.ensures c.if-wrong-ne-ACCEPTED.false
+pub returns-clause-number : goal.returns-clause-number
+returns-clause-number c = judged_so _ _ _ _ _ _ c.in_ok-places.ensures.ok c.in_ok-judge_parts.ensures

@@ -1,10 +1,9 @@
 -- `book::strict::place_by` meets its contract. Assumes nothing.
-use Rattle.book.proofs.Excess.{placed_within, placed_over}
+use Rattle.std.proofs.lemmas.Result.{err_from_is_err_and}
+use Rattle.book.proofs.Excess.{refused_so}
 use Rattle.book.proofs.strict.place_by.Goals as goal
 
-pub returns-in_default : goal.returns-in_default
-returns-in_default c = placed_within _ _ _ _ _ _ c.place-places.ensures _ _ c.excess_at.ensures c.in_default.is
-
-pub returns : goal.returns
-returns c =
-    placed_over _ _ _ _ _ _ c.place-places.ensures _ _ c.excess_at.ensures _ _ c.in-Over.is _ _ _ _ _ c.refused.ensures
+pub returns-in_err-places-clause-number : goal.returns-in_err-places-clause-number
+returns-in_err-places-clause-number c =
+    let p = err_from_is_err_and c.from_residual.result c.from_residual.ensures.1 in
+    rw (p.1, p.2) (refused_so _ _ _ c.in_err-places.ensures.number)

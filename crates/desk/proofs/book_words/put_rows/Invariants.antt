@@ -1,13 +1,8 @@
 -- `desk::book_words::put_rows` meets its contract. Assumes nothing.
 use Rattle.desk.proofs.Writing.{rows_of}
-use Prim.Native.Nat.{◌-◌, ◌≤◌}
 use mathlib.Core.Path.{◌≡◌}
-use lib.ListN.{length}
 use lib.Seq.{sets}
 use Rattle.desk.proofs.book_words.put_rows.Given as goal
 
 abbrev pub invariant-loop-k : goal.invariant-loop-k
-invariant-loop-k l = (l.k ≤ l.count) × (l.words ≡ sets l.initial.words l.at (rows_of l.kits l.k)) × (length l.words ≡ length l.initial.words)
-
-abbrev pub decreases-loop-k : goal.decreases-loop-k
-decreases-loop-k l = l.count - l.k
+invariant-loop-k l = l.words ≡ sets l.initial.words l.at (rows_of l.kits l.k)

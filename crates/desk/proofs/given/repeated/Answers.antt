@@ -1,15 +1,14 @@
-use native.Mathlib.Omega.{arith}
 use Rattle.desk.proofs.Kits.{apart_start, apart_found, apart_more, apart_end}
 use Rattle.desk.proofs.given.repeated.Goals as goal
 
 pub loop-i-init : goal.loop-i-init
-loop-i-init c = (omega arith, apart_start _)
+loop-i-init c = apart_start _
 
-pub returns-then-again : goal.returns-then-again
-returns-then-again c = let l = c.loop-i in apart_found _ _ _ l.invariant.1 (omega arith) c.again.ensures c.if-again.true
+pub returns-then-contains : goal.returns-then-contains
+returns-then-contains c = apart_found _ _ c.loop-i.invariant c.loop-i-test.true c.contains.ensures.value c.if-contains.true
 
 pub loop-i-preserved : goal.loop-i-preserved
-loop-i-preserved c = let l = c.loop-i in (omega arith, apart_more _ _ _ l.invariant.1 (omega arith) c.again.ensures c.if-again.false)
+loop-i-preserved c = apart_more _ _ c.loop-i.invariant c.loop-i-test.true c.contains.ensures.value c.if-contains.false
 
 pub returns : goal.returns
-returns c = let l = c.loop-i in apart_end _ l.i l.invariant.1 (omega arith)
+returns c = apart_end _ _ c.loop-i.invariant c.loop-i-test.false

@@ -1,11 +1,6 @@
--- `desk::given::repeated` meets its contract. Assumes nothing.
-use Prim.Native.Nat.{◌≤◌, ◌-◌}
-use lib.ListN.{length}
+-- None of the first barcodes is given again.
 use Rattle.desk.proofs.Kits.{Apart}
 use Rattle.desk.proofs.given.repeated.Given as goal
 
 abbrev pub invariant-loop-i : goal.invariant-loop-i
-invariant-loop-i l = (l.i ≤ length l.barcodes) × Apart l.barcodes l.i
-
-abbrev pub decreases-loop-i : goal.decreases-loop-i
-decreases-loop-i l = length l.barcodes - l.i
+invariant-loop-i l = Apart l.barcodes l.i

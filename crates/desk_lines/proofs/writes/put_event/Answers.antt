@@ -8,8 +8,8 @@ returns-in-Nothing c = said_nothing _ _ c.in-Nothing.is
 pub returns-in-Desk : goal.returns-in-Desk
 returns-in-Desk c = said_desk _ _ c.in-Desk.is c.put_numbered.ensures
 
-pub returns-in-Scanned : goal.returns-in-Scanned
-returns-in-Scanned c = said_scan _ _ c.in-Scanned.is c.put_scan.ensures
+pub returns-in-Some : goal.returns-in-Some
+returns-in-Some c = said_slip _ _ c.in-Scan.is c.put_scan-a.ensures c.in-Some.is c.put_numbered-in-Some.ensures
 
-pub returns-in-Stopped : goal.returns-in-Stopped
-returns-in-Stopped c = said_slip _ _ c.in-Stopped.is c.put_scan-a.ensures c.put_numbered-in-Stopped.ensures
+pub returns-in-None : goal.returns-in-None
+returns-in-None c = said_scan _ _ c.in-Scan.is c.put_scan-a.ensures c.in-None.is

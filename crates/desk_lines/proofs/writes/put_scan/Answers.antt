@@ -2,8 +2,8 @@
 use Rattle.desk_lines.proofs.Bytes.{scan_wrote, refused_wrote}
 use Rattle.desk_lines.proofs.writes.put_scan.Goals as goal
 
-pub returns-then-number-ne-ACCEPTED : goal.returns-then-number-ne-ACCEPTED
-returns-then-number-ne-ACCEPTED c = refused_wrote _ _ _ c.put_number-a.ensures c.put_bytes-b.ensures c.put_number-c.ensures c.if-number-ne-ACCEPTED.true c.put_bytes.ensures
+pub returns-then-number-eq-ACCEPTED : goal.returns-then-number-eq-ACCEPTED
+returns-then-number-eq-ACCEPTED c = scan_wrote _ _ _ c.put_number-a.ensures c.put_bytes-b.ensures c.put_number-c.ensures c.if-number-eq-ACCEPTED.true c.put_kits-d.ensures c.put_bytes.ensures
 
-pub returns : goal.returns
-returns c = scan_wrote _ _ _ c.put_number-a.ensures c.put_bytes-b.ensures c.put_number-c.ensures c.if-number-ne-ACCEPTED.false c.put_kits-d.ensures c.put_bytes-2.ensures
+pub returns-else-number-eq-ACCEPTED : goal.returns-else-number-eq-ACCEPTED
+returns-else-number-eq-ACCEPTED c = refused_wrote _ _ _ c.put_number-a.ensures c.put_bytes-b.ensures c.put_number-c.ensures c.if-number-eq-ACCEPTED.false c.put_bytes-else-number-eq-ACCEPTED.ensures

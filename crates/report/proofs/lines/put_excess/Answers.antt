@@ -3,7 +3,7 @@ use Rattle.report.proofs.Lasting.{excess_none, excess_written}
 use Rattle.report.proofs.lines.put_excess.Goals as goal
 
 pub returns-in_default : goal.returns-in_default
-returns-in_default c = excess_none _ _ _ c.in_default.is
+returns-in_default c = rw c.in_default.is (excess_none _ _)
 
 pub returns : goal.returns
-returns c = excess_written _ c.in-Over.is c.put_numbered-a.ensures c.put_numbered.ensures
+returns c = rw c.in-Some.is (excess_written _ c.put_numbered-a.ensures c.put_numbered.ensures)

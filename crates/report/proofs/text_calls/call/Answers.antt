@@ -1,21 +1,22 @@
 -- `report::text_calls::call` meets its contract. Assumes nothing.
-use mathlib.Core.Path.{◌∙◌, sym}
-use native.Mathlib.Omega.{arith}
+use mathlib.Core.Path.{sym}
+use Rattle.std.proofs.lemmas.Result.{err_from_is_err_and}
 use Rattle.report.specs.Private.{Turned}
-use Rattle.text_reader.proofs.Taking.{number}
 use Rattle.report.proofs.Turns.{no_kind, other_kind, turned_kind}
 use Rattle.report.proofs.text_calls.call.Goals as goal
 
-pub returns-in_default : goal.returns-in_default
+pub returns-in_err-word : goal.returns-in_err-word
 unfolding Turned
-returns-in_default c = let e = c.in_default.is in no_kind _ _ (sym c.next_short-r.ensures ∙ e) (c.number_of.ensures ∙ sym (number e))
+returns-in_err-word c =
+    let p = err_from_is_err_and c.from_residual.result c.from_residual.ensures.1 in
+    rw (p.1, p.2) (no_kind _ _ (sym c.in_err-word.ensures))
 
-pub returns-then-kind-gt-STAMPED : goal.returns-then-kind-gt-STAMPED
+pub returns-in_err-kind : goal.returns-in_err-kind
 unfolding Turned
-returns-then-kind-gt-STAMPED c = other_kind _ _ (sym c.next_short-r.ensures ∙ c.in-Word.is) c.if-kind-gt-STAMPED.true
-
-pub kind_call-requires : goal.kind_call-requires
-kind_call-requires c = (c.requires, omega (arith, c.if-kind-gt-STAMPED.false))
+returns-in_err-kind c =
+    let p = err_from_is_err_and c.from_residual-in_err-kind.result c.from_residual-in_err-kind.ensures.1 in
+    let none = c.in_err-kind.ensures in
+    rw (p.1, p.2, none.0) (other_kind _ _ (sym c.in_ok-word.ensures) none.1)
 
 pub returns : goal.returns
-returns c = turned_kind _ _ (sym c.next_short-r.ensures ∙ c.in-Word.is) _ _ _ c.kind_call.ensures
+returns c = turned_kind _ _ (sym c.in_ok-word.ensures) c.in_ok-kind.ensures _ _ _ c.kind_call.ensures

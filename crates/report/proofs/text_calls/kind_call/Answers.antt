@@ -1,17 +1,24 @@
 -- `report::text_calls::kind_call` meets its contract. Assumes nothing.
-use mathlib.Core.Path.{◌∙◌, sym}
-use Rattle.report.specs.Private.{Turned}
-use Rattle.text_reader.proofs.Taking.{number}
-use Rattle.report.proofs.Turns.{no_time, timed, with_state_lem}
+use mathlib.Core.Path.{sym}
+use Rattle.std.proofs.lemmas.Result.{err_from_is_err_and}
+use Rattle.report.specs.Private.{Turned, time_word}
+use Rattle.report.proofs.Turns.{no_time, timed, with_none, with_some}
+use Rattle.report.proofs.text_calls.kind_call.Goals.{in-State, in-Stamped}
 use Rattle.report.proofs.text_calls.kind_call.Goals as goal
 
-pub returns-in_default : goal.returns-in_default
+pub returns-in_err-time : goal.returns-in_err-time
 unfolding Turned
-returns-in_default c = let e = c.in_default.is in no_time _ _ c.args.kind c.requires.1 (sym c.time_word-r.ensures ∙ e) (c.number_of.ensures ∙ sym (number e))
+returns-in_err-time c =
+    let p = err_from_is_err_and c.from_residual.result c.from_residual.ensures.1 in
+    rw (p.1, p.2) (no_time _ _ c.args.kind (sym c.in_err-time.ensures))
 
-pub returns-then-kind-eq-TIME : goal.returns-then-kind-eq-TIME
-unfolding Turned
-returns-then-kind-eq-TIME c = timed _ _ c.args.kind c.if-kind-eq-TIME.true (sym c.time_word-r.ensures ∙ c.in-Word.is) c.update_time-made.ensures.0
+pub returns-in-Time : goal.returns-in-Time
+unfolding Turned time_word
+returns-in-Time c = rw c.in-Time.is (timed _ _ (sym (rw c.in-Time.is at c.in_ok-time.ensures)) c.update_time-outcome.ensures.0)
 
 pub returns : goal.returns
-returns c = with_state_lem _ _ c.args.kind c.if-kind-eq-TIME.false c.requires.1 (sym c.time_word-r.ensures ∙ c.in-Word.is) _ _ _ c.state_call.ensures
+unfolding time_word
+returns c = elim c.match-kind.branch [
+  | in-State w ↦ rw w.in-State.is (with_none _ _ (sym (rw w.in-State.is at c.in_ok-time.ensures)) _ _ _ (rw w.stamp-is at c.state_call.ensures))
+  | in-Stamped w ↦ rw w.in-Stamped.is (with_some _ _ (sym (rw w.in-Stamped.is at c.in_ok-time.ensures)) _ _ _ (rw w.stamp-is at c.state_call.ensures))
+]

@@ -1,9 +1,12 @@
 -- `report::text_calls::time_word` meets its contract. Assumes nothing.
-use Rattle.report.proofs.Turns.{time_none, time_there}
+use Rattle.std.proofs.Common.{⊎_elim}
+use Rattle.report.specs.Private.{time_word}
 use Rattle.report.proofs.text_calls.time_word.Goals as goal
 
-pub returns-then-kind-eq-STATE : goal.returns-then-kind-eq-STATE
-returns-then-kind-eq-STATE c = let a = c.args in time_none a.input.now a.at a.kind c.if-kind-eq-STATE.true
+pub returns-in-State : goal.returns-in-State
+unfolding time_word
+returns-in-State c = rw c.in-State.is
 
-pub returns : goal.returns
-returns c = let a = c.args in time_there a.input.now a.at a.kind c.if-kind-eq-STATE.false c.next_number.ensures
+pub returns-in-Time : goal.returns-in-Time
+unfolding time_word
+returns-in-Time c = ⊎_elim (λ e. rw e c.next_number.ensures) (λ e. rw e c.next_number.ensures) c.in-Time.is

@@ -37,9 +37,9 @@ unfolding word_spelled
 returns-in-Implies c = rw c.in-Implies.is c.put_bytes-in-Implies.ensures
 
 -- src/put.rt:13:1
-pub returns-in-Hist : goal.returns-in-Hist
+pub returns-in-Historically : goal.returns-in-Historically
 unfolding word_spelled
-returns-in-Hist c = rw c.in-Hist.is c.put_bytes-in-Hist.ensures
+returns-in-Historically c = rw c.in-Historically.is c.put_bytes-in-Historically.ensures
 
 -- src/put.rt:13:1
 pub returns-in-Once : goal.returns-in-Once

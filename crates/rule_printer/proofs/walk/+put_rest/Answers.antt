@@ -16,7 +16,7 @@ pub kind_in-requires : goal.kind_in-requires
 kind_in-requires t c = c.requires.inside
 
 pub returns-then-left-eq0 : goal.returns-then-left-eq0
-returns-then-left-eq0 t c = rest_done c.requires c.if-left-eq0.true c.word_of.ensures c.kind_in.ensures c.put_shut.ensures
+returns-then-left-eq0 t c = rest_done c.requires c.if-left-eq0.true c.of_word.ensures c.kind_in.ensures c.put_shut.ensures
 
 pub operand_at-part-requires : goal.operand_at-part-requires
 operand_at-part-requires t c = (c.requires, omega (arith, c.if-left-eq0.false))

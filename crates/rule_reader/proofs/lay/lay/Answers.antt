@@ -2,6 +2,7 @@ use Rattle.rule_scanner.proofs.Passing.{close_some}
 use Rattle.rule_reader.specs.Laying.{need}
 use Rattle.rule_reader.proofs.Frames.{lays_open, lays_go, lays_part, lays_counted, lays_refused, lays_ended}
 use mathlib.Core.Path.{refl, ap}
+use mathlib.Core.Logic.{⊎_elim}
 use native.Mathlib.Omega.{arith}
 use Rattle.rule_reader.proofs.lay.lay.Goals as goal
 
@@ -23,28 +24,21 @@ returns-in-Leaf c = rw c.in-Leaf.is (c.lay_leaf.ensures.over _)
 
 -- src/lay.rt:108:1
 pub returns-in-Open : goal.returns-in-Open
-returns-in-Open c = let p = c.requires in let n = ap need c.in-Open.is in rw c.in-Open.is (lays_open _ _ _ _ _ _ _ _ (omega (arith, p.few, p.frames_long)) c.kind_of.ensures refl c.put_row.ensures)
+returns-in-Open c = let p = c.requires in let n = ap need c.in-Open.is in rw c.in-Open.is (lays_open _ _ _ _ _ _ _ _ (omega (arith, p.few, p.frames_long)) c.word.ensures refl c.put_row.ensures)
 
 -- src/lay.rt:108:1
 pub returns-in-Close : goal.returns-in-Close
 returns-in-Close c = rw c.in-Close.is c.close.ensures
 
--- src/lay.rt:108:1
 pub returns-in-Go : goal.returns-in-Go
-returns-in-Go c = rw c.in-Go.is (lays_go _ _ _ _)
-
--- src/lay.rt:108:1
-pub returns-in-Part : goal.returns-in-Part
-returns-in-Part c = rw c.in-Part.is (lays_part _ _ _)
-
--- src/lay.rt:108:1
-pub returns-in-Counted : goal.returns-in-Counted
-returns-in-Counted c = rw c.in-Counted.is (lays_counted _ _ _ _)
-
--- src/lay.rt:108:1
-pub returns-in-Refused : goal.returns-in-Refused
-returns-in-Refused c = rw c.in-Refused.is (lays_refused _ _ _)
-
--- src/lay.rt:108:1
-pub returns-in-Ended : goal.returns-in-Ended
-returns-in-Ended c = rw c.in-Ended.is (lays_ended _ _ _)
+returns-in-Go c =
+    ⊎_elim
+    (λ h. rw h.1 (lays_go _ _ _ _))
+    (⊎_elim
+    (λ h. rw h (lays_part _ _ _))
+    (⊎_elim
+    (λ h. rw h.1 (lays_counted _ _ _ _))
+    (⊎_elim
+    (λ h. rw h (lays_refused _ _ _))
+    (λ h. rw h (lays_ended _ _ _)))))
+    c.in-Go.is

@@ -1,19 +1,15 @@
-use Rattle.rule_scanner.proofs.Scanning.{run_start, run_more, run_stop, run_end}
+use native.Mathlib.Omega.{arith}
 use mathlib.Core.Path.{sym, ◌∙◌}
+use Rattle.std.proofs.Common.{length-drop}
+use Rattle.rule_scanner.proofs.Scanning.{rest_is, run_some, run_none}
 use Rattle.rule_scanner.proofs.symbols.run_end.Goals as goal
 
--- src/symbols.rt:116:5
-pub loop-i-init : goal.loop-i-init
-loop-i-init c = run_start _ _ _ c.requires
+pub returns-in-Some : goal.returns-in-Some
+returns-in-Some c =
+    let k = run_some _ _ (rw (rest_is c.args.input.now c.args.at) at (sym c.in-Some.is ∙ c.first_other.ensures)) in
+    (omega (arith, k.0), omega (arith, k.1, length-drop c.args.at c.args.input.now))
 
--- src/symbols.rt:118:13
-pub returns-then-class_of-class : goal.returns-then-class_of-class
-returns-then-class_of-class c = run_stop c.loop-i.invariant c.loop-i-test.true (λ e. c.if-class_of-class.true (c.class_of.ensures ∙ e))
-
--- src/symbols.rt:116:5
-pub loop-i-preserved : goal.loop-i-preserved
-loop-i-preserved c = run_more c.loop-i.invariant c.loop-i-test.true (sym c.class_of.ensures ∙ c.if-class_of-class.false)
-
--- src/symbols.rt:111:1
-pub returns : goal.returns
-returns c = run_end c.loop-i.invariant c.loop-i-test.false
+pub returns-in-None : goal.returns-in-None
+returns-in-None c =
+    let k = run_none _ _ (rw (rest_is c.args.input.now c.args.at) at (sym c.first_other.ensures ∙ c.in-None.is)) in
+    (omega (arith, k, c.requires, length-drop c.args.at c.args.input.now), omega arith)

@@ -1,20 +1,29 @@
+use Prim.Native.Nat.{ℕ}
+use mathlib.Core.Path.{◌≡◌, sym}
+use mathlib.Core.Logic.{◌⊎◌, ⊎_elim}
+use native.Mathlib.Omega.{arith}
+use Rattle.rule_scanner.specs.Classes.{class_number}
+use Rattle.rule_scanner.specs.declared.symbols.Class.{Class}
+use Rattle.rule_scanner.specs.declared.symbols.Class.TheVariants.{Blank, Other}
 use Rattle.rule_scanner.proofs.Scanning.{name_found, number_found, mark_found, digits_there}
-use Rattle.rule_scanner.specs.Symbols.{name_of, number_of}
-use mathlib.Core.Path.{sym, ap, ◌∙◌}
 use Rattle.rule_scanner.proofs.symbols.symbol_here.Goals as goal
 
--- src/symbols.rt:232:9
-pub returns-then-class-eq-LETTER : goal.returns-then-class-eq-LETTER
-returns-then-class-eq-LETTER c = name_found _ _ c.requires.0 _ _ (sym c.class_of-class.ensures ∙ c.if-class-eq-LETTER.true) c.run_end-end.ensures.0 c.run_end-end.ensures.1 (c.name_of.ensures ∙ ap name_of c.piece.ensures)
+-- a byte that goes on with no symbol
+alone : {x : Class} {d : ℕ} → (x ≡ Blank) ⊎ (x ≡ Other) → class_number x ≡ d → (d ≡ 1 → ⊥) × (d ≡ 2 → ⊥)
+alone {x} {d} h e =
+    ⊎_elim
+    (λ f. let k : ◌≡◌ {A = ℕ} 0 d = rw f at e in (λ z. omega arith, λ z. omega arith))
+    (λ f. let k : ◌≡◌ {A = ℕ} 3 d = rw f at e in (λ z. omega arith, λ z. omega arith))
+    h
 
--- src/symbols.rt:241:21
 pub number_of-requires : goal.number_of-requires
-number_of-requires c = rw c.piece-then-class-eq-DIGIT.ensures (digits_there _ _ c.requires.0 _ (sym c.class_of-class.ensures ∙ c.if-class-eq-DIGIT.true) c.run_end-end-then-class-eq-DIGIT.ensures.0)
+number_of-requires c = digits_there _ _ c.requires.0 _ (sym c.in-Digit.ensures) c.run_end-next-in-Digit.ensures.0
 
--- src/symbols.rt:240:9
-pub returns-then-class-eq-DIGIT : goal.returns-then-class-eq-DIGIT
-returns-then-class-eq-DIGIT c = number_found _ _ c.requires.0 _ _ (sym c.class_of-class.ensures ∙ c.if-class-eq-DIGIT.true) c.run_end-end-then-class-eq-DIGIT.ensures.0 c.run_end-end-then-class-eq-DIGIT.ensures.1 (c.number_of.ensures ∙ ap number_of c.piece-then-class-eq-DIGIT.ensures)
+pub returns-in-Letter : goal.returns-in-Letter
+returns-in-Letter c = name_found _ _ c.requires.0 _ _ (sym c.in-Letter.ensures) c.run_end-next.ensures.0 c.run_end-next.ensures.1 c.name_of.ensures
 
--- src/symbols.rt:225:1
-pub returns : goal.returns
-returns c = mark_found _ _ c.requires.0 _ c.requires.1 (λ e. c.if-class-eq-LETTER.false (c.class_of-class.ensures ∙ e)) (λ e. c.if-class-eq-DIGIT.false (c.class_of-class.ensures ∙ e)) c.mark_of.ensures
+pub returns-in-Digit : goal.returns-in-Digit
+returns-in-Digit c = number_found _ _ c.requires.0 _ _ (sym c.in-Digit.ensures) c.run_end-next-in-Digit.ensures.0 c.run_end-next-in-Digit.ensures.1 c.number_of.ensures
+
+pub returns-in-Blank : goal.returns-in-Blank
+returns-in-Blank c = let h = alone c.in-Blank.is c.class_of.ensures in mark_found _ _ c.requires.0 _ c.requires.1 h.0 h.1 c.mark_of.ensures

@@ -5,8 +5,8 @@ use Rattle.text.proofs.decimals.places.Goals as goal
 pub loop-rest-init : goal.loop-rest-init
 loop-rest-init c = count_start _
 
-pub overflow_add-k : goal.overflow_add-k
-overflow_add-k c = omega (arith, c.loop-rest.invariant.low)
+pub overflow_add-count : goal.overflow_add-count
+overflow_add-count c = omega (arith, c.loop-rest.invariant.low)
 
 pub loop-rest-preserved : goal.loop-rest-preserved
 loop-rest-preserved c = count_more c.loop-rest.invariant c.loop-rest-test.true

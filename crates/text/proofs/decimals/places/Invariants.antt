@@ -3,7 +3,7 @@ use Rattle.text.proofs.Digits.{Counting}
 use Rattle.text.proofs.decimals.places.Given as goal
 
 abbrev pub invariant-loop-rest : goal.invariant-loop-rest
-invariant-loop-rest l = Counting l.n l.k l.rest
+invariant-loop-rest l = Counting l.n l.count l.rest
 
 abbrev pub decreases-loop-rest : goal.decreases-loop-rest
 decreases-loop-rest l = l.rest

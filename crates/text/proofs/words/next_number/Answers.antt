@@ -4,4 +4,4 @@ use Rattle.text.proofs.words.next_number.Goals as goal
 
 pub number_here-requires : goal.number_here-requires
 number_here-requires c =
-    record { at_in_bounds = (omega arith, sym c.parts.ensures ∙ c.if-parts.true); first_value = (c.value-first.ensures c.if-first-lt-TEN.true, c.if-first-gt0.true, c.if-first-lt-TEN.true) }
+    record { at_in_bounds = (omega arith, sym c.parts.ensures ∙ c.if-parts.true); first_value = (sym c.in-Some.ensures, c.if-first-gt0.true) }

@@ -1,20 +1,17 @@
 use Rattle.text.proofs.Letters.{next_end, next_more, next_here}
-use Rattle.std.proofs.Common.{sym, refl, ◌∙◌}
+use Rattle.std.proofs.Common.{sym, ◌∙◌}
 use Rattle.text.proofs.words.next_word.Goals as goal
 
-pub loop-i-init : goal.loop-i-init
-loop-i-init c = refl
-
 pub loop-i-preserved : goal.loop-i-preserved
-loop-i-preserved c = sym (next_more _ _ c.loop-i-test.true (sym c.parts.ensures ∙ c.if-parts.true)) ∙ c.loop-i.invariant
+loop-i-preserved c = sym (next_more _ _ c.loop-i-test.true (sym c.parts.ensures ∙ c.if-not-parts.false)) ∙ c.loop-i.invariant
 
 pub word_here-requires : goal.word_here-requires
-word_here-requires c = (c.loop-i-test.true, sym c.parts.ensures ∙ c.if-parts.false)
+word_here-requires c = (c.loop-i-test.true, sym c.parts.ensures ∙ c.if-not-parts.true)
 
-pub returns-else-parts : goal.returns-else-parts
-returns-else-parts c =
+pub returns-then-not-parts : goal.returns-then-not-parts
+returns-then-not-parts c =
     c.word_here.ensures
-    ∙ next_here _ _ c.loop-i-test.true (sym c.parts.ensures ∙ c.if-parts.false)
+    ∙ next_here _ _ c.loop-i-test.true (sym c.parts.ensures ∙ c.if-not-parts.true)
     ∙ c.loop-i.invariant
 
 pub returns : goal.returns

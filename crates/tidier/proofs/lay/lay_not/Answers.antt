@@ -1,10 +1,8 @@
 use Rattle.tidier.proofs.Adding.{not_full, not_laid}
 use Rattle.tidier.proofs.lay.lay_not.Goals as goal
 
--- src/lay.rt:107:9
 pub returns-then-height-eq0 : goal.returns-then-height-eq0
 returns-then-height-eq0 c = not_full c.full.ensures c.if-height-eq0.true
 
--- src/lay.rt:101:1
 pub returns : goal.returns
-returns c = not_laid c.lay_row.ensures
+returns c = not_laid (rw c.word.ensures at c.lay_row.ensures)

@@ -1,20 +1,16 @@
-use lib.ListN.{length-set}
+use Prim.Native.Nat.{ℕ, ◌+◌, ◌≤◌}
+use mathlib.Core.Path.{◌≡◌, sym, ◌∙◌}
+use mathlib.Core.List.{List, [], ◌∷◌}
+use lib.ListN.{length, take, drop}
+use lib.Seq.{drop-drop}
+use Rattle.std.proofs.Common.{append_assoc}
 use native.Mathlib.Omega.{arith}
-use native.Mathlib.Numerals.{add-one, add-two, add-three}
+use borrow.Rule.Slice.PartMut.{put_mid}
+use Rattle.std.proofs.lemmas.List.Edits.{sets, sets-eq}
 use Rattle.trees.proofs.rows.put_row.Goals as goal
 
--- src/build.rt:18:5
-pub bounds-rows-at-2 : goal.bounds-rows-at-2
-bounds-rows-at-2 c = simp length-set (omega arith)
+row_put : (m : List ℕ) (at k : ℕ) (ys vs : List ℕ) → k ≡ length vs → ys ≡ vs → at + length vs ≤ length m → put_mid at k m ys ≡ sets m at vs
+row_put m at k ys vs e f fits = rw (e, f, drop-drop (length vs) at m) (sym (append_assoc (take at m) vs (drop (at + length vs) m)) ∙ sym (sets-eq vs m at fits))
 
--- src/build.rt:19:5
-pub bounds-rows-at-3 : goal.bounds-rows-at-3
-bounds-rows-at-3 c = simp length-set (omega arith)
-
--- src/build.rt:20:5
-pub bounds-rows-at-4 : goal.bounds-rows-at-4
-bounds-rows-at-4 c = simp length-set (omega arith)
-
--- src/build.rt:12:1
 pub returns : goal.returns
-returns c = simp (add-one, add-two, add-three)
+returns c = let w = c.args.words in row_put _ _ _ _ (w.kind ∷ w.arg ∷ w.lower ∷ w.upper ∷ []) (omega arith) c.copy_from_slice.ensures.after (omega (arith, c.requires))

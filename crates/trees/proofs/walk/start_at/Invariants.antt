@@ -1,10 +1,6 @@
-use Prim.Native.Nat.{◌-◌, ◌≤◌}
 use mathlib.Core.Path.{◌≡◌}
 use Rattle.book.specs.Judging.{start_in}
 use Rattle.trees.proofs.walk.start_at.Given as goal
 
 abbrev pub invariant-loop-i : goal.invariant-loop-i
-invariant-loop-i l = (l.start ≡ start_in l.rows l.i) × (l.i ≤ l.row)
-
-abbrev pub decreases-loop-i : goal.decreases-loop-i
-decreases-loop-i l = l.row - l.i
+invariant-loop-i l = l.start ≡ start_in l.rows l.i

@@ -1,9 +1,0 @@
--- The line ends within the input.
-use Rattle.std.proofs.Common.{◌≤◌, ◌-◌, length}
-use Rattle.loader_try.proofs.line_end.Given as goal
-
-abbrev pub invariant-loop-at : goal.invariant-loop-at
-invariant-loop-at l = (l.from ≤ l.at) × (l.at ≤ length l.input)
-
-abbrev pub decreases-loop-at : goal.decreases-loop-at
-decreases-loop-at l = length l.input - l.at

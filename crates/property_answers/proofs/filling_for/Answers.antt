@@ -1,9 +1,0 @@
--- `property_answers::filling_for` meets its contract: the list is too short, or not. Assumes nothing.
-use Rattle.property_answers.proofs.Bridge.{answered_short, answered_enough}
-use Rattle.property_answers.proofs.filling_for.Goals as goal
-
-pub returns-then-room-count : goal.returns-then-room-count
-returns-then-room-count c = let e = c.all-verdicts.ensures in answered_short _ e.0 e.1 c.if-room-count.true
-
-pub returns : goal.returns
-returns c = let e = c.all-verdicts.ensures in answered_enough _ e.0 e.1 c.if-room-count.false

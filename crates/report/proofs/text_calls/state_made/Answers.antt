@@ -1,7 +1,0 @@
--- `report::text_calls::state_made` meets its contract. Assumes nothing.
-use mathlib.Core.Path.{sym}
-use lib.Seq.{length-take-le}
-use Rattle.report.proofs.text_calls.state_made.Goals as goal
-
-pub slice_bounds-update_state-end : goal.slice_bounds-update_state-end
-slice_bounds-update_state-end c = sym (length-take-le _ _ c.requires.1)

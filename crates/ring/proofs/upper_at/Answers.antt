@@ -1,9 +1,0 @@
--- `ring::upper_at` meets its contract. Assumes nothing.
-use mathlib.Core.Path.{◌∙◌}
-use native.Mathlib.Omega.{arith}
-use Rattle.ring.proofs.Rolls.{upper_placed}
-use Rattle.lists.proofs.Parts.{word_at}
-use Rattle.ring.proofs.upper_at.Goals as goal
-
-pub returns : goal.returns
-returns c = let e = c.place.ensures in word_at c.args.set.now _ _ (omega arith) ∙ upper_placed c.args.set.now c.args.j c.requires.1
