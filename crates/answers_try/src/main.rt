@@ -11,7 +11,12 @@ use oracle::{Answer, SIZE, Verdict};
 const ROOM: usize = 4;
 
 fn show_verdict(rt: &(impl Print + Eprint), verdict: Verdict) {
-    show::value(rt, format_args!(" {verdict}"));
+    show::digits(
+        rt,
+        u8::from(verdict.value),
+        verdict.early.digit(),
+        verdict.settled.digit(),
+    );
 }
 
 fn show_list(rt: &(impl Print + Eprint), number: u64, list: &[Verdict]) {

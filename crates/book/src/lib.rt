@@ -5,3 +5,6 @@ pub mod check;
 pub mod kind;
 pub mod loading;
 pub mod strict;
+
+// How many kinds there are.
+pub const KINDS: usize = 10;

@@ -3,19 +3,24 @@ ghost use Rattle.memory.specs.Kept.{Kept};
 
 use crate::words::Words;
 use numbers::MOST_ATOMS;
-use oracle::{Refusal, SIZE, Tally};
-use show::{text, value};
+use oracle::{Refusal, SIZE, Tally, Verdict};
+use show::{number, text};
 
 // The widest state, with one byte more.
 const TOO_WIDE: usize = MOST_ATOMS + 1;
+
+fn verdict(rt: &(impl Print + Eprint), v: Verdict) {
+    show::digits(rt, u8::from(v.value), v.early.digit(), v.settled.digit());
+}
 
 // The number that was handed back, and the answers.
 fn answered(rt: &(impl Print + Eprint), outcome: Result<(), Refusal>, monitor: &[u64; SIZE])
     requires { Kept monitor.now }
 {
-    value(rt, format_args!(": {}", oracle::refused_with(outcome)));
+    text(rt, b": ");
+    number(rt, oracle::refused_with(outcome));
     for i in 0..oracle::property_count(monitor) {
-        value(rt, format_args!(" {}", oracle::of_property(monitor, i)));
+        verdict(rt, oracle::of_property(monitor, i));
     }
 }
 
@@ -24,7 +29,9 @@ fn outcome(rt: &(impl Print + Eprint), made: Tally, monitor: &[u64; SIZE])
     requires { Kept monitor.now }
 {
     answered(rt, made.outcome, monitor);
-    value(rt, format_args!(" {}\n", made.count));
+    text(rt, b" ");
+    number(rt, made.count);
+    text(rt, b"\n");
 }
 
 // Loads a book, over whatever stood in the memory.
@@ -42,13 +49,14 @@ pub fn time(rt: &(impl Print + Eprint), monitor: &mut [u64; SIZE], t: u64)
     ensures { Kept monitor.new }
 {
     let made = oracle::update_time(monitor, t);
-    value(rt, format_args!("  t {t}"));
+    text(rt, b"  t ");
+    number(rt, t);
     outcome(rt, made, monitor);
 }
 
 fn bytes(rt: &(impl Print + Eprint), state: &[u8]) {
     for byte in state {
-        value(rt, *byte);
+        number(rt, u64::from(*byte));
     }
 }
 
@@ -79,7 +87,9 @@ pub fn stamped(rt: &(impl Print + Eprint), monitor: &mut [u64; SIZE], t: u64, st
     ensures { Kept monitor.new }
 {
     let made = oracle::update_stamped(monitor, t, state);
-    value(rt, format_args!("  t {t} s "));
+    text(rt, b"  t ");
+    number(rt, t);
+    text(rt, b" s ");
     bytes(rt, state);
     outcome(rt, made, monitor);
 }
@@ -91,6 +101,8 @@ pub fn wide_stamped(rt: &(impl Print + Eprint), monitor: &mut [u64; SIZE], t: u6
 {
     let state = [0u8; TOO_WIDE];
     let made = oracle::update_stamped(monitor, t, &state);
-    value(rt, format_args!("  t {t} s of 257 bytes"));
+    text(rt, b"  t ");
+    number(rt, t);
+    text(rt, b" s of 257 bytes");
     outcome(rt, made, monitor);
 }

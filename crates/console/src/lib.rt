@@ -36,13 +36,17 @@ pub fn fill(rt: &impl Eprint, from: &mut impl Read, input: &mut [u8]) -> Option<
     Some(n)
 }
 
-// Reads what is left and drops it, so that whoever writes it can finish. A proved loop has to end: it has more turns than a run uses up.
+// Reads what is left and drops it, so that whoever writes it can finish. A proved loop has to end: it counts its turns down from a number
+// that no run uses up. It stays a `while`: the edit `endless_drain`, which takes the count away, is refused by what a turn has to lessen,
+// while of a `for` no such edit can be made.
 pub fn drain(rt: &impl Eprint, from: &mut impl Read) {
     let mut room = [0u8; 4096];
-    for _ in 0..u64::MAX {
+    let mut turns = u64::MAX;
+    while 0 < turns {
         if let None | Some(0) = read_some(rt, from, &mut room) {
             return;
         }
+        turns -= 1;
     }
 }
 

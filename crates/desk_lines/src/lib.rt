@@ -164,10 +164,14 @@ fn scan_line(done: u64, line: &[u8], table: &[u64; TABLE_SIZE], monitor: &mut [u
                 event: Event::Scan(i, refused_with(scanned.outcome), scanned.slip),
             }
         }
-        Err(refusal) => Heard {
-            stage: Stage::Opened(i),
-            event: Event::Scan(i, refusal.number(), None),
-        },
+        Err(refusal) => {
+            // By this name the proof knows it, also where the edit `bad_line_unanswered` takes the event away.
+            let number = refusal.number();
+            Heard {
+                stage: Stage::Opened(i),
+                event: Event::Scan(i, number, None),
+            }
+        }
     }
 }
 

@@ -38,7 +38,7 @@ fn give(kits: &mut [u64; MOST_KIT_WORDS], kit: usize, promise: u64, window: u64)
 }
 
 fn verdict(rt: &(impl Print + Eprint), v: Verdict) {
-    show::value(rt, format_args!(" {v}"));
+    show::digits(rt, u8::from(v.value), v.early.digit(), v.settled.digit());
 }
 
 // The answers of every kit.

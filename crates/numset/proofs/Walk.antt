@@ -17,6 +17,9 @@ pub record Ending (m : List ℕ) (u i : ℕ) : Type 0 where
   pub apart : Under (2 ^ 64 + 1) (runs_to m i)
   pub over : (j : ℕ) → i ≤ j → j < get_or m 0 0 → u + 1 < lo m j
 
+pub ending_start : {m : List ℕ} (u : ℕ) → Good m → Ending m u (get_or m 0 0)
+ending_start u g = record { few = omega arith; apart = g.apart; over = λ j p q. absurd (omega arith) }
+
 pub ending_more : {m : List ℕ} {u i : ℕ} → Ending m u i → 0 < i → u + 1 < lo m (i - 1) → Ending m u (i - 1)
 ending_more {m} {u} {i} w h p =
     record {
@@ -28,6 +31,9 @@ ending_more {m} {u} {i} w h p =
           (λ x. w.over j x r)
           (lt_or_ge j i);
     }
+
+pub ending_stop : {m : List ℕ} {u i : ℕ} → Ending m u i → (0 < i → lo m (i - 1) ≤ u + 1) → Ended m u i
+ending_stop w p = record { few = w.few; apart = w.apart; reach = p; over = w.over }
 
 -- ---- the runs from s to e are joined to l ..= u, which makes it low ..= up
 pub record Joining (m : List ℕ) (l u s e low up : ℕ) : Type 0 where

@@ -1,7 +1,7 @@
--- The value of a row, by the table. Assumes nothing.
+-- The value of a row that is not temporal, by the table. Assumes nothing.
 use Prim.Native.Nat.{ℕ, ◌+◌, ◌<◌}
 use native.Mathlib.Omega.{arith}
-use mathlib.Core.Path.{◌≡◌, sym, ap, ◌∙◌}
+use mathlib.Core.Path.{◌≡◌, refl, sym, ap, ◌∙◌}
 use mathlib.Core.Bool.{Bool, true, false, not}
 use mathlib.Core.List.{List, map}
 use lib.ListN.{length, get_or, drop, get_or-map}
@@ -21,8 +21,21 @@ use Rattle.row_answers.specs.Private.{joined}
 use Rattle.row_answers.proofs.Answers.{span_as, span_book, first_inside, second_inside}
 use Rattle.planning.specs.Plan.{held_in, Named}
 
--- ---- the value of a row, from its words
-module _ {m : List ℕ} {r : ℕ} {words : RowSaid} (kept : BookKept m) (inside : r < row_count m) (ew : words ≡ row_said m r) (atoms : List ℕ) (here : Bool) where
+-- Implies is what is left of the kinds that are not temporal
+left_kind : (k : Kind) → word_of_kind k < 7 → (k ≡ False → ⊥) → (k ≡ True → ⊥) → (k ≡ Atom → ⊥) → (k ≡ And → ⊥) → (k ≡ Or → ⊥) → (k ≡ Not → ⊥) → k ≡ Implies
+left_kind False h n0 n1 n2 n3 n4 n5 = absurd (n0 refl)
+left_kind True h n0 n1 n2 n3 n4 n5 = absurd (n1 refl)
+left_kind Atom h n0 n1 n2 n3 n4 n5 = absurd (n2 refl)
+left_kind And h n0 n1 n2 n3 n4 n5 = absurd (n3 refl)
+left_kind Or h n0 n1 n2 n3 n4 n5 = absurd (n4 refl)
+left_kind Not h n0 n1 n2 n3 n4 n5 = absurd (n5 refl)
+left_kind Implies h n0 n1 n2 n3 n4 n5 = refl
+left_kind Historically h n0 n1 n2 n3 n4 n5 = absurd (omega arith)
+left_kind Once h n0 n1 n2 n3 n4 n5 = absurd (omega arith)
+left_kind Since h n0 n1 n2 n3 n4 n5 = absurd (omega arith)
+
+-- ---- the value of a row that is not temporal, from its words
+module _ {m : List ℕ} {r : ℕ} {words : RowSaid} (kept : BookKept m) (inside : r < row_count m) (ew : words ≡ row_said m r) (atoms : List ℕ) where
   pub read : Read m r (word_of_kind words.kind) words.arg words.start
   read =
       record {
@@ -34,9 +47,9 @@ module _ {m : List ℕ} {r : ℕ} {words : RowSaid} (kept : BookKept m) (inside 
       }
 
   abbrev value : Bool
-  value = value_rule (map is_one atoms) here (map_row (held_in m) (row_of m r))
+  value = value_rule (map is_one atoms) false (map_row (held_in m) (row_of m r))
 
-  pub value_as : {k : Kind} → words.kind ≡ k → value ≡ value_rule (map is_one atoms) here (map_row (held_in m) (row_from (word_of_kind k) words.arg (lower_at m r) (upper_at m r) (drop words.start (operands_of m))))
+  pub value_as : {k : Kind} → words.kind ≡ k → value ≡ value_rule (map is_one atoms) false (map_row (held_in m) (row_from (word_of_kind k) words.arg (lower_at m r) (upper_at m r) (drop words.start (operands_of m))))
   unfolding row_of
   value_as ek = rw (← read.kind_is, ← read.arg_is, ← read.start_is, ek)
 
@@ -110,18 +123,9 @@ module _ {m : List ℕ} {r : ℕ} {words : RowSaid} (kept : BookKept m) (inside 
     unfolding row_from count_of value_rule
     value_implies e = sym (value_as ek ∙ rw (left_is ∙ e))
 
-  -- temporal: what the set will hold
-  pub value_historically : words.kind ≡ Historically → not here ≡ value
-  unfolding row_from value_rule
-  value_historically ek = sym (value_as ek)
-
-  pub value_once : words.kind ≡ Once → here ≡ value
-  unfolding row_from value_rule
-  value_once ek = sym (value_as ek)
-
-  pub value_since : words.kind ≡ Since → here ≡ value
-  unfolding row_from value_rule
-  value_since ek = sym (value_as ek)
+  -- a kind that is neither temporal nor one of the others
+  pub is_implies : kind_at m r < 7 → (words.kind ≡ False → ⊥) → (words.kind ≡ True → ⊥) → (words.kind ≡ Atom → ⊥) → (words.kind ≡ And → ⊥) → (words.kind ≡ Or → ⊥) → (words.kind ≡ Not → ⊥) → words.kind ≡ Implies
+  is_implies low = left_kind words.kind (rw read.kind_is low)
 
 -- an atom has its byte
 pub named_inside : {m bytes : List ℕ} {r : ℕ} {words : RowSaid} → Named m bytes r → kind_at m r < 10 → words ≡ row_said m r → words.kind ≡ Atom → words.arg < length bytes

@@ -7,3 +7,4 @@ pub mod Joins
 pub mod Tries
 pub mod Looks
 pub mod Spared
+pub mod Turns

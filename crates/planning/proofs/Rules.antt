@@ -1,16 +1,17 @@
 -- The definitions' rules at the rows of a memory: the change of a temporal row's set, and values. Assumes nothing.
 use Prim.Native.Nat.{ℕ, zero, suc, ◌+◌, ◌-◌, ◌≤◌, ◌<◌, min}
 use mathlib.Core.Path.{◌≡◌, refl, subst⁻¹}
-use mathlib.Core.Bool.{Bool, cond}
+use mathlib.Core.Bool.{Bool, cond, not}
 use mathlib.Core.List.{List, []}
 use native.Mathlib.Omega.{arith}
 use lib.ListN.{drop}
+use lib.Dec.{eqb}
 use borrow.Author.Tests.{le-leb, lt-leb}
 use Rattle.numset.specs.Runs.{Runs}
 use Rattle.ring.specs.Ring.{ringed}
 use Rattle.pmtl.specs.Book.{Range, start, stop, Row, map_row}
 use Rattle.pmtl.specs.Sets.{Renew, ordinary, lasting, renewed_in, set_rule_by}
-use Rattle.pmtl.specs.Monitor.{set_at}
+use Rattle.pmtl.specs.Monitor.{set_at, value_rule}
 use Rattle.memory.specs.Memory.{row_count, kind_at, arg_at, lower_at, upper_at, start_at, slot_at, operands_of, slot_words, row_of, set_of, state_of, range_at}
 use Rattle.book.specs.Rows.{row_from}
 use Rattle.lists.proofs.Listed.{listed_at}
@@ -70,3 +71,21 @@ set_of_slot m r h = rw (le-leb 7 (kind_at m r) h)
 pub set_of_none : (m : List ℕ) (r : ℕ) → kind_at m r < 7 → set_of m r ≡ []
 unfolding set_of
 set_of_none m r h = rw (lt-leb 7 (kind_at m r) h)
+
+-- ---- values
+-- a temporal row's, by whether its set contains the clock
+temporal_from : (bits : List Bool) (here : Bool) (f : ℕ → Bool) (k arg lower upper : ℕ) (os : List ℕ) → k ≤ 2
+    → value_rule bits here (map_row f (row_from (suc (suc (suc (suc (suc (suc (suc k))))))) arg lower upper os)) ≡ cond (eqb (suc (suc (suc (suc (suc (suc (suc k))))))) 7) (not here) here
+unfolding row_from value_rule
+temporal_from bits here f zero arg lower upper os h = refl
+temporal_from bits here f (suc zero) arg lower upper os h = refl
+temporal_from bits here f (suc (suc zero)) arg lower upper os h = refl
+temporal_from bits here f (suc (suc (suc k))) arg lower upper os h = absurd (omega arith)
+
+pub temporal_held : (bits : List Bool) (here : Bool) (f : ℕ → Bool) (m : List ℕ) (r : ℕ) → 7 ≤ kind_at m r → kind_at m r ≤ 9
+    → value_rule bits here (map_row f (row_of m r)) ≡ cond (eqb (kind_at m r) 7) (not here) here
+unfolding row_of
+temporal_held bits here f m r h k =
+    let e : kind_at m r ≡ suc (suc (suc (suc (suc (suc (suc (kind_at m r - 7))))))) = omega arith in
+    subst⁻¹ (λ (kind : ℕ). value_rule bits here (map_row f (row_from kind (arg_at m r) (lower_at m r) (upper_at m r) (drop (start_at m r) (operands_of m)))) ≡ cond (eqb kind 7) (not here) here) e
+    (temporal_from bits here f (kind_at m r - 7) _ _ _ _ (omega arith))

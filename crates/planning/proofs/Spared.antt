@@ -32,7 +32,7 @@ use Rattle.memory.specs.Tables.{Founded}
 use Rattle.memory.specs.Kept.{Sound, Kept}
 use Rattle.memory.proofs.Rows.{rows_length, row_at_lem, kept_ordered}
 use Rattle.memory.proofs.Bits.{bit_back}
-use Rattle.planning.specs.Plan.{atoms_for, step_of, spans_in, renew_over, ahead, set_after, Unplanned, held_in, value_next, turned_to, RowTried, new_to, visited, unmade_in, Bits, Stands, value_after}
+use Rattle.planning.specs.Plan.{atoms_for, step_of, spans_in, renew_over, ahead, set_after, Unplanned, held_in, value_next, turned_to, RowTried, new_to, visited, unmade_in, IsBit, Bits, Stands, value_after}
 use Rattle.planning.proofs.Rules.{no_set}
 use Rattle.planning.proofs.Ahead.{ahead_at, ahead_slot}
 use Rattle.planning.proofs.Plans.{Going, set_none, set_now, value_now, value_right}
@@ -288,6 +288,18 @@ module _ {m : List ℕ} (sound : Sound m) {c : ℕ} {modes₀ m' modes : List �
       let on = going_spared sound f.0 f.1 (subst (λ (s : Bool). Going m s modes₀ c bytes m' modes n) es g) h sound.begun f.2 all (spared refl) e in
       (subst (λ (s : Bool). Going m s modes₀ c bytes m' modes (n + 1)) (sym es) on.0, λ z. on.1)
   going_on false es bytes g first facts changed all spared e = (going_past sound g h (first refl).0 refl e, λ z. absurd (true≢false (sym z)))
+
+  -- the word of a row that was not come to yet is a bit, as it was before either step
+  pub going_bit :
+      (fresh : Bool) {atoms : List ℕ} → Going m spans modes₀ c atoms m' modes n → (fresh ≡ false → Kept m × Unplanned m modes₀) → (fresh ≡ true → Founded m × Bits m × (begun_word m ≡ 1 → Stands m c modes₀)) → IsBit m' n
+  going_bit fresh {atoms} g first facts =
+      let there : value_at m' n ≡ value_at m n =
+      ap (λ (x : List ℕ). value_at x n) g.values ∙ filled_from_after VALUES (value_after m (renew_over m spans) (ahead m c modes₀) c atoms) m 0 n (VALUES + n) (omega arith) in
+      rw there (before fresh first facts)
+    where
+      before : (fresh : Bool) → (fresh ≡ false → Kept m × Unplanned m modes₀) → (fresh ≡ true → Founded m × Bits m × (begun_word m ≡ 1 → Stands m c modes₀)) → IsBit m n
+      before true first facts = (facts refl).1.right n h
+      before false first facts = let e = (first refl).0.tables.valued.right n h in rw e (ap bit_of (sym (bit_back _)))
 
   -- and one that was tried and keeps its value
   pub spared_on :

@@ -1,26 +1,24 @@
 -- One row tried: what the code finds of it is what the table's rules say. Assumes nothing.
-use Prim.Native.Nat.{ℕ, ◌≤◌, ◌<◌}
-use native.Mathlib.Omega.{arith}
+use Prim.Native.Nat.{ℕ, ◌+◌, ◌≤◌, ◌<◌}
 use mathlib.Core.Path.{◌≡◌, refl, sym, ap, ap₂, ◌∙◌}
-use mathlib.Core.Logic.{⊎_elim}
-use mathlib.Core.Bool.{Bool, true, false, cond, true≢false}
-use mathlib.Core.List.{List, []}
+use mathlib.Core.Bool.{Bool, true, false, cond, not, true≢false}
+use mathlib.Core.List.{List, [], map}
 use lib.ListN.{get_or, set}
+use lib.Dec.{eqb}
 use borrow.Author.Tests.{lt-leb, le-leb}
 use Rattle.std.specs.Prelude.{Result, Ok, Err, is_ok}
 use Rattle.numbers.specs.declared.Refusal.{Refusal}
 use Rattle.numbers.specs.declared.Refusal.TheVariants.{NoRoom}
 use Rattle.numset.specs.Runs.{Runs, has, fits, SET_WORDS}
-use Rattle.book.specs.declared.kind.Kind.{Kind}
-use Rattle.book.specs.Kinds.{word_of_kind}
-use Rattle.book.specs.Rows.{temporal}
-use Rattle.lists.proofs.Tests.{lt_or_ge}
-use Rattle.memory.specs.Kept.{BookKept}
-use Rattle.memory.specs.Memory.{row_count, kind_at, slot_at}
+use Rattle.pmtl.specs.Answer.{bit_of}
+use Rattle.pmtl.specs.Book.{map_row}
+use Rattle.pmtl.specs.Monitor.{value_rule}
+use Rattle.memory.specs.Layout.{VALUES}
+use Rattle.memory.specs.Memory.{row_count, kind_at, slot_at, row_of, is_one}
 use Rattle.set_change.specs.Change.{spanned_if, both_of}
 use Rattle.planning.specs.declared.RowPlan.{RowPlan}
-use Rattle.planning.specs.Plan.{renew_over, set_ahead, Leading, held_in, set_next, mode_at, mode_next, set_after, row_plan, mode_put, ModeNoted, Timely}
-use Rattle.planning.proofs.Rules.{no_set}
+use Rattle.planning.specs.Plan.{renew_over, set_ahead, Leading, held_in, set_next, mode_at, mode_next, set_after, row_plan, mode_put, turned_to, ModeNoted, RowTried, Timely}
+use Rattle.planning.proofs.Rules.{no_set, temporal_held}
 use Rattle.planning.proofs.Ahead.{rule_both}
 
 -- a plan of a row, where there is room, and where there is none
@@ -42,31 +40,23 @@ unfolding refusal_in
 plan_err true q e = absurd (true≢false (sym (ap is_ok e)))
 plan_err false q e = (refl, ap refusal_in e)
 
--- whether a row is temporal, as the code finds it
-module _ {m : List ℕ} {r : ℕ} (kind : Kind) (kept : BookKept m) (inside : r < row_count m) (told : kind_at m r < 10 → word_of_kind kind ≡ kind_at m r) {t : Bool} (et : t ≡ temporal (word_of_kind kind)) where
-  word_is : word_of_kind kind ≡ kind_at m r
-  word_is = told (omega (arith, (kept.rows r inside).kind))
-
-  pub plain_kind : t ≡ false → kind_at m r < 7
-  plain_kind e = ⊎_elim (λ (p : kind_at m r < 7). p) (λ (p : 7 ≤ kind_at m r). absurd (true≢false (sym (le-leb 7 (kind_at m r) p) ∙ sym (ap temporal word_is) ∙ sym et ∙ e))) (lt_or_ge (kind_at m r) 7)
-
-  pub temporal_kind : t ≡ true → 7 ≤ kind_at m r
-  temporal_kind e = ⊎_elim (λ (p : kind_at m r < 7). absurd (true≢false (sym e ∙ et ∙ ap temporal word_is ∙ lt-leb 7 (kind_at m r) p))) (λ (p : 7 ≤ kind_at m r). p) (lt_or_ge (kind_at m r) 7)
-
 module _ {m : List ℕ} {spans : Bool} {c : ℕ} (timely : Timely m c) {modes : List ℕ} {r : ℕ} (leads : Leading m modes spans r) (inside : r < row_count m) where
   -- ---- a row that is not temporal
   module _ (low : kind_at m r < 7) where
     no_next : set_next m spans c modes r ≡ []
     no_next = no_set (renew_over m spans) c (set_ahead m c modes r) (held_in m) m r low
 
-    pub noted_plain : ModeNoted m spans c modes r modes (Ok false)
+    pub tried_plain : (atoms : List ℕ) {v : Bool} → v ≡ value_rule (map is_one atoms) false (map_row (held_in m) (row_of m r)) → {m' : List ℕ} {turned : Bool} → (m' ≡ set m (VALUES + r) (bit_of v)) × (turned ≡ turned_to (held_in m r) v) → RowTried m spans c atoms modes r m' modes (Ok turned)
     unfolding has mode_put
-    noted_plain =
+    tried_plain atoms ev put =
+        let is = ev ∙ sym (ap (λ (s : Runs). value_rule (map is_one atoms) (has s c) (map_row (held_in m) (row_of m r))) no_next) in
         record {
           room_is = sym (ap (fits SET_WORDS) no_next);
+          value_put = λ z. put.0 ∙ ap (λ (b : Bool). set m (VALUES + r) (bit_of b)) is;
           mode_is_put = λ z. sym (rw (lt-leb 7 (kind_at m r) low));
-          here_is = sym (ap (λ (s : Runs). has s c) no_next);
+          turned_is = put.1 ∙ ap (turned_to (held_in m r)) is;
           refused = tt;
+          none = λ z. absurd (true≢false z);
         }
 
   -- ---- a temporal row
@@ -96,3 +86,18 @@ module _ {m : List ℕ} {spans : Bool} {c : ℕ} (timely : Timely m c) {modes : 
       noted_none e =
           let none = plan_err (fits SET_WORDS (set_after m c (mode_next m spans modes r) slot)) _ (sym e ∙ as_planned) in
           record { room_is = sym none.0 ∙ fits_next; mode_is_put = λ z. absurd (true≢false (sym z)); here_is = tt; refused = none.1 }
+
+  -- its value, by what was noted
+  pub tried_temporal : 7 ≤ kind_at m r → kind_at m r ≤ 9 → (atoms : List ℕ) {modes' : List ℕ} {here : Bool} → ModeNoted m spans c modes r modes' (Ok here) → {k : ℕ} → k ≡ kind_at m r → {v : Bool} → v ≡ cond (eqb k 7) (not here) here → {m' : List ℕ} {turned : Bool} → (m' ≡ set m (VALUES + r) (bit_of v)) × (turned ≡ turned_to (held_in m r) v) → RowTried m spans c atoms modes r m' modes' (Ok turned)
+  tried_temporal high few atoms noted ek ev put =
+      let is =
+      ev ∙ ap₂ (λ (k : ℕ) (b : Bool). cond (eqb k 7) (not b) b) ek noted.here_is
+      ∙ sym (temporal_held (map is_one atoms) (has (set_next m spans c modes r) c) (held_in m) m r high few) in
+      record {
+        room_is = noted.room_is;
+        value_put = λ z. put.0 ∙ ap (λ (b : Bool). set m (VALUES + r) (bit_of b)) is;
+        mode_is_put = noted.mode_is_put;
+        turned_is = put.1 ∙ ap (turned_to (held_in m r)) is;
+        refused = tt;
+        none = λ z. absurd (true≢false z);
+      }

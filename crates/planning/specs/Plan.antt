@@ -129,9 +129,13 @@ visited m bytes r fresh changed = cond fresh (new_to m bytes r changed) (is_one 
 abbrev pub unmade_in : List ℕ → ℕ
 unmade_in m = cond (is_one (begun_word m)) 0 MOST_ROWS
 
+-- the word of row r in the table of values is a bit
+abbrev pub IsBit : List ℕ → ℕ → Type 0
+IsBit m r = value_at m r ≡ bit_of (held_in m r)
+
 -- the words of the table of values are bits
 pub record Bits (m : List ℕ) : Type 0 where
-  pub right : (r : ℕ) → r < row_count m → value_at m r ≡ bit_of (held_in m r)
+  pub right : (r : ℕ) → r < row_count m → IsBit m r
 
 -- a step at clock c has gone before: the state that it left rests, its values stand in the table, and its sets are those that the modes leave
 pub record Stands (m : List ℕ) (c : ℕ) (modes : List ℕ) : Type 0 where

@@ -2,7 +2,7 @@
 // monitor. No set changes yet.
 #![tactic(auto)]
 
-ghost use Rattle.std.specs.Prelude.{◌≡◌, true, false, map, ◌+◌, ◌≤◌, ◌<◌, length, get_or, set, is_ok, IsOkUnless};
+ghost use Rattle.std.specs.Prelude.{◌≡◌, true, false, cond, not, map, ◌+◌, ◌≤◌, ◌<◌, length, get_or, set, eqb, is_ok, IsOkUnless};
 ghost use Rattle.pmtl.specs.Answer.{bit_of};
 ghost use Rattle.pmtl.specs.Book.{start, stop, map_row};
 ghost use Rattle.pmtl.specs.Monitor.{value_rule};
@@ -11,7 +11,7 @@ ghost use Rattle.memory.specs.Memory.{row_count, begun_word, width_word, kind_at
 ghost use Rattle.memory.specs.Tables.{Founded};
 ghost use Rattle.memory.specs.Kept.{BookKept, Sound, Kept};
 ghost use Rattle.set_change.specs.Change.{spanned_if, both_of};
-ghost use Rattle.planning.specs.Plan.{ahead, atoms_for, spans_in, renew_over, counts_from, held_in, Named, mode_at, row_plan, Unplanned, Leading, turned_to, ModeNoted, RowTried, new_to, visited, unmade_in, Bits, Stands, Bounded, Slot, Planned, Timely};
+ghost use Rattle.planning.specs.Plan.{ahead, atoms_for, spans_in, renew_over, counts_from, held_in, Named, mode_at, row_plan, Unplanned, Leading, turned_to, ModeNoted, RowTried, new_to, visited, unmade_in, IsBit, Bits, Stands, Bounded, Slot, Planned, Timely};
 ghost use Rattle.book.specs.Rows.{HISTORICALLY};
 ghost use Rattle.numbers.specs.Limits.{LAST_TIME, MOST_ROWS, MOST_TEMPORALS};
 
@@ -35,13 +35,12 @@ fn atom_at(atoms: &[u8], atom: usize) -> bool
     atoms[atom] == 1
 }
 
-// The new value of a row, where those of its operands are new in the table; `here` is whether its set will contain the clock, if it has
-// one.
-fn new_value<'a>(monitor: &'a [u64; SIZE], atoms: &'a [u8], row: usize, here: bool) -> bool
+// The new value of a row that is not temporal, where those of its operands are new in the table.
+fn plain_value<'a>(monitor: &'a [u64; SIZE], atoms: &'a [u8], row: usize) -> bool
     requires book_kept { BookKept monitor.now }
-    requires row_bound { row < row_count monitor.now }
+    requires row_bound { (row < row_count monitor.now) × (kind_at monitor.now row < HISTORICALLY) }
     requires named { Named monitor.now atoms.now row }
-    ensures { result ≡ value_rule (map is_one atoms.now) here (map_row (held_in monitor.now) (row_of monitor.now row)) }
+    ensures { result ≡ value_rule (map is_one atoms.now) false (map_row (held_in monitor.now) (row_of monitor.now row)) }
 {
     let words = memory::read_row(monitor, row);
     match words.kind {
@@ -51,15 +50,25 @@ fn new_value<'a>(monitor: &'a [u64; SIZE], atoms: &'a [u8], row: usize, here: bo
         Kind::And => joined_at(monitor, VALUES, words.start, words.arg, false),
         Kind::Or => joined_at(monitor, VALUES, words.start, words.arg, true),
         Kind::Not => !holds(monitor, operand_at(monitor, words.start)),
-        Kind::Implies => {
+        // Implies: no other kind is left.
+        _ => {
             if holds(monitor, operand_at(monitor, words.start)) {
                 holds(monitor, operand_at(monitor, words.start + 1))
             } else {
                 true
             }
         }
-        Kind::Historically => !here,
-        Kind::Once | Kind::Since => here,
+    }
+}
+
+// A temporal row's value: Historically holds where nothing in the set says otherwise.
+fn temporal_value(kind: u64, here: bool) -> bool
+    ensures { result ≡ cond (eqb kind HISTORICALLY) (not here) here }
+{
+    if kind == Kind::Historically.word() {
+        !here
+    } else {
+        here
     }
 }
 
@@ -145,18 +154,22 @@ fn plan_row(
     Err(Refusal::NoRoom)
 }
 
-// Notes a row's new value. Whether it is another than before.
+// Notes a row's new value. Whether it is another than before: only then is it stored, as the opposite of the old one, so that a row above
+// that reads it waits for nothing that this one was worked out from.
 fn put_value(monitor: &mut [u64; SIZE], row: usize, value: bool) -> bool
-    requires { (row < MOST_ROWS) × (length monitor.old ≡ SIZE) }
+    requires { (row < MOST_ROWS) × (length monitor.old ≡ SIZE) × IsBit monitor.old row }
     ensures { (monitor.new ≡ set monitor.old (VALUES + row) (bit_of value)) × (result ≡ turned_to (held_in monitor.old row) value) }
 {
     let old = holds(monitor, row);
-    monitor[VALUES + row] = u64::from(value);
-    old != value
+    if value == old {
+        return false;
+    }
+    monitor[VALUES + row] = u64::from(!old);
+    true
 }
 
-// Notes how the set of a row is to change, if it is temporal, where the values of the rows below it are new in the table; but nothing
-// where the set lacks room. The answer is whether the set will contain the clock.
+// Notes how the set of a temporal row is to change, where the values of the rows below it are new in the table; but nothing where the set
+// lacks room. The answer is whether the set will contain the clock.
 fn note_mode(
     monitor: &[u64; SIZE],
     clock: u64,
@@ -165,12 +178,9 @@ fn note_mode(
     spans: bool,
 ) -> Result<bool, Refusal>
     requires timely { Timely monitor.now clock }
-    requires row_bound { (row < row_count monitor.now) × (length modes.old ≡ MOST_TEMPORALS) × Leading monitor.now modes.old spans row }
+    requires row_bound { (row < row_count monitor.now) × (HISTORICALLY ≤ kind_at monitor.now row) × (length modes.old ≡ MOST_TEMPORALS) × Leading monitor.now modes.old spans row }
     ensures { ModeNoted monitor.now spans clock modes.old row modes.new result }
 {
-    if !memory::row_kind(monitor, row).is_temporal() {
-        return Ok(false);
-    }
     let slot = memory::slot_at(monitor, row);
     let plan = plan_row(monitor, clock, slot, row, modes[slot], spans)?;
     modes[slot] = plan.mode;
@@ -178,7 +188,8 @@ fn note_mode(
 }
 
 // Tries a row, where the values of the rows below it are new in the table: its own is noted, and if it is temporal its mode; but nothing
-// where its set lacks room. The answer is whether its value is another than before.
+// where its set lacks room. The answer is whether its value is another than before. The word of the kind parts the two ways, since
+// `Kind::of_word` would test of each row whether it is past the last kind.
 fn try_row(
     monitor: &mut [u64; SIZE],
     clock: u64,
@@ -189,10 +200,16 @@ fn try_row(
 ) -> Result<bool, Refusal>
     requires timely { Timely monitor.old clock }
     requires row_bound { (row < row_count monitor.old) × (length modes.old ≡ MOST_TEMPORALS) × Named monitor.old atoms.now row × Leading monitor.old modes.old spans row }
+    requires bit { IsBit monitor.old row }
     ensures { RowTried monitor.old spans clock atoms.now modes.old row monitor.new modes.new result }
 {
+    let kind = memory::kind_at(monitor, row);
+    if kind < Kind::Historically.word() {
+        let value = plain_value(monitor, atoms, row);
+        return Ok(put_value(monitor, row, value));
+    }
     let here = note_mode(monitor, clock, row, modes, spans)?;
-    let value = new_value(monitor, atoms, row, here);
+    let value = temporal_value(kind, here);
     Ok(put_value(monitor, row, value))
 }
 

@@ -30,13 +30,16 @@ together : {v v' : Bool} {e e' s s' : Answer} → v ≡ v' → e ≡ e' → s �
     → ◌≡◌ {A = Verdict} (record { value = v; early = e; settled = s }) (record { value = v'; early = e'; settled = s' })
 together ev ee es = cc
 
+-- the answers of a property that is not there
+abbrev pub absent : Verdict
+absent = record { value = false; early = Open; settled = Open }
+
 -- ---- the properties of a memory's book
 module _ (m : List ℕ) where
   property_out : Kept m → (i : ℕ) → assume_count m + guarantee_count m ≤ i → property_at (book_of m) i ≡ length (book_of m).rows
   property_out kept i h = let long = properties_length m kept.sound.book in get_or-eq_default (properties (book_of m)) _ (omega arith)
 
-  -- the answers of a property that is not there
-  pub verdict_out : Kept m → (i : ℕ) → assume_count m + guarantee_count m ≤ i → verdict_of m i ≡ record { value = false; early = Open; settled = Open }
+  pub verdict_out : Kept m → (i : ℕ) → assume_count m + guarantee_count m ≤ i → verdict_of m i ≡ absent
   unfolding verdict_in
   verdict_out kept i h =
       let b = (book_of m).rows in

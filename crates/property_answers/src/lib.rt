@@ -16,7 +16,7 @@ use memory::SIZE;
 use numbers::{MOST_PROPERTIES, Refusal};
 use pmtl::Answer;
 pub use record::{Told, list_into};
-use std::{array, fmt};
+use std::fmt;
 
 // The answers of a property.
 #[derive(Clone, Copy)]
@@ -107,10 +107,12 @@ pub fn all(monitor: &[u64; SIZE]) -> Verdicts
     requires { Kept monitor.now }
     ensures { (result.count ≡ properties_in monitor.now) × (result.list ≡ listed (verdict_of monitor.now) MOST_PROPERTIES) }
 {
-    Verdicts {
-        count: memory::property_count(monitor),
-        list: array::from_fn(|i| of_property(monitor, i)),
+    let count = memory::property_count(monitor);
+    let mut list = [ABSENT; MOST_PROPERTIES];
+    for i in 0..count {
+        list[i] = verdict_at(monitor, i);
     }
+    Verdicts { count, list }
 }
 
 // The answers of all properties, assumes first, into the first records of `out`. Where that is shorter than the properties, the

@@ -21,7 +21,7 @@ ghost use Rattle.report.specs.Report.{book_line, written, report};
 use book::loading::Loading;
 use book::strict::{Excess, first_excess};
 use memory::SIZE;
-use numbers::{LONGEST_INPUT, MOST_ATOMS, Refusal};
+use numbers::{ACCEPTED, LONGEST_INPUT, MOST_ATOMS, Refusal, refused_with};
 use text::MOST_DIGITS;
 
 // A line for each call, and what stands after them.
@@ -44,10 +44,10 @@ fn call_lines(
     for done in 0..count {
         let turn = match text_calls::call(input, cursor, &mut bytes, monitor) {
             Ok(turn) => turn,
-            Err(refusal) => return lines::stopped(out, at, refusal),
+            Err(refusal) => return lines::stopped(out, at, refusal.number()),
         };
         first = text::count_up(done, &mut digits, first);
-        at = lines::put_call(out, at, &digits, first, turn.outcome, monitor);
+        at = lines::put_call(out, at, &digits, first, refused_with(turn.outcome), monitor);
         cursor = turn.next;
     }
     lines::last(input, cursor, monitor, out, at)
@@ -66,7 +66,7 @@ fn counted_calls(
 {
     match text::next_word(input, cursor) {
         Ok(count) => call_lines(input, count.next, count.number, monitor, out, at),
-        Err(refusal) => lines::stopped(out, at, refusal),
+        Err(refusal) => lines::stopped(out, at, refusal.number()),
     }
 }
 
@@ -74,7 +74,7 @@ fn counted_calls(
 fn refused_book(out: &mut [u8], refusal: Refusal, excess: Option<Excess>) -> u64
     ensures { handed result out.new ≡ finish out.old 0 (book_line (number_of refusal) excess) }
 {
-    let at = lines::put_book(out, 0, Err(refusal), excess);
+    let at = lines::put_book(out, 0, refusal.number(), excess);
     buffer_writer::finished(out, at)
 }
 
@@ -85,7 +85,7 @@ fn loaded_book(way: Loading, input: &[u8], cursor: usize, words: &[u64], out: &m
     let mut monitor = [0u64; SIZE];
     match loader::load_in_zeros(way, words, &mut monitor) {
         Ok(()) => {
-            let at = lines::put_book(out, 0, Ok(()), None);
+            let at = lines::put_book(out, 0, ACCEPTED, None);
             counted_calls(input, cursor, &mut monitor, out, at)
         }
         Err(refusal) => refused_book(out, refusal, first_excess(way, words)),
@@ -98,7 +98,7 @@ pub fn report_by(way: Loading, input: &[u8], out: &mut [u8]) -> u64
     ensures { handed result out.new ≡ in_buffer out.old (report way input.now) }
 {
     if LONGEST_INPUT < input.len() {
-        return lines::stopped(out, 0, Refusal::PastLimit);
+        return lines::stopped(out, 0, Refusal::PastLimit.number());
     }
     let mut words = [0u64; text_reader::BOOK_WORDS];
     match text_reader::book(input, &mut words) {

@@ -1,7 +1,6 @@
 // The lines of a report.
 ghost use Rattle.std.specs.Prelude.{◌≡◌, ◌∷◌, ◌++◌, ◌+◌, ◌-◌, ◌*◌, ◌≤◌, ◌<◌, length, drop};
 ghost use Rattle.std.proofs.lemmas.List.Edits.{sets};
-ghost use Rattle.numbers.specs.Refusals.{number_of, refused_with};
 ghost use Rattle.text.specs.Words.{space, digit0, supply_from};
 ghost use Rattle.text.specs.Decimals.{decimal};
 ghost use Rattle.buffer_writer.specs.Buffer.{handed};
@@ -17,7 +16,7 @@ use crate::sums::put_summaries;
 use book::strict::Excess;
 use buffer_writer::put_numbered;
 use memory::SIZE;
-use numbers::{MOST_PROPERTIES, Refusal, refused_with};
+use numbers::{ACCEPTED, MOST_PROPERTIES, Refusal};
 use text::MOST_DIGITS;
 
 // The first number of two digits, and the byte of the digit 0.
@@ -50,31 +49,26 @@ fn put_excess(out: &mut [u8], at: usize, excess: Option<Excess>) -> usize
     put_numbered(out, a, b" ", over.count)
 }
 
-pub fn put_book(
-    out: &mut [u8],
-    at: usize,
-    outcome: Result<(), Refusal>,
-    excess: Option<Excess>,
-) -> usize
-    ensures { Wrote out.old at (book_line (refused_with outcome) excess) out.new result }
+pub fn put_book(out: &mut [u8], at: usize, number: u64, excess: Option<Excess>) -> usize
+    ensures { Wrote out.old at (book_line number excess) out.new result }
 {
-    let a = put_numbered(out, at, b"book ", refused_with(outcome));
+    let a = put_numbered(out, at, b"book ", number);
     let b = put_excess(out, a, excess);
     buffer_writer::put_bytes(out, b, b"\n")
 }
 
-fn put_stop(out: &mut [u8], at: usize, refusal: Refusal) -> usize
-    ensures { Wrote out.old at (stop_line (number_of refusal)) out.new result }
+fn put_stop(out: &mut [u8], at: usize, number: u64) -> usize
+    ensures { Wrote out.old at (stop_line number) out.new result }
 {
-    let p = put_numbered(out, at, b"stop ", refusal.number());
+    let p = put_numbered(out, at, b"stop ", number);
     buffer_writer::put_bytes(out, p, b"\n")
 }
 
 // A report that ends with `stop `.
-pub fn stopped(out: &mut [u8], at: usize, refusal: Refusal) -> u64
-    ensures { handed result out.new ≡ finish out.old at (stop_line (number_of refusal)) }
+pub fn stopped(out: &mut [u8], at: usize, number: u64) -> u64
+    ensures { handed result out.new ≡ finish out.old at (stop_line number) }
 {
-    let p = put_stop(out, at, refusal);
+    let p = put_stop(out, at, number);
     buffer_writer::finished(out, p)
 }
 
@@ -94,8 +88,8 @@ pub fn last(input: &[u8], cursor: usize, monitor: &[u64; SIZE], out: &mut [u8], 
     ensures { handed result out.new ≡ finish out.old at (written (end_lines (ledger_of monitor.now) (ending_of (supply_from input.now cursor).ending (supply_from input.now cursor).words))) }
 {
     match text::next_word(input, cursor) {
-        Ok(_) => stopped(out, at, Refusal::WrongLength),
-        Err(refusal) if refusal == Refusal::BadWord => stopped(out, at, refusal),
+        Ok(_) => stopped(out, at, Refusal::WrongLength.number()),
+        Err(refusal) if refusal == Refusal::BadWord => stopped(out, at, refusal.number()),
         Err(_) => ended(out, at, monitor),
     }
 }
@@ -170,22 +164,16 @@ fn put_rest(out: &mut [u8], at: usize, monitor: &[u64; SIZE]) -> usize
     buffer_writer::put_number(out, b, memory::fullest(monitor))
 }
 
-// A call's number, of the digits from `first` on, and what it was refused with: most often 0, which is put at once.
-fn put_numbers(
-    out: &mut [u8],
-    at: usize,
-    digits: &[u8],
-    first: usize,
-    outcome: Result<(), Refusal>,
-) -> usize
+// A call's number, of the digits from `first` on, and its refusal: most often 0, which is put at once.
+fn put_numbers(out: &mut [u8], at: usize, digits: &[u8], first: usize, refusal: u64) -> usize
     requires { first ≤ length digits.now }
-    ensures { Wrote out.old at (drop first digits.now ++ space ∷ decimal (refused_with outcome)) out.new result }
+    ensures { Wrote out.old at (drop first digits.now ++ space ∷ decimal refusal) out.new result }
 {
     let a = buffer_writer::put_bytes(out, at, &digits[first..]);
-    match outcome {
-        Ok(()) => buffer_writer::put_bytes(out, a, b" 0"),
-        Err(refusal) => put_numbered(out, a, b" ", refusal.number()),
+    if refusal == ACCEPTED {
+        return buffer_writer::put_bytes(out, a, b" 0");
     }
+    put_numbered(out, a, b" ", refusal)
 }
 
 // The last digits, of a number of them that is known beforehand, which takes less than a copy of some length.
@@ -265,20 +253,18 @@ fn put_parts(
     at: usize,
     digits: &[u8; MOST_DIGITS],
     first: usize,
-    outcome: Result<(), Refusal>,
+    refusal: u64,
     monitor: &[u64; SIZE],
 ) -> usize
     requires { Kept monitor.now × (first ≤ length digits.now) }
-    ensures { Wrote out.old at (digit_line (drop first digits.now) (refused_with outcome) (digit_rest monitor.now)) out.new result }
+    ensures { Wrote out.old at (digit_line (drop first digits.now) refusal (digit_rest monitor.now)) out.new result }
 {
-    let a = put_numbers(out, at, digits, first, outcome);
-    match outcome {
-        Ok(()) => {
-            let rest = put_rest(out, a, monitor);
-            buffer_writer::put_bytes(out, rest, b"\n")
-        }
-        Err(_) => buffer_writer::put_bytes(out, a, b"\n"),
+    let a = put_numbers(out, at, digits, first, refusal);
+    if refusal == ACCEPTED {
+        let b = put_rest(out, a, monitor);
+        return buffer_writer::put_bytes(out, b, b"\n");
     }
+    buffer_writer::put_bytes(out, a, b"\n")
 }
 
 // A call's line, its number's digits from `first` on. That of an accepted call is laid by one test of room, but at the very end of a
@@ -288,16 +274,16 @@ pub fn put_call(
     at: usize,
     digits: &[u8; MOST_DIGITS],
     first: usize,
-    outcome: Result<(), Refusal>,
+    refusal: u64,
     monitor: &[u64; SIZE],
 ) -> usize
     requires { Kept monitor.now × (first ≤ length digits.now) × (length digits.now ≡ 20) }
-    ensures { Wrote out.old at (digit_line (drop first digits.now) (refused_with outcome) (digit_rest monitor.now)) out.new result }
+    ensures { Wrote out.old at (digit_line (drop first digits.now) refusal (digit_rest monitor.now)) out.new result }
 {
-    match outcome {
-        Ok(()) if at < text::before_last(out, LONGEST_LINE) => lay_call(
-            out, at, digits, first, monitor,
-        ),
-        _ => put_parts(out, at, digits, first, outcome, monitor),
+    if refusal == ACCEPTED {
+        if at < text::before_last(out, LONGEST_LINE) {
+            return lay_call(out, at, digits, first, monitor);
+        }
     }
+    put_parts(out, at, digits, first, refusal, monitor)
 }

@@ -125,6 +125,10 @@ pub walking_start : {A B : Type 0} {m : List ℕ} (f : ℕ → A) (said : List A
     → Walking m f said (said (map f (operands_from m place left))) place rest
 walking_start f said span e = rw e record { span = span; same = refl }
 
+-- a place under another name
+pub walking_at : {A B : Type 0} {m : List ℕ} {f : ℕ → A} {said : List A → B} {whole : B} {at at' rest : ℕ} → at' ≡ at → Walking m f said whole at rest → Walking m f said whole at' rest
+walking_at e w = rw e w
+
 -- the operands of a row are rows of the book
 pub span_book : {m : List ℕ} {r place n : ℕ} → Span m r place n → r < row_count m → Span m (row_count m) place n
 span_book s h = record { inside = s.inside; below = λ k l. lt_trans (s.below k l) h }

@@ -55,11 +55,17 @@ fn class_of(b: u8) -> Class
     }
 }
 
-// Whether a byte has a class.
+// Whether a byte has a class: by that class's own test alone.
+#[tactic(auto, using(crate::proofs::Scanning::letter_is, crate::proofs::Scanning::digit_is), unfolding(crate::specs::Symbols::class_of, crate::specs::Symbols::letter, text::specs::Words::parts, text::specs::Words::digit, text::specs::Words::pick))]
 fn has_class(b: u8, class: Class) -> bool
     ensures { result ≡ eqb (class_of b) (class_number class) }
 {
-    class_of(b) == class
+    match class {
+        Class::Blank => text::parts(b),
+        Class::Letter => b.is_ascii_alphabetic(),
+        Class::Digit => b.is_ascii_digit(),
+        Class::Other => class_of(b) == Class::Other,
+    }
 }
 
 // Where the first byte of another class stands.

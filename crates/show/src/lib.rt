@@ -39,8 +39,13 @@ pub fn instant(rt: &(impl Print + Eprint), t: u64) {
     value(rt, Moment(t));
 }
 
+// Each part is printed by itself, here and below: where standard output fails, console complains of each.
 pub fn interval(rt: &(impl Print + Eprint), lower: u64, upper: u64) {
-    value(rt, format_args!("[{},{}]", Moment(lower), Moment(upper)));
+    text(rt, b"[");
+    instant(rt, lower);
+    text(rt, b",");
+    instant(rt, upper);
+    text(rt, b"]");
 }
 
 // The runs of a set, the oldest first, and a line feed.
@@ -56,4 +61,12 @@ pub fn runs(rt: &(impl Print + Eprint), set: &[u64])
         interval(rt, set[2 * j + 1], set[2 * j + 2]);
     }
     text(rt, b"}\n");
+}
+
+// The three digits of a property, after a space.
+pub fn digits(rt: &(impl Print + Eprint), value: u8, early: u8, settled: u8) {
+    text(rt, b" ");
+    for digit in [value, early, settled] {
+        number(rt, u64::from(digit));
+    }
 }

@@ -19,10 +19,11 @@ fn show_summary(rt: &(impl Print + Eprint), s: Summary) {
         longest,
         settled,
     } = s;
-    show::value(
-        rt,
-        format_args!(" | {accepted} {failed} {first} {last} {longest} {settled}"),
-    );
+    show::text(rt, b" |");
+    for field in [accepted, failed, first, last, longest, settled] {
+        show::text(rt, b" ");
+        show::number(rt, field);
+    }
 }
 
 fn show_all(rt: &(impl Print + Eprint), outcome: Result<(), Refusal>, monitor: &[u64; SIZE])

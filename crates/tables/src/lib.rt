@@ -27,8 +27,8 @@ pub fn joined_at(monitor: &[u64; SIZE], table: usize, place: usize, left: usize,
     requires span { Span monitor.now (row_count monitor.now) place left }
     ensures { result ≡ joined stop (map (bit_in monitor.now table) (operands_from monitor.now place left)) }
 {
-    for at in place..place + left {
-        if (memory::word(monitor, table + memory::operand_at(monitor, at)) == 1) == stop {
+    for i in 0..left {
+        if (memory::word(monitor, table + memory::operand_at(monitor, place + i)) == 1) == stop {
             return stop;
         }
     }

@@ -5,7 +5,7 @@ use Rattle.std.proofs.lemmas.Result.{err_from_is_err_and}
 use Rattle.memory.specs.Memory.{row_count}
 use Rattle.planning.proofs.Plans.{going_sound, going_count, going_leads, going_more, going_full, going_done, leads_in, planned_over}
 use Rattle.planning.proofs.Looks.{fresh_named, visited_named, visited_same}
-use Rattle.planning.proofs.Spared.{spared_turned, going_on, spared_on}
+use Rattle.planning.proofs.Spared.{spared_turned, going_on, going_bit, spared_on}
 use Rattle.planning.proofs.plan_call.Goals.{In-loop-row, then-visits+in_ok-try_row+then-branch, then-visits+in_ok-try_row+else-branch, else-visits}
 use Rattle.planning.proofs.plan_call.Goals as goal
 
@@ -31,6 +31,13 @@ try_row-requires-clause-row_bound c =
     let h = c.loop-row-test.true in
     let leads = leads_in c.args.fresh c.counts_stretch-spans.ensures s.2 in
     (let n = going_count s.0 s.1 leads g in omega arith, g.modes_long, visited_named s.0 g (omega arith) l.changed c.args.fresh c.args.atoms.now (λ z. (s.2 z).0) c.requires.modes_len.1 (sym c.visits.ensures ∙ c.if-visits.true), going_leads s.0 s.1 leads g (omega arith))
+
+pub try_row-requires-clause-bit : goal.try_row-requires-clause-bit
+try_row-requires-clause-bit c =
+    let l = c.loop-row in
+    let e = c.row_count-row-end.ensures in
+    let h = c.loop-row-test.true in
+    going_bit c.requires.sound.0 (omega arith) c.args.fresh l.invariant.0 c.requires.sound.2 c.requires.founded
 
 pub returns-in_err-try_row-clause-planned : goal.returns-in_err-try_row-clause-planned
 returns-in_err-try_row-clause-planned c =

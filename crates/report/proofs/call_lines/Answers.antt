@@ -12,7 +12,7 @@ pub call-requires : goal.call-requires
 call-requires c = c.loop-done.invariant.0.kept
 
 pub returns-in-Err : goal.returns-in-Err
-returns-in-Err c = go_stop c.loop-done.invariant.0 _ _ c.in-Err.ensures c.loop-done-test.true c.stopped.ensures
+returns-in-Err c = go_stop c.loop-done.invariant.0 _ _ c.in-Err.ensures c.loop-done-test.true (rw c.number.ensures at c.stopped.ensures)
 
 pub count_up-first-requires : goal.count_up-first-requires
 count_up-first-requires c = (c.loop-done.invariant.1, let h = c.loop-done-test.true in let few = c.ranges.count.fits in omega (arith, h, few))
@@ -25,7 +25,7 @@ loop-done-preserved c =
     let l = c.loop-done in
     let counted = c.count_up-first.ensures in
     let made = go_called l.invariant.0 _ _ c.in-Ok.ensures in
-    let line = same_bytes c.put_call-at.ensures (line_said made.called.kept _ _ counted.digits) in
+    let line = same_bytes (rw c.refused_with.ensures at c.put_call-at.ensures) (line_said made.called.kept _ _ counted.digits) in
     (go_more l.invariant.0 made c.loop-done-test.true line c.put_call-at.auto.out, counted)
 
 pub last-requires : goal.last-requires

@@ -4,4 +4,4 @@ use Rattle.buffer_writer.proofs.Writes.{at_end}
 use Rattle.report.proofs.refused_book.Goals as goal
 
 pub returns : goal.returns
-returns c = c.finished.ensures ∙ at_end c.put_book-at.ensures
+returns c = c.finished.ensures ∙ at_end (rw c.number.ensures at c.put_book-at.ensures)

@@ -8,7 +8,7 @@ use Rattle.report.proofs.Going.{too_long, no_book, book_there, of_book}
 use Rattle.report.proofs.report_by.Goals as goal
 
 pub returns-then-input-gt-LONGEST_INPUT : goal.returns-then-input-gt-LONGEST_INPUT
-returns-then-input-gt-LONGEST_INPUT c = ending _ _ c.stopped.ensures (too_long _ _ c.if-input-gt-LONGEST_INPUT.true) ∙ whole _ _
+returns-then-input-gt-LONGEST_INPUT c = ending _ _ (rw c.number.ensures at c.stopped.ensures) (too_long _ _ c.if-input-gt-LONGEST_INPUT.true) ∙ whole _ _
 
 pub returns-in-Err : goal.returns-in-Err
 returns-in-Err c = ending _ _ c.refused_book.ensures (no_book _ _ c.if-input-gt-LONGEST_INPUT.false _ _ c.in-Err.ensures) ∙ whole _ _

@@ -7,5 +7,5 @@ use Rattle.row_answers.proofs.Answers.{Walking}
 use Rattle.tables.specs.Puts.{bit_in}
 use Rattle.tables.proofs.joined_at.Given as goal
 
-abbrev pub invariant-loop-at : goal.invariant-loop-at
-invariant-loop-at l = Walking l.monitor (bit_in l.monitor l.table) (joined l.stop) (joined l.stop (map (bit_in l.monitor l.table) (operands_from l.monitor l.place l.left))) l.at (l.place + l.left - l.at)
+abbrev pub invariant-loop-i : goal.invariant-loop-i
+invariant-loop-i l = Walking l.monitor (bit_in l.monitor l.table) (joined l.stop) (joined l.stop (map (bit_in l.monitor l.table) (operands_from l.monitor l.place l.left))) (l.place + l.i) (l.left - l.i)

@@ -7,5 +7,5 @@ pub returns : goal.returns
 unfolding book_line
 returns c =
     and_then
-    (and_then (rw c.refused_with.ensures at c.put_numbered-a.ensures) c.put_excess-b.ensures)
+    (and_then c.put_numbered-a.ensures c.put_excess-b.ensures)
     c.put_bytes.ensures

@@ -1,15 +1,14 @@
 -- `report::lines::put_numbers` meets its contract. Assumes nothing.
-use mathlib.Core.Path.{refl}
 use Rattle.buffer_writer.proofs.Writes.{and_then, same_bytes}
 use Rattle.report.proofs.Lasting.{rest_whole, accepted_bytes}
 use Rattle.report.proofs.lines.put_numbers.Goals as goal
 
-pub returns-in-Ok : goal.returns-in-Ok
-returns-in-Ok c =
+pub returns-then-refusal-eq-ACCEPTED : goal.returns-then-refusal-eq-ACCEPTED
+returns-then-refusal-eq-ACCEPTED c =
     let s = c.args in
-    rw c.in-Ok.is (and_then (same_bytes c.put_bytes-a.ensures (rest_whole s.digits.now s.first)) (same_bytes c.put_bytes.ensures (accepted_bytes 0 refl)))
+    and_then (same_bytes c.put_bytes-a.ensures (rest_whole s.digits.now s.first)) (same_bytes c.put_bytes.ensures (accepted_bytes s.refusal c.if-refusal-eq-ACCEPTED.true))
 
-pub returns-in-Err : goal.returns-in-Err
-returns-in-Err c =
+pub returns : goal.returns
+returns c =
     let s = c.args in
-    rw c.in-Err.is (and_then (same_bytes c.put_bytes-a.ensures (rest_whole s.digits.now s.first)) (rw c.number.ensures at c.put_numbered.ensures))
+    and_then (same_bytes c.put_bytes-a.ensures (rest_whole s.digits.now s.first)) c.put_numbered.ensures

@@ -5,4 +5,4 @@ use Rattle.report.proofs.lines.put_stop.Goals as goal
 
 pub returns : goal.returns
 unfolding stop_line
-returns c = and_then (rw c.number.ensures at c.put_numbered-p.ensures) c.put_bytes.ensures
+returns c = and_then c.put_numbered-p.ensures c.put_bytes.ensures
